@@ -1,0 +1,116 @@
+-- What the table of cases asks, and how an answer is put in numbers.
+-- Assumes nothing.
+use Prim.Native.Nat.{ℕ, _-_}
+use mathlib.Core.Bool.{Bool, true, false}
+use mathlib.Core.List.{List, [], _∷_, _++_, map}
+use lib.ListN.{length, set}
+use Rattle.rules.specs.declared.Refusal.{Refusal}
+use Rattle.rules.specs.declared.Totals.{Totals}
+use Rattle.rules.specs.declared.Due.{Due}
+use Rattle.rules.specs.declared.Next.{Next}
+use Rattle.rules.specs.declared.Next.the-variants.{Goes, Stops}
+use Rattle.rules.specs.Text.{Text, bytes, parts, joined}
+use Rattle.rules.specs.Rules.{base}
+use Rattle.rules.specs.Arguments.{Rule, meets}
+use Rattle.rules.specs.Log.{Log, render, valid}
+use Rattle.rules.specs.Judging.{verdictNumber, verdictsOfLog, totalsOfLog}
+use Rattle.rules.specs.Writing.{writtenBack}
+use Rattle.rules.specs.Reading.{FirstLine, aLine, noLine, firstLine, RecordRule, keeps, breaks, recordRule, Reading, accepted, refused, read, step}
+use Rattle.rules.specs.Answers.{Viewing, view, refusalOfView, startOfView, viewed, Judgement, judge, refusalOfJudgement, totalsOfJudgement, numbersOfJudgement, Writing, write, refusalOfWriting, bytesOfWriting, refusalOfReading, recordsOfReading}
+use Rattle.rules.specs.Striking.{Places, strike}
+use Rattle.rules.specs.Desk.{desk}
+
+pub data Question : Type 0 where
+  -- of a text: whether a line stands at its front, as 1 and the line's length, else 0
+  hasLine : Text → Question
+  -- of a line where this is due: 0 where it is taken, else the number and the field of the refusal
+  leads : Due → Text → Question
+  -- of an argument: 1 where it keeps its rule, else 0
+  meetsRule : Rule → Text → Question
+  -- of a record line: 0 where it is taken, else 5 and the field
+  isRecord : Text → Question
+  -- of a log: number, line and field, and the number of records
+  isRead : Text → Question
+  -- of an accepted log: whether it is valid and written as the text
+  isLog : Text → Question
+  -- of a log and a slice of so many bytes: number, line, field and verdicts
+  isJudged : ℕ → Text → Question
+  -- of a log: the twelve totals; what the desk program writes
+  comesTo : Text → Question
+  isShown : Text → Question
+  -- of a log and a slice of so many bytes: number, line, field, and the bytes written
+  isWritten : ℕ → Text → Question
+  -- of a log and a keyword's number: number, line, field, start, and the argument
+  isViewed : ℕ → Text → Question
+  -- of a log with records struck: its total, and its verdicts; of a log written back and then struck
+  isStruck : Places → Text → Question
+  isWrittenAndStruck : Places → Text → Question
+
+abbrev truth : Bool → List ℕ
+truth true = 1 ∷ []
+truth false = 0 ∷ []
+
+abbrev paper : Refusal → List ℕ
+paper r = r .number ∷ r .line ∷ r .field ∷ []
+
+abbrev sums : Totals → List ℕ
+sums t =
+    t .credited
+    ∷ t .voids
+    ∷ t .duplicates
+    ∷ t .errors
+    ∷ t .points
+    ∷ t .squares
+    ∷ t .exchanges
+    ∷ t .countries
+    ∷ t .squarebonus
+    ∷ t .exchangebonus
+    ∷ t .countrybonus
+    ∷ t .total
+    ∷ []
+
+abbrev lineIn : FirstLine → List ℕ
+lineIn (aLine l rest) = 1 ∷ length l ∷ []
+lineIn noLine = 0 ∷ []
+
+abbrev nextIn : Next → List ℕ
+nextIn (Goes due) = 0 ∷ []
+nextIn (Stops number field) = number ∷ field ∷ []
+
+abbrev recordIn : RecordRule → List ℕ
+recordIn keeps = 0 ∷ []
+recordIn (breaks field) = 5 ∷ field ∷ []
+
+-- What is asked of a log that has to be accepted; a refused one answers with its refusal.
+abbrev ofLog : (Log → List ℕ) → Reading → List ℕ
+ofLog f (accepted log) = f log
+ofLog f (refused r) = paper r
+
+abbrev judgedIn : Log → List ℕ
+judgedIn log = (totalsOfLog base log) .total ∷ map verdictNumber (verdictsOfLog base log)
+
+-- The struck log is written, and read again.
+unfoldable pub afterStrike : Places → Log → List ℕ
+unfolding read base render strike totalsOfLog verdictsOfLog verdictNumber
+afterStrike struck log = ofLog judgedIn (read base (render (strike struck log)))
+
+unfoldable pub answer : Question → List ℕ
+unfolding firstLine step meets recordRule read refusalOfReading recordsOfReading valid render judge refusalOfJudgement numbersOfJudgement totalsOfJudgement desk write refusalOfWriting bytesOfWriting view refusalOfView startOfView viewed afterStrike writtenBack base
+answer (hasLine s) = lineIn (firstLine base s)
+answer (leads due l) = nextIn (step base due l)
+answer (meetsRule rule t) = truth (meets base rule t)
+answer (isRecord l) = recordIn (recordRule base l)
+answer (isRead s) = let r = read base s in paper (refusalOfReading r) ++ recordsOfReading r ∷ []
+answer (isLog s) = ofLog (λ log. truth (valid base log) ++ render log) (read base s)
+answer (isJudged room s) = let j = judge base room s in paper (refusalOfJudgement j) ++ numbersOfJudgement j
+answer (comesTo s) = sums (totalsOfJudgement (judge base 999 s))
+answer (isShown s) = desk base s
+answer (isWritten room s) = let w = write base room s in paper (refusalOfWriting w) ++ bytesOfWriting w
+answer (isViewed k s) = let v = view base k s in paper (refusalOfView v) ++ startOfView v ∷ viewed v
+answer (isStruck struck s) = ofLog (λ log. afterStrike struck log) (read base s)
+answer (isWrittenAndStruck struck s) = ofLog (λ log. afterStrike struck (writtenBack base log)) (read base s)
+
+-- A question and what is to be answered.
+pub record Case : Type 0 where
+  pub asked : Question
+  pub says : List ℕ
