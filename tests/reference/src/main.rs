@@ -1,0 +1,3 @@
+//! The program `reference`.
+
+fn main() {}
