@@ -4,9 +4,14 @@
 //! with. It favours plain code over speed: what it answers should be evident
 //! from reading it beside the rules.
 
+pub mod draft;
+pub mod faults;
 pub mod fields;
+pub mod generate;
 pub mod judging;
+pub mod random;
 pub mod reading;
+pub mod values;
 pub mod writing;
 
 pub use judging::{judge, Totals};
