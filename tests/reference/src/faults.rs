@@ -889,3 +889,71 @@ pub fn two_faults(random: &mut Random) -> Vec<u8> {
     }
     draft.bytes()
 }
+
+/// A text with one small change, which may or may not break its rule.
+fn near_miss(random: &mut Random, text: &[u8]) -> Vec<u8> {
+    let mut changed = text.to_vec();
+    let byte = match random.below(4) {
+        0 => *random.pick(b"AXYRSNDZ;/ "),
+        1 => random.between(32, 127) as u8,
+        _ => *random.pick(b"0123456789"),
+    };
+    let at = random.below(text.len() + 1);
+    match random.below(5) {
+        0 => changed.insert(at, byte),
+        1 if at < text.len() => drop(changed.remove(at)),
+        2 if at + 1 < text.len() => changed.swap(at, at + 1),
+        _ if at < text.len() => changed[at] = byte,
+        _ => changed.push(byte),
+    }
+    changed
+}
+
+/// Two digits from 0 to a little beyond `most`.
+fn about(random: &mut Random, most: usize) -> String {
+    format!("{:02}", random.between(0, most + 2))
+}
+
+/// A log with one field of one record changed a little.
+pub fn near_field(random: &mut Random) -> Vec<u8> {
+    let mut draft = draft::small_with_all_parts(random);
+    let chosen = random.below(draft.records.len());
+    let field = random.below(15);
+    let changed = match field {
+        0 if random.chance(70) => {
+            let year = random.below(100);
+            let (month, day) = (about(random, 12), about(random, 31));
+            format!("{year:02}{month}{day}").into_bytes()
+        }
+        1 if random.chance(70) => [about(random, 23), about(random, 59)].concat().into_bytes(),
+        _ => near_miss(random, &draft.records[chosen][field]),
+    };
+    draft.records[chosen][field] = changed;
+    draft.bytes()
+}
+
+/// A log with one forced argument changed a little.
+pub fn near_argument(random: &mut Random) -> Vec<u8> {
+    let mut draft = draft::small(random);
+    let keyword = some_forced_keyword(random);
+    let argument = draft.header[keyword_place(keyword) - FIRST_KEYWORD].clone();
+    draft.set(keyword, &near_miss(random, &argument));
+    if keyword == "TDate" && random.chance(70) {
+        let mut date = || {
+            let year = 1988 + random.below(104);
+            format!("{year}{}{}", about(random, 12), about(random, 31))
+        };
+        let pair = [date(), date()].join(";");
+        draft.set(keyword, pair.as_bytes());
+    }
+    draft.bytes()
+}
+
+/// A log with some line that is no record and no keyword changed a little.
+pub fn near_line(random: &mut Random) -> Vec<u8> {
+    let draft = draft::small(random);
+    let mut lines = draft.lines();
+    let place = *random.pick(&[0, REMARKS_LINE, draft.count_line(), draft.count_line()]);
+    lines[place] = near_miss(random, &lines[place]);
+    join(&lines)
+}

@@ -25,11 +25,11 @@ pub struct Generator {
     faults: Vec<Fault>,
 }
 
-type ValidMaker = fn(&mut Random) -> Vec<u8>;
+type Maker = fn(&mut Random) -> Vec<u8>;
 
 /// The kinds of logs that keep every rule and the share each has: large logs
 /// come seldom because each costs as much as a hundred small ones.
-const VALID: &[(&str, usize, ValidMaker)] = &[
+const VALID: &[(&str, usize, Maker)] = &[
     ("valid/small", 14, small),
     ("valid/no-records", 2, no_records),
     ("valid/repeats", 8, repeats),
@@ -62,10 +62,16 @@ const DAMAGES: &[(&str, Damage)] = &[
     ("damage/several", several),
 ];
 
-/// Tags outside the three tables.
-const TWO_FAULTS: &str = "two-faults";
-const NOISE: &str = "noise/bytes";
-const NOISE_LINES: &str = "noise/lines";
+/// Logs of which only the judge can tell whether they keep the rules, each
+/// with its share.
+const OPEN: &[(&str, usize, Maker)] = &[
+    ("near/field", 6, faults::near_field),
+    ("near/argument", 5, faults::near_argument),
+    ("near/line", 2, faults::near_line),
+    ("two-faults", 2, faults::two_faults),
+    ("noise/bytes", 1, noise),
+    ("noise/lines", 1, noise_lines),
+];
 
 /// Bytes that mean something somewhere in the format.
 const TELLING: &[u8] = b"\x00\x0a\x0d\x1f \x7f\x80\xff;;;;==[]0019NDARXaz/,";
@@ -81,7 +87,7 @@ impl Generator {
         tags.extend(VALID.iter().map(|kind| kind.0.to_string()));
         tags.extend(self.faults.iter().map(|fault| fault.tag.clone()));
         tags.extend(DAMAGES.iter().map(|kind| kind.0.to_string()));
-        tags.extend([TWO_FAULTS, NOISE, NOISE_LINES].map(String::from));
+        tags.extend(OPEN.iter().map(|kind| kind.0.to_string()));
         tags
     }
 
@@ -107,30 +113,34 @@ impl Generator {
 }
 
 fn valid(random: &mut Random, round: u64) -> (String, Vec<u8>, Expectation) {
-    let shares: usize = VALID.iter().map(|kind| kind.1).sum();
-    let mut turn = (round % shares as u64) as usize;
-    for &(tag, share, make) in VALID {
-        if turn < share {
-            return (tag.to_string(), make(random), Expectation::Accepted);
-        }
-        turn -= share;
-    }
-    unreachable!("the turn is below the sum of the shares")
+    let (tag, make) = by_share(VALID, round % shares(VALID));
+    (tag.to_string(), make(random), Expectation::Accepted)
 }
 
 fn damaged(random: &mut Random, round: u64) -> (String, Vec<u8>, Expectation) {
-    let turn = (round % (DAMAGES.len() as u64 + 4)) as usize;
-    if let Some(&(tag, damage)) = DAMAGES.get(turn) {
+    let turn = round % (DAMAGES.len() as u64 + shares(OPEN));
+    if let Some(&(tag, damage)) = DAMAGES.get(turn as usize) {
         let mut log = small(random);
         damage(random, &mut log);
         return (tag.to_string(), log, Expectation::Open);
     }
-    let (tag, log) = match turn - DAMAGES.len() {
-        0 | 1 => (TWO_FAULTS, faults::two_faults(random)),
-        2 => (NOISE, noise(random)),
-        _ => (NOISE_LINES, noise_lines(random)),
-    };
-    (tag.to_string(), log, Expectation::Open)
+    let (tag, make) = by_share(OPEN, turn - DAMAGES.len() as u64);
+    (tag.to_string(), make(random), Expectation::Open)
+}
+
+fn shares(kinds: &[(&str, usize, Maker)]) -> u64 {
+    kinds.iter().map(|kind| kind.1 as u64).sum()
+}
+
+/// The kind whose share `turn` falls into; it must be below the sum of shares.
+fn by_share(kinds: &[(&'static str, usize, Maker)], mut turn: u64) -> (&'static str, Maker) {
+    for &(tag, share, make) in kinds {
+        if turn < share as u64 {
+            return (tag, make);
+        }
+        turn -= share as u64;
+    }
+    unreachable!("the turn is below the sum of the shares")
 }
 
 /// Adds the sizes lent and the keyword asked for, near their bounds.
