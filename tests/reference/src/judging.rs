@@ -1,0 +1,180 @@
+//! Classes, marks and sums of the records of an accepted log.
+
+use crate::fields;
+use crate::reading::{read, Log, Refusal};
+
+pub const CREDITED: u8 = 0;
+pub const VOID: u8 = 1;
+pub const DUPLICATE: u8 = 2;
+pub const ERROR: u8 = 3;
+pub const NEW_EXCHANGE: u8 = 16;
+pub const NEW_SQUARE: u8 = 32;
+pub const NEW_COUNTRY: u8 = 64;
+
+#[derive(Clone, Copy, Debug, Default, PartialEq, Eq)]
+pub struct Totals {
+    pub credited: u64,
+    pub voids: u64,
+    pub duplicates: u64,
+    pub errors: u64,
+    pub points: u64,
+    pub squares: u64,
+    pub exchanges: u64,
+    pub countries: u64,
+    pub square_bonus: u64,
+    pub exchange_bonus: u64,
+    pub country_bonus: u64,
+    pub total: u64,
+}
+
+impl Totals {
+    /// The twelve numbers in the order in which they are declared.
+    pub fn as_list(&self) -> [u64; 12] {
+        [
+            self.credited,
+            self.voids,
+            self.duplicates,
+            self.errors,
+            self.points,
+            self.squares,
+            self.exchanges,
+            self.countries,
+            self.square_bonus,
+            self.exchange_bonus,
+            self.country_bonus,
+            self.total,
+        ]
+    }
+}
+
+/// What judging looks at in one record.
+struct Entry<'a> {
+    call: &'a [u8],
+    exchange: &'a [u8],
+    /// The first four characters of the locator, nothing if it is empty.
+    square: &'a [u8],
+    points: u64,
+    claims_country: bool,
+}
+
+fn entries<'a>(log: &Log<'a>) -> Vec<Entry<'a>> {
+    log.records
+        .iter()
+        .map(|record| {
+            let locator = log.text(record[9]);
+            Entry {
+                call: log.text(record[2]),
+                exchange: log.text(record[8]),
+                square: &locator[..locator.len().min(4)],
+                points: fields::points(log.text(record[10])).expect("points were read"),
+                claims_country: log.text(record[13]) == b"N",
+            }
+        })
+        .collect()
+}
+
+fn class_of(entry: &Entry, earlier_credited: &[&Entry]) -> u8 {
+    if entry.call == fields::ERROR_CALL {
+        ERROR
+    } else if earlier_credited.iter().any(|other| other.call == entry.call) {
+        DUPLICATE
+    } else if entry.points == 0 {
+        VOID
+    } else {
+        CREDITED
+    }
+}
+
+/// The marks of a credited record, given the credited ones before it.
+fn marks_of(entry: &Entry, earlier_credited: &[&Entry]) -> u8 {
+    let mut marks = 0;
+    let old_exchange = earlier_credited.iter().any(|other| other.exchange == entry.exchange);
+    if !entry.exchange.is_empty() && !old_exchange {
+        marks += NEW_EXCHANGE;
+    }
+    let old_square = earlier_credited.iter().any(|other| other.square == entry.square);
+    if !entry.square.is_empty() && !old_square {
+        marks += NEW_SQUARE;
+    }
+    if entry.claims_country {
+        marks += NEW_COUNTRY;
+    }
+    marks
+}
+
+fn verdicts_of(entries: &[Entry]) -> Vec<u8> {
+    let mut credited: Vec<&Entry> = Vec::new();
+    let mut verdicts = Vec::new();
+    for entry in entries {
+        let class = class_of(entry, &credited);
+        if class == CREDITED {
+            verdicts.push(CREDITED + marks_of(entry, &credited));
+            credited.push(entry);
+        } else {
+            verdicts.push(class);
+        }
+    }
+    verdicts
+}
+
+/// The class within a verdict, without its marks.
+pub fn class(verdict: u8) -> u8 {
+    verdict % 16
+}
+
+pub fn has_mark(verdict: u8, mark: u8) -> bool {
+    verdict & mark != 0
+}
+
+/// The bonus and the multiplier declared under one of the three keywords.
+fn declared(log: &Log, keyword: &str) -> (u64, u64) {
+    let text = log.text(log.argument(keyword));
+    let parts: Vec<&[u8]> = text.split(|&b| b == b';').collect();
+    let bonus = fields::up_to_9999(parts[1]).expect("a bonus was read");
+    let multiplier = fields::multiplier(parts[2]).expect("a multiplier was read");
+    (bonus, multiplier)
+}
+
+/// Judges an accepted log.
+pub fn judge_log(log: &Log) -> (Totals, Vec<u8>) {
+    let entries = entries(log);
+    let verdicts = verdicts_of(&entries);
+    let in_class = |wanted| verdicts.iter().filter(|&&v| class(v) == wanted).count() as u64;
+    let marked = |mark| verdicts.iter().filter(|&&v| has_mark(v, mark)).count() as u64;
+    let points = entries
+        .iter()
+        .zip(&verdicts)
+        .filter(|(_, &verdict)| class(verdict) == CREDITED)
+        .map(|(entry, _)| entry.points)
+        .sum();
+
+    let (per_square, by_squares) = declared(log, "CWWLs");
+    let (per_exchange, by_exchanges) = declared(log, "CExcs");
+    let (per_country, by_countries) = declared(log, "CDXCs");
+    let mut totals = Totals {
+        credited: in_class(CREDITED),
+        voids: in_class(VOID),
+        duplicates: in_class(DUPLICATE),
+        errors: in_class(ERROR),
+        points,
+        squares: marked(NEW_SQUARE),
+        exchanges: marked(NEW_EXCHANGE),
+        countries: marked(NEW_COUNTRY),
+        ..Totals::default()
+    };
+    totals.square_bonus = totals.squares * per_square;
+    totals.exchange_bonus = totals.exchanges * per_exchange;
+    totals.country_bonus = totals.countries * per_country;
+    let sum = points + totals.square_bonus + totals.exchange_bonus + totals.country_bonus;
+    totals.total = sum * by_squares * by_exchanges * by_countries;
+    (totals, verdicts)
+}
+
+/// Judges a log for a caller who lends room for `verdicts_len` verdicts.
+pub fn judge(bytes: &[u8], verdicts_len: usize) -> Result<(Totals, Vec<u8>), Refusal> {
+    let log = read(bytes)?;
+    if verdicts_len < log.records.len() {
+        return Err(Refusal::whole(7));
+    }
+    Ok(judge_log(&log))
+}

@@ -1,0 +1,40 @@
+//! A reference judge of REG1TEST version 1 logs for Sumpquince.
+//!
+//! It is written from the rules alone and apart from the judge it is compared
+//! with. It favours plain code over speed: what it answers should be evident
+//! from reading it beside the rules.
+
+pub mod draft;
+pub mod faults;
+pub mod fields;
+pub mod generate;
+pub mod judging;
+pub mod random;
+pub mod reading;
+pub mod values;
+pub mod writing;
+
+pub use judging::{judge, Totals};
+pub use reading::{read, view, Log, Refusal};
+pub use writing::write;
+
+/// What the desk program writes for a log on its standard input.
+pub fn desk(bytes: &[u8]) -> String {
+    match read(bytes) {
+        Ok(log) => {
+            let (totals, _) = judging::judge_log(&log);
+            format!(
+                "QSOS {}\nPOINTS {}\nWWLS {}\nEXCHANGES {}\nDXCCS {}\nTOTAL {}\n",
+                totals.credited,
+                totals.points,
+                totals.squares,
+                totals.exchanges,
+                totals.countries,
+                totals.total
+            )
+        }
+        Err(refusal) => {
+            format!("REFUSED {} {} {}\n", refusal.number, refusal.line, refusal.field)
+        }
+    }
+}

@@ -1,0 +1,286 @@
+//! From bytes to an accepted log, or to the one refusal they deserve.
+
+use crate::fields;
+
+/// The largest log that is read or written.
+pub const LONGEST_LOG: usize = 65_535;
+/// The most characters a line holds before its CR LF.
+pub const LONGEST_LINE: usize = 75;
+
+/// The 36 keywords, in the order in which a log has them.
+pub const KEYWORDS: [&str; 36] = [
+    "TName", "TDate", "PCall", "PWWLo", "PExch", "PAdr1", "PAdr2", "PSect", "PBand", "PClub",
+    "RName", "RCall", "RAdr1", "RAdr2", "RPoCo", "RCity", "RCoun", "RPhon", "RHBBS", "MOpe1",
+    "MOpe2", "STXEq", "SPowe", "SRXEq", "SAnte", "SAntH", "CQSOs", "CQSOP", "CWWLs", "CWWLB",
+    "CExcs", "CExcB", "CDXCs", "CDXCB", "CToSc", "CODXC",
+];
+
+/// The seventeen keywords whose argument is free text.
+pub const FREE: [&str; 17] = [
+    "TName", "PAdr1", "PAdr2", "PSect", "RName", "RAdr1", "RAdr2", "RPoCo", "RCity", "RCoun",
+    "RPhon", "RHBBS", "STXEq", "SPowe", "SRXEq", "SAnte", "SAntH",
+];
+
+pub const IDENTIFIER: &[u8] = b"[REG1TEST;1]";
+pub const REMARKS_MARK: &[u8] = b"[Remarks]";
+pub const COUNT_START: &[u8] = b"[QSORecords;";
+
+/// Why a log or a request is refused.
+#[derive(Clone, Copy, Debug, PartialEq, Eq)]
+pub struct Refusal {
+    pub number: u32,
+    pub line: u32,
+    pub field: u32,
+}
+
+impl Refusal {
+    /// A refusal that points at no line: 1, 7, 8 and 9.
+    pub fn whole(number: u32) -> Refusal {
+        Refusal { number, line: 0, field: 0 }
+    }
+
+    fn at(number: u32, line: u32) -> Refusal {
+        Refusal { number, line, field: 0 }
+    }
+}
+
+/// A part of the log: from `start` up to, not including, `end`.
+#[derive(Clone, Copy, Debug, PartialEq, Eq)]
+pub struct Span {
+    pub start: usize,
+    pub end: usize,
+}
+
+/// The fifteen fields of a record, in their order; field 1 is at place 0.
+pub type Record = [Span; 15];
+
+/// An accepted log: its bytes and where its parts are.
+#[derive(Clone, Debug)]
+pub struct Log<'a> {
+    pub bytes: &'a [u8],
+    /// The arguments of the keywords, all that follows each `=`.
+    pub arguments: Vec<Span>,
+    pub records: Vec<Record>,
+}
+
+impl<'a> Log<'a> {
+    pub fn text(&self, span: Span) -> &'a [u8] {
+        &self.bytes[span.start..span.end]
+    }
+
+    /// Where the argument of a keyword is; the name must be a listed one.
+    pub fn argument(&self, keyword: &str) -> Span {
+        let place = KEYWORDS.iter().position(|&name| name == keyword);
+        self.arguments[place.expect("a listed keyword")]
+    }
+}
+
+/// Walks over the lines of a log and counts them from 1.
+struct Lines<'a> {
+    bytes: &'a [u8],
+    position: usize,
+    /// The number of the line that is due next.
+    due: u32,
+}
+
+impl<'a> Lines<'a> {
+    fn at_end(&self) -> bool {
+        self.position == self.bytes.len()
+    }
+
+    /// The span of the line due, without its CR LF, and its number.
+    fn take(&mut self) -> Result<(Span, u32), Refusal> {
+        let start = self.position;
+        let mut end = start;
+        while end < self.bytes.len()
+            && end - start < LONGEST_LINE
+            && fields::is_allowed(self.bytes[end])
+        {
+            end += 1;
+        }
+        let line = self.due;
+        if !self.bytes[end..].starts_with(b"\r\n") {
+            return Err(Refusal::at(2, line));
+        }
+        self.position = end + 2;
+        self.due += 1;
+        Ok((Span { start, end }, line))
+    }
+
+    fn text(&self, span: Span) -> &'a [u8] {
+        &self.bytes[span.start..span.end]
+    }
+}
+
+/// Reads a log whole, from its identifier to the end of its last record.
+pub fn read(bytes: &[u8]) -> Result<Log<'_>, Refusal> {
+    if bytes.len() > LONGEST_LOG {
+        return Err(Refusal::whole(1));
+    }
+    let mut lines = Lines { bytes, position: 0, due: 1 };
+    take_fixed_line(&mut lines, IDENTIFIER)?;
+    let arguments = take_header(&mut lines)?;
+    take_fixed_line(&mut lines, REMARKS_MARK)?;
+    let count = take_remarks_and_count(&mut lines)?;
+    let records = take_records(&mut lines, count)?;
+    Ok(Log { bytes, arguments, records })
+}
+
+fn take_fixed_line(lines: &mut Lines, wanted: &[u8]) -> Result<(), Refusal> {
+    let (span, line) = lines.take()?;
+    if lines.text(span) == wanted {
+        Ok(())
+    } else {
+        Err(Refusal::at(3, line))
+    }
+}
+
+fn take_header(lines: &mut Lines) -> Result<Vec<Span>, Refusal> {
+    let mut arguments = Vec::new();
+    for keyword in KEYWORDS {
+        let (span, line) = lines.take()?;
+        let start = format!("{keyword}=");
+        if !lines.text(span).starts_with(start.as_bytes()) {
+            return Err(Refusal::at(3, line));
+        }
+        let argument = Span { start: span.start + start.len(), end: span.end };
+        if !argument_holds(keyword, lines.text(argument)) {
+            return Err(Refusal::at(4, line));
+        }
+        arguments.push(argument);
+    }
+    Ok(arguments)
+}
+
+/// Passes over the remarks; the first line that starts like a count line is
+/// the count line, whatever follows on it.
+fn take_remarks_and_count(lines: &mut Lines) -> Result<usize, Refusal> {
+    loop {
+        let (span, line) = lines.take()?;
+        if let Some(rest) = lines.text(span).strip_prefix(COUNT_START) {
+            return count_value(rest).ok_or(Refusal::at(4, line));
+        }
+    }
+}
+
+fn count_value(rest: &[u8]) -> Option<usize> {
+    let digits = rest.strip_suffix(b"]")?;
+    // Three digits at most are exactly the counts up to 999.
+    fields::number(digits, 3).map(|count| count as usize)
+}
+
+fn take_records(lines: &mut Lines, count: usize) -> Result<Vec<Record>, Refusal> {
+    let mut records = Vec::new();
+    for _ in 0..count {
+        if lines.at_end() {
+            return Err(Refusal::at(6, lines.due));
+        }
+        let (span, line) = lines.take()?;
+        let record = split_record(lines, span)
+            .map_err(|field| Refusal { number: 5, line, field })?;
+        records.push(record);
+    }
+    if lines.at_end() {
+        Ok(records)
+    } else {
+        Err(Refusal::at(6, lines.due))
+    }
+}
+
+/// Cuts a record line into its fields, or gives the number of its first bad
+/// field, 0 if there are not fifteen of them.
+fn split_record(lines: &Lines, span: Span) -> Result<Record, u32> {
+    let mut parts = Vec::new();
+    let mut start = span.start;
+    for (offset, &byte) in lines.text(span).iter().enumerate() {
+        if byte == b';' {
+            parts.push(Span { start, end: span.start + offset });
+            start = span.start + offset + 1;
+        }
+    }
+    parts.push(Span { start, end: span.end });
+    let record: Record = parts.try_into().map_err(|_| 0u32)?;
+    let texts = record.map(|part| lines.text(part));
+    match (1..=15).find(|&field| !field_holds(&texts, field)) {
+        None => Ok(record),
+        Some(field) => Err(field as u32),
+    }
+}
+
+/// Whether one field keeps its rule, given the others: the call decides what
+/// the date and the points may be.
+fn field_holds(texts: &[&[u8]; 15], field: usize) -> bool {
+    let text = texts[field - 1];
+    let is_error = texts[2] == fields::ERROR_CALL;
+    match field {
+        1 => fields::is_short_date(text) || (is_error && text.is_empty()),
+        2 => fields::is_time(text),
+        3 => fields::is_call(text),
+        4 => fields::is_mode(text),
+        5 | 7 => fields::is_report(text),
+        6 | 8 => fields::is_qso_number(text),
+        9 => fields::is_exchange(text),
+        10 => fields::is_empty_or_locator(text),
+        11 if is_error => text == b"0",
+        11 => fields::points(text).is_some(),
+        12..=14 => fields::is_mark(text, b'N'),
+        15 => fields::is_mark(text, b'D'),
+        _ => false,
+    }
+}
+
+/// Whether an argument keeps the rule of its keyword; free ones always do.
+fn argument_holds(keyword: &str, text: &[u8]) -> bool {
+    let parts: Vec<&[u8]> = text.split(|&b| b == b';').collect();
+    match keyword {
+        "TDate" => match parts[..] {
+            [first, second] => match (fields::long_date(first), fields::long_date(second)) {
+                (Some(begin), Some(end)) => begin <= end,
+                _ => false,
+            },
+            _ => false,
+        },
+        "PCall" => fields::is_call(text),
+        "PClub" | "RCall" => fields::is_empty_or_call(text),
+        "MOpe1" | "MOpe2" => fields::is_call_list(text),
+        "PWWLo" => fields::is_locator(text),
+        "PExch" => fields::is_exchange(text),
+        "PBand" => fields::is_band(text),
+        "CQSOs" => match parts[..] {
+            [count, band] => {
+                fields::up_to_9999(count).is_some() && fields::multiplier(band).is_some()
+            }
+            _ => false,
+        },
+        "CWWLs" | "CExcs" | "CDXCs" => match parts[..] {
+            [count, bonus, multiplier] => {
+                fields::up_to_9999(count).is_some()
+                    && fields::up_to_9999(bonus).is_some()
+                    && fields::multiplier(multiplier).is_some()
+            }
+            _ => false,
+        },
+        "CQSOP" => fields::number(text, 9).is_some(),
+        "CWWLB" | "CExcB" | "CDXCB" => fields::number(text, 7).is_some(),
+        "CToSc" => fields::number(text, 15).is_some(),
+        "CODXC" => match parts[..] {
+            [call, locator, distance] => {
+                fields::is_empty_or_call(call)
+                    && fields::is_empty_or_locator(locator)
+                    && fields::number(distance, 6).is_some()
+            }
+            _ => false,
+        },
+        _ => true,
+    }
+}
+
+/// The start and length of one keyword's argument, keywords counted from 1.
+pub fn view(bytes: &[u8], keyword: usize) -> Result<(usize, usize), Refusal> {
+    if !(1..=KEYWORDS.len()).contains(&keyword) {
+        return Err(Refusal::whole(9));
+    }
+    let log = read(bytes)?;
+    let span = log.arguments[keyword - 1];
+    Ok((span.start, span.end - span.start))
+}
