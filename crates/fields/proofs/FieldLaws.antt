@@ -1,0 +1,80 @@
+-- Laws of a field: a run of characters of one kind is the whole field exactly when the field ends behind it.
+-- Assumes nothing.
+use Prim.Native.Nat.{ℕ, suc, _+_, _≤_, _<_}
+use native.Mathlib.Omega.{arith}
+use native.Mathlib.Numerals.{add-one}
+use mathlib.Core.Path.{_≡_, refl, sym, ap, _∙_}
+use mathlib.Core.Bool.{Bool, true, false, cond, not, _&&_, true≢false}
+use mathlib.Core.List.{List, [], _∷_}
+use lib.Dec.{leb, eqb}
+use lib.ListN.{length, take, drop, getD, drop-of-length-le}
+use lib.Seq.{drop-cons, drop-drop}
+use borrow.Author.Tests.{le-leb, lt-leb, eqb-true}
+use Rattle.rules.specs.Text.{Text, span, all, empty}
+use Rattle.fields.specs.Field.{inField, textAt, endsAt, endOf}
+
+-- A range of codes, from the least to the most.
+pub range-below : (least most b : ℕ) → b < least → false ≡ (leb least b && leb b most)
+range-below least most b h = rw (lt-leb least b h)
+
+pub range-from : (least most b : ℕ) → least ≤ b → leb b most ≡ (leb least b && leb b most)
+range-from least most b h = rw (le-leb least b h)
+
+pub at : (s : Text) (i : ℕ) → i < length s → drop i s ≡ getD s i 0 ∷ drop (i + 1) s
+at s i h = rw (add-one, drop-cons s i 0)
+
+-- The end of a run, by one character more, and where it stops.
+module _ (f : ℕ → Bool) (s : Text) (i : ℕ) where
+  pub run-more : i < length s → f (getD s i 0) ≡ true → i + span f (drop i s) ≡ i + 1 + span f (drop (i + 1) s)
+  unfolding span
+  run-more h e = rw (at s i h, e) (omega arith)
+
+  pub run-stops : i < length s → f (getD s i 0) ≡ false → i ≡ i + span f (drop i s)
+  unfolding span
+  run-stops h e = rw (at s i h, e) (omega arith)
+
+  pub run-ends : length s ≤ i → i ≡ i + span f (drop i s)
+  unfolding span
+  run-ends h = rw (drop-of-length-le s h) (omega arith)
+
+-- A field ends at the end of the line, and at a semicolon.
+pub ends-with-line : (s : Text) (i : ℕ) → length s ≤ i → true ≡ endsAt s i
+unfolding endsAt textAt span
+ends-with-line s i h = rw (drop-of-length-le s h)
+
+pub ends-at-semicolon : (s : Text) (i : ℕ) → i < length s → eqb (getD s i 0) 59 ≡ endsAt s i
+unfolding endsAt textAt span
+ends-at-semicolon s i h = rw (at s i h) (by (eqb (getD s i 0) 59))
+  where
+    by : (b : Bool) → b ≡ empty (take (cond (not b) (suc (span inField (drop (i + 1) s))) 0) (getD s i 0 ∷ drop (i + 1) s))
+    by true = refl
+    by false = refl
+
+-- A run of characters none of which is a semicolon: the field ends behind it exactly when all of the field is such a run, and then it is as
+-- long.
+module _ (f : ℕ → Bool) (apart : f 59 ≡ false) where
+  abbrev Whole : Text → Type 0
+  Whole s =
+      (empty (take (span inField (drop (span f s) s)) (drop (span f s) s)) ≡ all f (take (span inField s) s))
+      × (all f (take (span inField s) s) ≡ true → length (take (span inField s) s) ≡ span f s)
+
+  whole-step : (c : ℕ) (s : Text) (b d : Bool) → f c ≡ b → eqb c 59 ≡ d → Whole s → Whole (c ∷ s)
+  unfolding span all
+  whole-step c s true true e g h =
+      let z : true ≡ false = sym e ∙ ap f (eqb-true c 59 g) ∙ apart in absurd (true≢false z)
+  whole-step c s true false e g h = rw (g, e) (h .0, λ k. ap suc (h .1 k))
+  whole-step c s false true e g h = rw (e, g) (refl, λ k. refl)
+  whole-step c s false false e g h = rw (g, e, g) (refl, λ k. absurd (true≢false (sym k)))
+
+  whole : (s : Text) → Whole s
+  unfolding span all
+  whole [] = (refl, λ k. refl)
+  whole (c ∷ s) = whole-step c s (f c) (eqb c 59) refl refl (whole s)
+
+  pub run-is-field : (s : Text) (at : ℕ) → endsAt s (at + span f (drop at s)) ≡ all f (textAt s at)
+  unfolding endsAt textAt
+  run-is-field s at = rw (← drop-drop (span f (drop at s)) at s) (whole (drop at s) .0)
+
+  pub run-is-as-long : (s : Text) (at : ℕ) → all f (textAt s at) ≡ true → endOf s at ≡ at + span f (drop at s)
+  unfolding textAt endOf
+  run-is-as-long s at e = ap (λ (n : ℕ). at + n) (whole (drop at s) .1 e)

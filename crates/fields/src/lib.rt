@@ -1,0 +1,112 @@
+// The readers of single fields. Each takes a line and the place where its field begins, and answers where the field ends and what it holds,
+// or that it is bad. No byte is looked at twice, and none is copied.
+
+ghost use mathlib.Core.Path.{_≡_};
+ghost use Prim.Native.Nat.{_+_};
+ghost use lib.ListN.{drop};
+ghost use Rattle.rules.specs.Text.{digit, capital, span};
+ghost use Rattle.rules.specs.Fields.{callCharacter, exchangeCharacter, squareLetter, subLetter};
+ghost use Rattle.fields.specs.Field.{endsAt, callAt, callOrEmptyAt, modeAt, reportAt, serialAt, exchangeAt, locatorAt, locatorOrEmptyAt, markAt};
+
+pub fn is_digit(b: u8) -> bool
+    ensures { λ r. ⌜ r ≡ digit b ⌝ }
+{
+    if b < 48 {
+        return false;
+    }
+    b <= 57
+}
+
+pub fn is_capital(b: u8) -> bool
+    ensures { λ r. ⌜ r ≡ capital b ⌝ }
+{
+    if b < 65 {
+        return false;
+    }
+    b <= 90
+}
+
+pub fn is_call_character(b: u8) -> bool
+    ensures { λ r. ⌜ r ≡ callCharacter b ⌝ }
+{
+    if is_capital(b) {
+        return true;
+    }
+    if is_digit(b) {
+        return true;
+    }
+    b == 47
+}
+
+// Nothing of a field is left at this place: a semicolon stands there, or the line ends.
+pub fn ends(s: &[u8], at: usize) -> bool
+    ensures { λ r. ⌜ r ≡ endsAt (now (s .entry)) at ⌝ }
+{
+    if s.len() <= at {
+        return true;
+    }
+    s[at] == 59
+}
+
+// The place behind the digits from here on.
+pub fn digit_run(s: &[u8], at: usize) -> usize
+    ensures { λ r. ⌜ r ≡ at + span digit (drop at (now (s .entry))) ⌝ }
+{
+    let mut i = at;
+    while i < s.len() {
+        if !is_digit(s[i]) {
+            return i;
+        }
+        i += 1;
+    }
+    i
+}
+
+// The place behind the call characters from here on.
+pub fn call_run(s: &[u8], at: usize) -> usize
+    ensures { λ r. ⌜ r ≡ at + span callCharacter (drop at (now (s .entry))) ⌝ }
+{
+    let mut i = at;
+    while i < s.len() {
+        if !is_call_character(s[i]) {
+            return i;
+        }
+        i += 1;
+    }
+    i
+}
+
+pub enum CallRead {
+    Call { end: usize, error: bool },
+    Bad,
+}
+
+pub enum ModeRead {
+    Mode(usize),
+    Bad,
+}
+
+pub enum ReportRead {
+    Report(usize),
+    Bad,
+}
+
+pub enum SerialRead {
+    Serial(usize),
+    Bad,
+}
+
+pub enum ExchangeRead {
+    Exchange(usize),
+    Bad,
+}
+
+pub enum LocatorRead {
+    Locator(usize),
+    Bad,
+}
+
+pub enum MarkRead {
+    Mark { set: bool, end: usize },
+    Bad,
+}

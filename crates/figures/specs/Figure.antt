@@ -1,0 +1,39 @@
+-- What each reader answers of the field at a place of a line: where it ends, with what it says, if it keeps its rule; else that it is bad.
+-- Assumes nothing.
+use Prim.Native.Nat.{ℕ, _+_, _*_, _/_, _%_}
+use mathlib.Core.Bool.{Bool, cond}
+use Rattle.rules.specs.Text.{Text, empty, value}
+use Rattle.rules.specs.Fields.{shortDate, longDate, timeOfDay}
+use Rattle.fields.specs.Field.{textAt, endOf}
+use Rattle.figures.specs.declared.TimeOfDay.{TimeOfDay}
+use Rattle.figures.specs.declared.DateRead.{DateRead}
+use Rattle.figures.specs.declared.DateRead.the-variants as DateRead
+use Rattle.figures.specs.declared.LongDateRead.{LongDateRead}
+use Rattle.figures.specs.declared.LongDateRead.the-variants as LongDateRead
+use Rattle.figures.specs.declared.TimeRead.{TimeRead}
+use Rattle.figures.specs.declared.TimeRead.the-variants as TimeRead
+use Rattle.figures.specs.declared.NumberRead.{NumberRead}
+use Rattle.figures.specs.declared.NumberRead.the-variants as NumberRead
+
+unfoldable pub dateAt : Text → ℕ → DateRead
+unfolding textAt endOf shortDate
+dateAt s at =
+    cond (shortDate (textAt s at)) (DateRead.Date (endOf s at)) (cond (empty (textAt s at)) DateRead.Empty DateRead.Bad)
+
+unfoldable pub longDateAt : Text → ℕ → LongDateRead
+unfolding textAt endOf longDate value
+longDateAt s at = cond (longDate (textAt s at)) (LongDateRead.Date (value (textAt s at)) (endOf s at)) LongDateRead.Bad
+
+unfoldable pub timeAt : Text → ℕ → TimeRead
+unfolding textAt endOf timeOfDay value
+timeAt s at =
+    cond (timeOfDay (textAt s at)) (TimeRead.Time (record { digits = value (textAt s at) }) (endOf s at)) TimeRead.Bad
+
+-- The minutes from 0000 on.
+unfoldable pub minutesOf : TimeOfDay → ℕ
+minutesOf t = 60 * (t .digits / 100) + t .digits % 100
+
+-- A number that keeps a rule, and its value.
+unfoldable pub numberAt : (Text → Bool) → Text → ℕ → NumberRead
+unfolding textAt endOf value
+numberAt rule s at = cond (rule (textAt s at)) (NumberRead.Number (value (textAt s at)) (endOf s at)) NumberRead.Bad
