@@ -1,0 +1,29 @@
+-- The keyword of a line, and the names of the bands.
+-- Assumes nothing.
+use Prim.Native.Nat.{ℕ}
+use mathlib.Core.Bool.{Bool, cond}
+use mathlib.Core.List.{List, [], _∷_}
+use lib.ListN.{drop}
+use Rattle.rules.specs.Text.{Text, begins}
+use Rattle.rules.specs.Rules.{base}
+use Rattle.rules.specs.Arguments.{Entry, entries, aBand, meets}
+use Rattle.rules.specs.Log.{keywordStart}
+use Rattle.header.specs.declared.BandRead.{BandRead}
+use Rattle.header.specs.declared.BandRead.the-variants as BandRead
+use Rattle.header.specs.declared.KeywordRead.{KeywordRead}
+use Rattle.header.specs.declared.KeywordRead.the-variants as KeywordRead
+
+-- Whether a line begins with the first of the keywords that are left, and its `=`.
+unfoldable pub firstKeyword : List Entry → Text → KeywordRead
+unfolding begins keywordStart
+firstKeyword [] line = KeywordRead.Differs
+firstKeyword (e ∷ es) line = cond (begins (keywordStart e) line) KeywordRead.Listed KeywordRead.Differs
+
+unfoldable pub keywordAt : ℕ → Text → KeywordRead
+unfolding firstKeyword entries
+keywordAt k line = firstKeyword (drop k entries) line
+
+-- Whether a text is the name of a band.
+unfoldable pub bandOf : Text → BandRead
+unfolding meets base
+bandOf t = cond (meets base aBand t) BandRead.Listed BandRead.Differs
