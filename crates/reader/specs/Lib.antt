@@ -1,0 +1,2 @@
+-- What the reader's steps answer, in the words of document 01's definitions.
+pub mod Line
