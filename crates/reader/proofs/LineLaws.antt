@@ -28,7 +28,7 @@ begins-crlf (c ∷ d ∷ t) = ap (λ (b : Bool). eqb 13 c && b) (sym (with-true 
     with-true true = refl
     with-true false = refl
 
-span-short : (f : ℕ → Bool) (s : Text) → span f s ≤ length s
+pub span-short : (f : ℕ → Bool) (s : Text) → span f s ≤ length s
 unfolding span
 span-short f [] = omega arith
 span-short f (c ∷ s) = by (f c) (span-short f s)

@@ -1,2 +1,3 @@
 -- What the reader's steps answer, in the words of document 01's definitions.
 pub mod Line
+pub mod Record
