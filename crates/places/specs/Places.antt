@@ -1,0 +1,98 @@
+-- Where the lines of a log and the fields of a record lie. Each definition gives an answer for every text; what it says of an accepted log
+-- is stated at the end.
+-- Assumes nothing.
+use Prim.Native.Nat.{ℕ, zero, suc, _+_, _-_}
+use mathlib.Core.Path.{_≡_}
+use mathlib.Core.Bool.{Bool, cond}
+use mathlib.Core.List.{List, [], _∷_}
+use lib.ListN.{length, take, drop}
+use Rattle.rules.specs.Text.{Text, bytes, allowed, span, same, value, numberOf}
+use Rattle.rules.specs.Rules.{base}
+use Rattle.rules.specs.Fields.{Qso, errorCall, newMark, isError}
+use Rattle.rules.specs.Arguments.{part, bonus, multiplier}
+use Rattle.rules.specs.Log.{Log}
+use Rattle.rules.specs.Judging.{claimsCountry, square, declared}
+use Rattle.fields.specs.Field.{textAt, endOf}
+use Rattle.places.specs.declared.Contact.{Contact}
+use Rattle.places.specs.declared.Declared.{Declared}
+
+-- The allowed characters from a place on: in an accepted log, the line that begins there.
+unfoldable pub lineTextAt : Text → ℕ → Text
+unfolding span
+lineTextAt s at = take (span allowed (drop at s)) (drop at s)
+
+-- Where the line behind so many lines begins: two characters, CR LF, stand behind each.
+unfoldable pub lineStart : Text → ℕ → ℕ
+unfolding span
+lineStart s zero = 0
+lineStart s (suc i) = lineStart s i + span allowed (drop (lineStart s i) s) + 2
+
+-- Where the field behind so many fields begins, from the first one's place on: one semicolon stands behind each.
+unfoldable pub fieldStart : Text → ℕ → ℕ → ℕ
+unfolding endOf
+fieldStart s at zero = at
+fieldStart s at (suc k) = endOf s (fieldStart s at k) + 1
+
+-- The value of a number that keeps a rule; 0 for anything else.
+unfoldable pub valueBy : (Text → Bool) → Text → ℕ
+unfolding value
+valueBy rule t = cond (rule t) (value t) 0
+
+-- What is told of the record that begins at a place: where its call, exchange, locator and points begin and end, what they are worth, and where
+-- the next record begins.
+unfoldable pub contactAt : Text → ℕ → Contact
+unfolding fieldStart endOf textAt same errorCall newMark valueBy numberOf span
+contactAt s at =
+    record {
+      call = fieldStart s at 2;
+      callend = endOf s (fieldStart s at 2);
+      exchange = fieldStart s at 8;
+      exchangeend = endOf s (fieldStart s at 8);
+      locator = fieldStart s at 9;
+      locatorend = endOf s (fieldStart s at 9);
+      points = fieldStart s at 10;
+      pointsend = endOf s (fieldStart s at 10);
+      worth = valueBy (numberOf 6) (textAt s (fieldStart s at 10));
+      error = same (textAt s (fieldStart s at 2)) errorCall;
+      country = same (textAt s (fieldStart s at 13)) newMark;
+      next = fieldStart s at 14 + span allowed (drop (fieldStart s at 14) s) + 2;
+    }
+
+-- The argument on the line behind so many lines: what stands behind the six characters of its keyword and `=`.
+unfoldable pub argumentAt : Text → ℕ → Text
+unfolding lineTextAt lineStart
+argumentAt s i = drop 6 (lineTextAt s (lineStart s i))
+
+-- The bonuses and multipliers of CWWLs, CExcs and CDXCs: keywords 29, 31 and 33, so on the lines behind as many.
+unfoldable pub declaredAt : Text → Declared
+unfolding argumentAt part valueBy bonus multiplier base
+declaredAt s =
+    record {
+      squarebonus = valueBy (bonus base) (part 1 (argumentAt s 29));
+      squaremultiplier = valueBy (multiplier base) (part 2 (argumentAt s 29));
+      exchangebonus = valueBy (bonus base) (part 1 (argumentAt s 31));
+      exchangemultiplier = valueBy (multiplier base) (part 2 (argumentAt s 31));
+      countrybonus = valueBy (bonus base) (part 1 (argumentAt s 33));
+      countrymultiplier = valueBy (multiplier base) (part 2 (argumentAt s 33));
+    }
+
+-- # What is told of an accepted log
+
+-- The part of a text from a place to another.
+abbrev pub between : Text → ℕ → ℕ → Text
+between s a e = take (e - a) (drop a s)
+
+-- What is told at a place is true of this record.
+pub record Describes (s : Text) (c : Contact) (q : Qso) : Type 0 where
+  pub callIs : between s (c .call) (c .callend) ≡ q .call
+  pub exchangeIs : between s (c .exchange) (c .exchangeend) ≡ q .exchange
+  pub locatorIs : between s (c .locator) (c .locatorend) ≡ q .locator
+  pub pointsAre : between s (c .points) (c .pointsend) ≡ q .points
+  pub worthIs : c .worth ≡ value (q .points)
+  pub errorIs : c .error ≡ isError q
+  pub countryIs : c .country ≡ claimsCountry q
+
+-- From a place on the log holds these records, one behind the other, and then ends.
+abbrev pub Holds : Text → ℕ → List Qso → Type 0
+Holds s at [] = at ≡ length s
+Holds s at (q ∷ qs) = Describes s (contactAt s at) q × Holds s ((contactAt s at) .next) qs
