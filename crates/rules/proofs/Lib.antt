@@ -1,1 +1,2 @@
 pub mod TableHolds
+pub mod Classes
