@@ -1,2 +1,3 @@
 pub mod TableHolds
 pub mod Classes
+pub mod Tests
