@@ -18,7 +18,7 @@ use Rattle.rules.specs.Fields.{Qso, isError}
 use Rattle.rules.specs.Log.{Log}
 use Rattle.rules.specs.Judging.{classNumber, is, some, claimsPoints, classOf, square, isNew, claimsCountry, countOf, verdictOf, creditedAfter, verdictsAfter, verdicts, declared, totalsOf, totals, totalsOfLog}
 use Rattle.rules.specs.Demands.{FourCountsAddUp, ClassesAndMarksAsDefined, AsTheDocumentDefines, SomeEarlierCredited, sameCallAs, sameSquareAs, sameExchangeAs, qsoAt, verdictAt, classAt}
-use Rattle.rules.proofs.Tests.{passed, is-true, both, first, second, either, left, right, failed}
+use Rattle.rules.proofs.Passing.{passed, is-true, both, first, second, either, left, right, failed}
 
 -- A class is one of the four.
 one-class : (c : Class) → cond (is Credited c) 1 0 + cond (is Void c) 1 0 + cond (is Duplicate c) 1 0 + cond (is Error c) 1 0 ≡ 1

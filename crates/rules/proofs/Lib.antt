@@ -1,3 +1,3 @@
 pub mod TableHolds
 pub mod Classes
-pub mod Tests
+pub mod Passing
