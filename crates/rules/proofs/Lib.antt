@@ -1,1 +1,4 @@
+pub mod Tests
+pub mod TextLaws
+pub mod NumberLaws
 pub mod TableHolds
