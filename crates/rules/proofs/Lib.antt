@@ -1,3 +1,6 @@
+pub mod Tests
+pub mod TextLaws
+pub mod NumberLaws
 pub mod TableHolds
 pub mod Classes
 pub mod Passing
