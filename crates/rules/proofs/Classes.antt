@@ -18,7 +18,7 @@ use Rattle.rules.specs.Fields.{Qso, isError}
 use Rattle.rules.specs.Log.{Log}
 use Rattle.rules.specs.Judging.{classNumber, is, some, claimsPoints, classOf, square, isNew, claimsCountry, countOf, verdictOf, creditedAfter, verdictsAfter, verdicts, declared, totalsOf, totals, totalsOfLog}
 use Rattle.rules.specs.Demands.{FourCountsAddUp, ClassesAndMarksAsDefined, AsTheDocumentDefines, SomeEarlierCredited, sameCallAs, sameSquareAs, sameExchangeAs, qsoAt, verdictAt, classAt}
-use Rattle.rules.proofs.Passing.{passed, is-true, both, first, second, either, left, right, failed}
+use Rattle.rules.proofs.Passing.{both, first, second, one-of, left, right, failed}
 
 -- A class is one of the four.
 one-class : (c : Class) → cond (is Credited c) 1 0 + cond (is Void c) 1 0 + cond (is Duplicate c) 1 0 + cond (is Error c) 1 0 ≡ 1
@@ -140,7 +140,7 @@ module _ (R : Rules) where
       T (some f (creditedAfter c q credited)) ↔ (T (some f credited) ⊎ ((c ≡ Credited) × T (f q)))
   unfolding some creditedAfter is classNumber
   some-after f Credited q credited = (
-    λ t. ⊎-elim (λ u. inr (refl, u)) inl (either (f q) (some f credited) t),
+    λ t. ⊎-elim (λ u. inr (refl, u)) inl (one-of (f q) (some f credited) t),
     ⊎-elim (right (f q) (some f credited)) (λ u. left (f q) (some f credited) (u .1)),
   )
   some-after f Void q credited = (inl, ⊎-elim (λ t. t) (λ u. absurd (equal→is Credited Void (u .0))))

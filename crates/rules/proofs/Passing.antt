@@ -1,22 +1,14 @@
--- Laws of tests: what a passed test says of its parts, and sameness of texts.
+-- Laws of tests that pass, as types: what a test says of its parts, and sameness of texts.
 -- Assumes nothing.
-use Prim.Native.Nat.{ℕ}
-use mathlib.Core.Path.{_≡_, refl, sym, ap, ap₂, subst, _∙_}
+use mathlib.Core.Path.{_≡_, refl}
 use mathlib.Core.Logic.{_⊎_, inl, inr, _↔_}
-use mathlib.Core.Bool.{Bool, true, false, cond, not, _&&_, _||_}
-use mathlib.Core.List.{List, [], _∷_}
-use lib.Dec.{T, eqb, eqb→eq, eqb-refl}
+use mathlib.Core.Bool.{Bool, true, false, not, _&&_, _||_}
+use lib.Dec.{T}
 use Rattle.rules.specs.Text.{Text, same}
+use Rattle.rules.proofs.Tests.{so, holds}
+use Rattle.rules.proofs.TextLaws.{same-refl, same-eq, same-of-eq}
 
-pub passed : {b : Bool} → b ≡ true → T b
-passed e = subst T (sym e) tt
-
-pub is-true : (b : Bool) → T b → b ≡ true
-is-true true t = refl
-
-pub is-false : (b : Bool) → T (not b) → b ≡ false
-is-false false t = refl
-
+-- Both of two tests.
 pub both : (a b : Bool) → T a → T b → T (a && b)
 both true true s t = tt
 
@@ -26,9 +18,10 @@ first true b t = tt
 pub second : (a b : Bool) → T (a && b) → T b
 second true b t = t
 
-pub either : (a b : Bool) → T (a || b) → T a ⊎ T b
-either true b t = inl tt
-either false b t = inr t
+-- One of two tests.
+pub one-of : (a b : Bool) → T (a || b) → T a ⊎ T b
+one-of true b t = inl tt
+one-of false b t = inr t
 
 pub left : (a b : Bool) → T a → T (a || b)
 left true b t = tt
@@ -37,14 +30,18 @@ pub right : (a b : Bool) → T b → T (a || b)
 right true b t = tt
 right false b t = t
 
+-- A test that does not pass.
 pub failed : (b : Bool) → T (not b) ↔ (T b → ⊥)
 failed true = (λ t s. t, λ f. f tt)
 failed false = (λ t s. s, λ f. tt)
 
--- A test passes or fails.
 pub decided : (b : Bool) → T b ⊎ T (not b)
 decided true = inl tt
 decided false = inr tt
+
+pub is-false : (b : Bool) → (T b → ⊥) → b ≡ false
+is-false true f = absurd (f tt)
+is-false false f = refl
 
 -- Two tests that pass together are one.
 pub equal-tests : (a b : Bool) → (T a → T b) → (T b → T a) → a ≡ b
@@ -55,15 +52,7 @@ equal-tests false false f g = refl
 
 -- Texts that are the same byte for byte are equal.
 pub same→equal : (s t : Text) → T (same s t) → s ≡ t
-unfolding same
-same→equal [] [] h = refl
-same→equal (c ∷ s) (d ∷ t) h =
-    ap₂ _∷_ (eqb→eq c d (first (eqb c d) (same s t) h)) (same→equal s t (second (eqb c d) (same s t) h))
+same→equal s t h = same-eq s t (so (same s t) h)
 
-pub same-self : (s : Text) → T (same s s)
-unfolding same
-same-self [] = tt
-same-self (c ∷ s) = both (eqb c c) (same s s) (eqb-refl c) (same-self s)
-
-pub equal→same : {s t : Text} → s ≡ t → T (same s t)
-equal→same {s} {t} e = subst (λ (u : Text). T (same s u)) e (same-self s)
+pub equal→same : (s t : Text) → s ≡ t → T (same s t)
+equal→same s t e = holds (same-of-eq s t e)
