@@ -18,7 +18,7 @@ use Rattle.rules.specs.Fields.{Qso, isError}
 use Rattle.rules.specs.Log.{Log}
 use Rattle.rules.specs.Judging.{classNumber, is, some, claimsPoints, classOf, square, isNew, claimsCountry, countOf, verdictOf, creditedAfter, verdictsAfter, verdicts, declared, totalsOf, totals, totalsOfLog}
 use Rattle.rules.specs.Demands.{FourCountsAddUp, ClassesAndMarksAsDefined, AsTheDocumentDefines, SomeEarlierCredited, sameCallAs, sameSquareAs, sameExchangeAs, qsoAt, verdictAt, classAt}
-use Rattle.rules.proofs.Passing.{both, first, second, one-of, left, right, failed}
+use Rattle.rules.proofs.Passing.{both, first, second, one-of, left, right, failed, decided}
 
 -- A class is one of the four.
 one-class : (c : Class) → cond (is Credited c) 1 0 + cond (is Void c) 1 0 + cond (is Duplicate c) 1 0 + cond (is Error c) 1 0 ≡ 1
@@ -295,6 +295,15 @@ module _ (R : Rules) where
           newExchange = rw verdict-there (is-new (λ e. e .exchange));
           newCountry = rw verdict-there is-country;
         }
+
+    -- A record that is no error and claims points is credited, or repeats an earlier one.
+    pub credited-or-repeats :
+        T (not wrong) → T claims → (classAt R qs j ≡ Credited) ⊎ SomeEarlierCredited R qs (sameCallAs R) j
+    credited-or-repeats n c =
+        ⊎-elim
+        (λ t. inr (some-earlier (sameCallAs R) .0 t))
+        (λ t. inl (as-defined .credited .1 (n, no-earlier (sameCallAs R) .0 t, c)))
+        (decided repeats)
 
 pub classes-as-defined : ClassesAndMarksAsDefined
 classes-as-defined = as-defined base

@@ -4,3 +4,6 @@ pub mod NumberLaws
 pub mod TableHolds
 pub mod Classes
 pub mod Passing
+pub mod KeptPlaces
+pub mod ValidLogs
+pub mod Strikes

@@ -43,6 +43,9 @@ pub is-false : (b : Bool) → (T b → ⊥) → b ≡ false
 is-false true f = absurd (f tt)
 is-false false f = refl
 
+pub is-not : (b : Bool) → T (not b) → b ≡ false
+is-not false t = refl
+
 -- Two tests that pass together are one.
 pub equal-tests : (a b : Bool) → (T a → T b) → (T b → T a) → a ≡ b
 equal-tests true true f g = refl
