@@ -5,5 +5,6 @@ pub mod TableHolds
 pub mod Classes
 pub mod Passing
 pub mod KeptPlaces
+pub mod Distinct
 pub mod ValidLogs
 pub mod Strikes
