@@ -80,31 +80,31 @@ equal→is a b e = rw e (is-self a)
 
 -- What the class is, by the three tests.
 module _ (e d p : Bool) where
-  abbrev classBy : Class
+  abbrev pub classBy : Class
   classBy = cond e Error (cond d Duplicate (cond p Credited Void))
 
-by-error : (e d p : Bool) → is Error (classBy e d p) ≡ e
+pub by-error : (e d p : Bool) → is Error (classBy e d p) ≡ e
 unfolding is classNumber
 by-error true d p = refl
 by-error false true p = refl
 by-error false false true = refl
 by-error false false false = refl
 
-by-duplicate : (e d p : Bool) → is Duplicate (classBy e d p) ≡ (not e && d)
+pub by-duplicate : (e d p : Bool) → is Duplicate (classBy e d p) ≡ (not e && d)
 unfolding is classNumber
 by-duplicate true d p = refl
 by-duplicate false true p = refl
 by-duplicate false false true = refl
 by-duplicate false false false = refl
 
-by-void : (e d p : Bool) → is Void (classBy e d p) ≡ (not e && (not d && not p))
+pub by-void : (e d p : Bool) → is Void (classBy e d p) ≡ (not e && (not d && not p))
 unfolding is classNumber
 by-void true d p = refl
 by-void false true p = refl
 by-void false false true = refl
 by-void false false false = refl
 
-by-credited : (e d p : Bool) → is Credited (classBy e d p) ≡ (not e && (not d && p))
+pub by-credited : (e d p : Bool) → is Credited (classBy e d p) ≡ (not e && (not d && p))
 unfolding is classNumber
 by-credited true d p = refl
 by-credited false true p = refl

@@ -50,6 +50,12 @@ count-less true true f = omega arith
 count-less true false f = absurd (f tt)
 count-less false b f = omega arith
 
+-- How many that count are struck.
+module _ {A : Type 0} (counts : A → Bool) where
+  unfoldable pub lost : Places → List A → ℕ
+  lost struck [] = 0
+  lost struck (a ∷ l) = tally (struck 0 && counts a) + lost (later struck) l
+
 -- The texts of those that count, in a list where some do.
 module _ {A : Type 0} (of : A → Text) (counts : A → Bool) where
   unfoldable pub news : List Text → List A → ℕ
@@ -96,11 +102,6 @@ module _ {A : Type 0} (of : A → Text) (counts : A → Bool) where
       by true h k = omega (arith, either-first seen (of a) t, swapped)
       by false h k = k
 
-  -- How many that count are struck.
-  unfoldable pub lost : Places → List A → ℕ
-  lost struck [] = 0
-  lost struck (a ∷ l) = tally (struck 0 && counts a) + lost (later struck) l
-
   -- Striking makes nothing new.
   pub news-fall : (struck : Places) (seen : List Text) (l : List A) → news seen (kept struck l) ≤ news seen l
   unfolding news kept
@@ -120,7 +121,7 @@ module _ {A : Type 0} (of : A → Text) (counts : A → Bool) where
       by false false e h k = rw e k
 
   -- It takes away no more than it strikes.
-  pub news-kept : (struck : Places) (seen : List Text) (l : List A) → news seen l ≤ news seen (kept struck l) + lost struck l
+  pub news-kept : (struck : Places) (seen : List Text) (l : List A) → news seen l ≤ news seen (kept struck l) + lost counts struck l
   unfolding news kept lost
   news-kept struck seen [] = omega arith
   news-kept struck seen (a ∷ l) =
@@ -135,10 +136,10 @@ module _ {A : Type 0} (of : A → Text) (counts : A → Bool) where
 
       by : (s b : Bool) →
           counts a ≡ b →
-          news (of a ∷ seen) l ≤ news (of a ∷ seen) (kept (later struck) l) + lost (later struck) l →
-          news seen l ≤ news seen (kept (later struck) l) + lost (later struck) l →
+          news (of a ∷ seen) l ≤ news (of a ∷ seen) (kept (later struck) l) + lost counts (later struck) l →
+          news seen l ≤ news seen (kept (later struck) l) + lost counts (later struck) l →
           cond b (tally (fresh seen (of a)) + news (of a ∷ seen) l) (news seen l)
-          ≤ news seen (cond s (kept (later struck) l) (a ∷ kept (later struck) l)) + (tally (s && b) + lost (later struck) l)
+          ≤ news seen (cond s (kept (later struck) l) (a ∷ kept (later struck) l)) + (tally (s && b) + lost counts (later struck) l)
       by true true e h k = omega (arith, seen-less, at-most-one (fresh seen (of a)))
       by true false e h k = omega arith
       by false true e h k = rw e (omega arith)

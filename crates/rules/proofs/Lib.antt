@@ -8,3 +8,4 @@ pub mod KeptPlaces
 pub mod Distinct
 pub mod ValidLogs
 pub mod Strikes
+pub mod Falls
