@@ -9,3 +9,4 @@ pub mod Distinct
 pub mod ValidLogs
 pub mod Strikes
 pub mod Falls
+pub mod PremiseNeeded
