@@ -10,3 +10,4 @@ pub mod ValidLogs
 pub mod Strikes
 pub mod Falls
 pub mod PremiseNeeded
+pub mod WrittenVerdicts
