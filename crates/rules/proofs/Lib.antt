@@ -1,4 +1,5 @@
 pub mod Tests
 pub mod TextLaws
 pub mod NumberLaws
+pub mod LineLaws
 pub mod TableHolds
