@@ -2,4 +2,5 @@ pub mod Tests
 pub mod TextLaws
 pub mod NumberLaws
 pub mod LineLaws
+pub mod FieldLaws
 pub mod TableHolds
