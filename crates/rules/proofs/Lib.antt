@@ -3,4 +3,5 @@ pub mod TextLaws
 pub mod NumberLaws
 pub mod LineLaws
 pub mod FieldLaws
+pub mod WalkLaws
 pub mod TableHolds
