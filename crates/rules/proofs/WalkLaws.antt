@@ -143,3 +143,148 @@ module _ (R : Rules) where
       let reads : walk R (recordsDue m) (n + 1) ls rest ≡ accepted (t .after) = rw (g .1) (t .reads) in
       subst (λ (x : Log). RecordsAre (suc m) (l ∷ ls) rest x) (t .makes)
       (more-are m l ls rest (t .after) (g .0) (records-are m (n + 1) ls rest (t .after) reads))
+
+-- # Remarks and the count line
+
+module _ (R : Rules) where
+  count-at : (t : Text) (n : ℕ) → span digit t ≡ n → countRule R t ≡ cond (numberFrom 0 (R .mostRecords) (take n t) && same (drop n t) (bytes "]")) (Goes (recordsDue (value (take n t)))) (Stops 4 0)
+  unfolding countRule
+  count-at t n e = ap (λ (k : ℕ). cond (numberFrom 0 (R .mostRecords) (take k t) && same (drop k t) (bytes "]")) (Goes (recordsDue (value (take k t)))) (Stops 4 0)) e
+
+  count-number : (m : ℕ) → leb m (R .mostRecords) ≡ true → numberFrom 0 (R .mostRecords) (digits m) ≡ true
+  unfolding numberFrom
+  count-number m e = and-i (and-i (digits-number m) (test-of-le 0 (value (digits m)) (omega arith))) (rw (value-digits m) e)
+
+  count-goes : (m : ℕ) → leb m (R .mostRecords) ≡ true → countRule R (digits m ++ bytes "]") ≡ Goes (recordsDue m)
+  count-goes m e =
+      let t = digits m ++ bytes "]" in
+      let n : span digit t ≡ length (digits m) = span-run digit (digits m) 93 [] (digits-all m) refl in
+      let first : take (length (digits m)) t ≡ digits m = take-append-seam (digits m) (bytes "]") in
+      let last : drop (length (digits m)) t ≡ bytes "]" = drop-append-seam (digits m) (bytes "]") in
+      count-at t (length (digits m)) n ∙ rw (first, last, count-number m e, same-refl (bytes "]"), value-digits m)
+
+  step-count : (m : ℕ) → leb m (R .mostRecords) ≡ true → step R Remark (countLine m) ≡ Goes (recordsDue m)
+  unfolding step countLine countStart begins
+  step-count m e = count-goes m e
+
+  step-remark : (l : Text) → remarkRule l ≡ true → step R Remark l ≡ Goes Remark
+  unfolding step remarkRule
+  step-remark l e = ap (λ (b : Bool). cond b (countRule R (drop (length countStart) l)) (Goes Remark)) (not-true (begins countStart l) e)
+
+  -- A line that is taken where a remark or the count line is due is the one or the other.
+  record IsCount (l : Text) (next : Due) : Type 0 where
+    count : ℕ
+    line : l ≡ countLine count
+    fits : leb count (R .mostRecords) ≡ true
+    due : recordsDue count ≡ next
+
+  is-count : (l : Text) (next : Due) → begins countStart l ≡ true → countRule R (drop (length countStart) l) ≡ Goes next → IsCount l next
+  unfolding countRule countLine numberFrom
+  is-count l next b e =
+      let t = drop (length countStart) l in
+      let n = span digit t in
+      let s = take n t in
+      let p = one-test (numberFrom 0 (R .mostRecords) s && same (drop n t) (bytes "]")) (recordsDue (value s)) next 4 0 e in
+      let f : numberFrom 0 (R .mostRecords) s ≡ true = and-l (numberFrom 0 (R .mostRecords) s) (same (drop n t) (bytes "]")) (p .0) in
+      let g : same (drop n t) (bytes "]") ≡ true = and-r (numberFrom 0 (R .mostRecords) s) (same (drop n t) (bytes "]")) (p .0) in
+      let a = number s in
+      let c = leb 0 (value s) in
+      let d = leb (value s) (R .mostRecords) in
+      let wrote : digits (value s) ≡ s = digits-value s (and-l a c (and-l (a && c) d f)) in
+      record {
+        count = value s;
+        line = begins-split countStart l b
+            ∙ ap (λ (r : Text). countStart ++ r) (sym (take-append-drop n t) ∙ cc (wrote, same-eq (drop n t) (bytes "]") g))
+            ∙ sym (append-assoc countStart (digits (value s)) (bytes "]"));
+        fits = and-r (a && c) d f;
+        due = p .1;
+      }
+
+  abbrev remarkLines : List Text → List Qso → List Text
+  remarkLines ms qs = ms ++ countLine (length qs) ∷ recordLines qs
+
+  abbrev noArguments : List Text → List Qso → Log
+  noArguments ms qs = record { arguments = []; remarks = ms; records = qs }
+
+  with-count : (m : ℕ) (log : Log) → withLine Remark (countLine m) log ≡ log
+  unfolding withLine countLine countStart begins
+  with-count m log = refl
+
+  with-remark : (l : Text) (log : Log) → begins countStart l ≡ false → withLine Remark l log ≡ record { arguments = log .arguments; remarks = l ∷ log .remarks; records = log .records }
+  unfolding withLine
+  with-remark l log e = ap (λ (b : Bool). record { arguments = log .arguments; remarks = cond b (log .remarks) (l ∷ log .remarks); records = log .records }) e
+
+  pub remarks-lead : (n : ℕ) (ms : List Text) (qs : List Qso) → every remarkRule ms ≡ true → leb (length qs) (R .mostRecords) ≡ true → recordRules R qs ≡ true → walk R Remark n (remarkLines ms qs) [] ≡ accepted (noArguments ms qs)
+  unfolding every remarkRule
+  remarks-lead n [] qs e f k =
+      walk-goes R Remark (recordsDue (length qs)) n (countLine (length qs)) (recordLines qs) [] (recordsAlone qs)
+      (step-count (length qs) f)
+      (records-lead R (n + 1) qs k)
+      ∙ ap accepted (with-count (length qs) (recordsAlone qs))
+  remarks-lead n (l ∷ ms) qs e f k =
+      let r : remarkRule l ≡ true = and-l (remarkRule l) (every remarkRule ms) e in
+      walk-goes R Remark Remark n l (remarkLines ms qs) [] (noArguments ms qs)
+      (step-remark l r)
+      (remarks-lead (n + 1) ms qs (and-r (remarkRule l) (every remarkRule ms) e) f k)
+      ∙ ap accepted (with-remark l (noArguments ms qs) (not-true (begins countStart l) r))
+
+  pub record RemarksAre (ls : List Text) (rest : Text) (log : Log) : Type 0 where
+    pub noMore : rest ≡ []
+    pub theLines : ls ≡ remarkLines (log .remarks) (log .records)
+    pub remarkRules : every remarkRule (log .remarks) ≡ true
+    pub fits : leb (length (log .records)) (R .mostRecords) ≡ true
+    pub rules : recordRules R (log .records) ≡ true
+    pub none : log .arguments ≡ []
+
+  -- The count line, with the records behind it, and a remark, with the lines behind it.
+  counted-are : (l : Text) (ls : List Text) (rest : Text) (next : Due) (after : Log) (c : IsCount l next) → RecordsAre R (c .count) ls rest after → RemarksAre (l ∷ ls) rest (withLine Remark l after)
+  unfolding every
+  counted-are l ls rest next after c k =
+      let is : withLine Remark l after ≡ after = rw (c .line) (with-count (c .count) after) in
+      let few : after .remarks ≡ [] = k .noRemarks in
+      let many : length (after .records) ≡ c .count = k .count in
+      rw is
+      (record {
+        noMore = k .noMore;
+        theLines = rw (few, many, c .line, k .theLines);
+        remarkRules = rw few;
+        fits = rw many (c .fits);
+        rules = k .rules;
+        none = k .noArguments;
+      })
+
+  remarked-are : (l : Text) (ls : List Text) (rest : Text) (after : Log) → begins countStart l ≡ false → RemarksAre ls rest after → RemarksAre (l ∷ ls) rest (withLine Remark l after)
+  unfolding every remarkRule
+  remarked-are l ls rest after b k =
+      rw (with-remark l after b)
+      (record {
+        noMore = k .noMore;
+        theLines = ap {B = List Text} (λ r. l ∷ r) (k .theLines);
+        remarkRules = and-i (not-false b) (k .remarkRules);
+        fits = k .fits;
+        rules = k .rules;
+        none = k .none;
+      })
+
+  step-begun : (l : Text) (b : Bool) → begins countStart l ≡ b → step R Remark l ≡ cond b (countRule R (drop (length countStart) l)) (Goes Remark)
+  unfolding step
+  step-begun l b e = ap (λ (c : Bool). cond c (countRule R (drop (length countStart) l)) (Goes Remark)) e
+
+  no-remarks : (n : ℕ) (rest : Text) (log : Log) {A : Type 0} → walk R Remark n [] rest ≡ accepted log → A
+  unfolding walk
+  no-remarks n rest log e = no-log e
+
+  pub remarks-are : (n : ℕ) (ls : List Text) (rest : Text) (log : Log) → walk R Remark n ls rest ≡ accepted log → RemarksAre ls rest log
+  remarks-are n [] rest log e = no-remarks n rest log e
+  remarks-are n (l ∷ ls) rest log e =
+      let t = walk-took R Remark n l ls rest log e in
+      subst (λ (x : Log). RemarksAre (l ∷ ls) rest x) (t .makes)
+      (by (t .next) (t .after) (t .leads) (t .reads) (λ g. remarks-are (n + 1) ls rest (t .after) g) (begins countStart l) refl)
+    where
+      by : (next : Due) (after : Log) → step R Remark l ≡ Goes next → walk R next (n + 1) ls rest ≡ accepted after → (walk R Remark (n + 1) ls rest ≡ accepted after → RemarksAre ls rest after) → (b : Bool) → begins countStart l ≡ b → RemarksAre (l ∷ ls) rest (withLine Remark l after)
+      by next after s g more true b =
+          let c = is-count l next b (sym (step-begun l true b) ∙ s) in
+          counted-are l ls rest next after c (records-are R (c .count) (n + 1) ls rest after (rw (c .due) g))
+      by next after s g more false b =
+          let same : Remark ≡ next = cc (step-begun l false b) in
+          remarked-are l ls rest after b (more (rw same g))
