@@ -288,3 +288,154 @@ module _ (R : Rules) where
       by next after s g more false b =
           let same : Remark ≡ next = cc (step-begun l false b) in
           remarked-are l ls rest after b (more (rw same g))
+
+-- # Keywords
+
+-- What is due where these keywords are left, after so many.
+abbrev dueOf : List Entry → ℕ → Due
+dueOf [] k = Remarks
+dueOf (e ∷ es) k = Keyword k
+
+drop-next : {A : Type 0} {a : A} {l : List A} (k : ℕ) (all : List A) → drop k all ≡ a ∷ l → drop (k + 1) all ≡ l
+drop-next k all e = sym (drop-drop 1 k all) ∙ ap (drop 1) e
+
+module _ (R : Rules) where
+  whole-goes : (due : Text) (next : Due) → whole due due next ≡ Goes next
+  unfolding whole
+  whole-goes due next = rw (same-refl due)
+
+  whole-went : (due l : Text) (on next : Due) → whole due l on ≡ Goes next → (l ≡ due) × (on ≡ next)
+  unfolding whole
+  whole-went due l on next e = let p = one-test (same l due) on next 3 0 e in (same-eq l due (p .0), p .1)
+
+  keyword-goes : (e : Entry) (t : Text) (next : Due) → meets R (e .rule) t ≡ true → keywordLine R e (keywordStart e ++ t) next ≡ Goes next
+  unfolding keywordLine argumentOn
+  keyword-goes e t next m = rw (begins-front (keywordStart e) t, drop-append-seam (keywordStart e) t, m)
+
+  argument-on : (e : Entry) (t : Text) → argumentOn e (keywordStart e ++ t) ≡ t
+  unfolding argumentOn
+  argument-on e t = drop-append-seam (keywordStart e) t
+
+  record IsKeyword (e : Entry) (l : Text) (on next : Due) : Type 0 where
+    line : l ≡ keywordStart e ++ argumentOn e l
+    rule : meets R (e .rule) (argumentOn e l) ≡ true
+    due : on ≡ next
+
+  two-tests : (b m : Bool) (on next : Due) → cond b (cond m (Goes on) (Stops 4 0)) (Stops 3 0) ≡ Goes next → (b ≡ true) × (m ≡ true) × (on ≡ next)
+  two-tests true m on next e = let p = one-test m on next 4 0 e in (refl, p .0, p .1)
+  two-tests false m on next e = let z : _≡_ {A = ℕ} 0 1 = cc in absurd (omega arith)
+
+  keyword-went : (e : Entry) (l : Text) (on next : Due) → keywordLine R e l on ≡ Goes next → IsKeyword e l on next
+  unfolding keywordLine argumentOn
+  keyword-went e l on next g =
+      let p = two-tests (begins (keywordStart e) l) (meets R (e .rule) (argumentOn e l)) on next g in
+      record { line = begins-split (keywordStart e) l (p .0); rule = p .1; due = p .2 }
+
+  due-keyword : (e : Entry) (es : List Entry) (k : ℕ) (l : Text) → keywordDue R (e ∷ es) k l ≡ keywordLine R e l (dueOf es (k + 1))
+  unfolding keywordDue
+  due-keyword e [] k l = refl
+  due-keyword e (f ∷ es) k l = refl
+
+  step-keyword : (e : Entry) (es : List Entry) (k : ℕ) (l : Text) → drop k entries ≡ e ∷ es → step R (Keyword k) l ≡ keywordLine R e l (dueOf es (k + 1))
+  unfolding step
+  step-keyword e es k l h = ap (λ (x : List Entry). keywordDue R x k l) h ∙ due-keyword e es k l
+
+  with-keyword : (e : Entry) (es : List Entry) (k : ℕ) (l : Text) (log : Log) → drop k entries ≡ e ∷ es → withLine (Keyword k) l log ≡ record { arguments = argumentOn e l ∷ log .arguments; remarks = log .remarks; records = log .records }
+  unfolding withLine argumentDue
+  with-keyword e es k l log h = ap (λ (x : List Entry). record { arguments = argumentDue x l ∷ log .arguments; remarks = log .remarks; records = log .records }) h
+
+  abbrev behind : List Text → List Qso → List Text
+  behind ms qs = remarksLine ∷ remarkLines R ms qs
+
+  abbrev logOf : List Text → List Text → List Qso → Log
+  logOf ts ms qs = record { arguments = ts; remarks = ms; records = qs }
+
+  module _ (ms : List Text) (qs : List Qso) (remarks : every remarkRule ms ≡ true) (fits : leb (length qs) (R .mostRecords) ≡ true) (records : recordRules R qs ≡ true) where
+    pub keywords-lead : (es : List Entry) (k n : ℕ) (ts : List Text) → drop k entries ≡ es → argumentRules R es ts ≡ true → walk R (dueOf es k) n (keywordLines es ts ++ behind ms qs) [] ≡ accepted (logOf ts ms qs)
+    unfolding keywordLines argumentRules
+    keywords-lead [] k n [] h e =
+        walk-goes R Remarks Remark n remarksLine (remarkLines R ms qs) [] (noArguments R ms qs)
+        (unfold step in whole-goes remarksLine Remark)
+        (remarks-lead R (n + 1) ms qs remarks fits records)
+        ∙ unfold withLine in refl
+    keywords-lead [] k n (t ∷ ts) h e = clash refl (sym e)
+    keywords-lead (w ∷ es) k n [] h e = clash refl (sym e)
+    keywords-lead (w ∷ es) k n (t ∷ ts) h e =
+        let l = keywordStart w ++ t in
+        let m : meets R (w .rule) t ≡ true = and-l (meets R (w .rule) t) (argumentRules R es ts) e in
+        walk-goes R (Keyword k) (dueOf es (k + 1)) n l (keywordLines es ts ++ behind ms qs) [] (logOf ts ms qs)
+        (step-keyword w es k l h ∙ keyword-goes w t (dueOf es (k + 1)) m)
+        (keywords-lead es (k + 1) (n + 1) ts (drop-next k entries h) (and-r (meets R (w .rule) t) (argumentRules R es ts) e))
+        ∙ ap accepted (with-keyword w es k l (logOf ts ms qs) h ∙ ap (λ (x : Text). logOf (x ∷ ts) ms qs) (argument-on w t))
+
+  pub record KeywordsAre (es : List Entry) (ls : List Text) (rest : Text) (log : Log) : Type 0 where
+    pub noMore : rest ≡ []
+    pub theLines : ls ≡ keywordLines es (log .arguments) ++ behind (log .remarks) (log .records)
+    pub rulesOfArguments : argumentRules R es (log .arguments) ≡ true
+    pub remarkRules : every remarkRule (log .remarks) ≡ true
+    pub fits : leb (length (log .records)) (R .mostRecords) ≡ true
+    pub rules : recordRules R (log .records) ≡ true
+
+  -- The line in front of the remarks, and a keyword, each with the lines behind it.
+  headed-are : (ls : List Text) (rest : Text) (log : Log) → RemarksAre R ls rest log → KeywordsAre [] (remarksLine ∷ ls) rest log
+  unfolding keywordLines argumentRules
+  headed-are ls rest log k =
+      let few : log .arguments ≡ [] = k .none in
+      record {
+        noMore = k .noMore;
+        theLines = ap {B = List Text} (λ r. remarksLine ∷ r) (k .theLines);
+        rulesOfArguments = rw few;
+        remarkRules = k .remarkRules;
+        fits = k .fits;
+        rules = k .rules;
+      }
+
+  worded-are : (e : Entry) (es : List Entry) (k : ℕ) (l : Text) (ls : List Text) (rest : Text) (on next : Due) (after : Log) → drop k entries ≡ e ∷ es → IsKeyword e l on next → KeywordsAre es ls rest after → KeywordsAre (e ∷ es) (l ∷ ls) rest (withLine (Keyword k) l after)
+  unfolding keywordLines argumentRules
+  worded-are e es k l ls rest on next after h i r =
+      rw (with-keyword e es k l after h)
+      (record {
+        noMore = r .noMore;
+        theLines = ap {B = List Text} (λ x. x ∷ ls) (i .line) ∙ ap {B = List Text} (λ x. (keywordStart e ++ argumentOn e l) ∷ x) (r .theLines);
+        rulesOfArguments = and-i (i .rule) (r .rulesOfArguments);
+        remarkRules = r .remarkRules;
+        fits = r .fits;
+        rules = r .rules;
+      })
+
+  step-remarks-went : (l : Text) (next : Due) → step R Remarks l ≡ Goes next → (l ≡ remarksLine) × (Remark ≡ next)
+  unfolding step
+  step-remarks-went l next e = whole-went remarksLine l Remark next e
+
+  with-remarks : (l : Text) (log : Log) → withLine Remarks l log ≡ log
+  unfolding withLine
+  with-remarks l log = refl
+
+  no-keywords : (es : List Entry) (k n : ℕ) (rest : Text) (log : Log) {A : Type 0} → walk R (dueOf es k) n [] rest ≡ accepted log → A
+  unfolding walk
+  no-keywords [] k n rest log e = no-log e
+  no-keywords (w ∷ es) k n rest log e = no-log e
+
+  pub keywords-are : (es : List Entry) (k n : ℕ) (ls : List Text) (rest : Text) (log : Log) → drop k entries ≡ es → walk R (dueOf es k) n ls rest ≡ accepted log → KeywordsAre es ls rest log
+  keywords-are [] k n [] rest log h e = no-keywords [] k n rest log e
+  keywords-are [] k n (l ∷ ls) rest log h e =
+      let t = walk-took R Remarks n l ls rest log e in
+      let g = step-remarks-went l (t .next) (t .leads) in
+      let reads : walk R Remark (n + 1) ls rest ≡ accepted (t .after) = rw (g .1) (t .reads) in
+      let same : t .after ≡ log = sym (with-remarks l (t .after)) ∙ t .makes in
+      rw (g .0) (subst (λ (x : Log). KeywordsAre [] (remarksLine ∷ ls) rest x) same (headed-are ls rest (t .after) (remarks-are R (n + 1) ls rest (t .after) reads)))
+  keywords-are (w ∷ es) k n [] rest log h e = no-keywords (w ∷ es) k n rest log e
+  keywords-are (w ∷ es) k n (l ∷ ls) rest log h e =
+      let t = walk-took R (Keyword k) n l ls rest log e in
+      let i = keyword-went w l (dueOf es (k + 1)) (t .next) (sym (step-keyword w es k l h) ∙ t .leads) in
+      let reads : walk R (dueOf es (k + 1)) (n + 1) ls rest ≡ accepted (t .after) = rw (i .due) (t .reads) in
+      subst (λ (x : Log). KeywordsAre (w ∷ es) (l ∷ ls) rest x) (t .makes)
+      (worded-are w es k l ls rest (dueOf es (k + 1)) (t .next) (t .after) h i (keywords-are es (k + 1) (n + 1) ls rest (t .after) (drop-next k entries h) reads))
+
+  -- # The whole log
+
+  lines-of : (log : Log) → linesOf log ≡ identifier ∷ (keywordLines entries (log .arguments) ++ behind (log .remarks) (log .records))
+  unfolding linesOf
+  lines-of log =
+      ap {B = List Text} (λ r. identifier ∷ r)
+      (append-assoc (keywordLines entries (log .arguments)) (remarksLine ∷ log .remarks) (countLine (length (log .records)) ∷ recordLines (log .records)))
