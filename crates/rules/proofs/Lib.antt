@@ -4,4 +4,5 @@ pub mod NumberLaws
 pub mod LineLaws
 pub mod FieldLaws
 pub mod WalkLaws
+pub mod Format
 pub mod TableHolds

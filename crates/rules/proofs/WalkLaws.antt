@@ -439,3 +439,55 @@ module _ (R : Rules) where
   lines-of log =
       ap {B = List Text} (λ r. identifier ∷ r)
       (append-assoc (keywordLines entries (log .arguments)) (remarksLine ∷ log .remarks) (countLine (length (log .records)) ∷ recordLines (log .records)))
+
+  pub record LogIs (ls : List Text) (rest : Text) (log : Log) : Type 0 where
+    pub noMore : rest ≡ []
+    pub theLines : ls ≡ linesOf log
+    pub rulesOfArguments : argumentRules R entries (log .arguments) ≡ true
+    pub remarkRules : every remarkRule (log .remarks) ≡ true
+    pub fits : leb (length (log .records)) (R .mostRecords) ≡ true
+    pub rules : recordRules R (log .records) ≡ true
+
+  step-identifier-went : (l : Text) (next : Due) → step R Identifier l ≡ Goes next → (l ≡ identifier) × (Keyword 0 ≡ next)
+  unfolding step
+  step-identifier-went l next e = whole-went identifier l (Keyword 0) next e
+
+  with-identifier : (l : Text) (log : Log) → withLine Identifier l log ≡ log
+  unfolding withLine
+  with-identifier l log = refl
+
+  first-keyword : dueOf entries 0 ≡ Keyword 0
+  unfolding entries
+  first-keyword = refl
+
+  no-lines : (n : ℕ) (rest : Text) (log : Log) {A : Type 0} → walk R Identifier n [] rest ≡ accepted log → A
+  unfolding walk
+  no-lines n rest log e = no-log e
+
+  -- Lines that lead to the end are those of the log that they are read as.
+  pub log-is : (n : ℕ) (ls : List Text) (rest : Text) (log : Log) → walk R Identifier n ls rest ≡ accepted log → LogIs ls rest log
+  log-is n [] rest log e = no-lines n rest log e
+  log-is n (l ∷ ls) rest log e =
+      let t = walk-took R Identifier n l ls rest log e in
+      let g = step-identifier-went l (t .next) (t .leads) in
+      let same : t .after ≡ log = sym (with-identifier l (t .after)) ∙ t .makes in
+      let reads : walk R (dueOf entries 0) (n + 1) ls rest ≡ accepted log = rw (first-keyword, g .1) (t .reads ∙ ap accepted same) in
+      let k = keywords-are entries 0 (n + 1) ls rest log refl reads in
+      record {
+        noMore = k .noMore;
+        theLines = ap {B = List Text} (λ x. x ∷ ls) (g .0) ∙ ap {B = List Text} (λ x. identifier ∷ x) (k .theLines) ∙ sym (lines-of log);
+        rulesOfArguments = k .rulesOfArguments;
+        remarkRules = k .remarkRules;
+        fits = k .fits;
+        rules = k .rules;
+      }
+
+  -- The lines of a log that keeps the rules lead to its end.
+  pub log-leads : (n : ℕ) (log : Log) → argumentRules R entries (log .arguments) ≡ true → every remarkRule (log .remarks) ≡ true → leb (length (log .records)) (R .mostRecords) ≡ true → recordRules R (log .records) ≡ true → walk R Identifier n (linesOf log) [] ≡ accepted log
+  log-leads n log a m f r =
+      let more : walk R (Keyword 0) (n + 1) (keywordLines entries (log .arguments) ++ behind (log .remarks) (log .records)) [] ≡ accepted log = rw first-keyword at (keywords-lead (log .remarks) (log .records) m f r entries 0 (n + 1) (log .arguments) refl a) in
+      rw (lines-of log)
+      (walk-goes R Identifier (Keyword 0) n identifier (keywordLines entries (log .arguments) ++ behind (log .remarks) (log .records)) [] log
+      (unfold step in whole-goes identifier (Keyword 0))
+      more
+      ∙ ap accepted (with-identifier identifier log))
