@@ -1,6 +1,10 @@
 pub mod Tests
 pub mod TextLaws
 pub mod NumberLaws
+pub mod LineLaws
+pub mod FieldLaws
+pub mod WalkLaws
+pub mod Format
 pub mod TableHolds
 pub mod Classes
 pub mod Passing

@@ -2,9 +2,9 @@
 -- Assumes nothing.
 use Prim.Native.Nat.{ℕ, zero, suc, _+_, _*_, _-_, _/_, _%_, _^_, _≤_, _<_}
 use mathlib.Core.Path.{_≡_, refl, sym, ap, _∙_}
-use mathlib.Core.Logic.{_⊎_, inl, inr, ⊎-elim}
-use mathlib.Core.Bool.{Bool, true, false, cond, not, _&&_, _||_}
-use mathlib.Core.List.{List, [], _∷_, _++_, append-assoc}
+use mathlib.Core.Logic.{_≢_, _⊎_, inl, inr, ⊎-elim}
+use mathlib.Core.Bool.{Bool, true, false, cond, not, _&&_, _||_, and-true}
+use mathlib.Core.List.{List, [], _∷_, _++_, append-assoc, append-nil}
 use lib.Dec.{leb, ltb, eqb}
 use lib.ListN.{length, length-append}
 use native.Mathlib.Nat.{pow-suc}
@@ -59,3 +59,112 @@ pub valueAfter-append : (n : ℕ) (s t : Text) → valueAfter n (s ++ t) ≡ val
 unfolding valueAfter
 valueAfter-append n [] t = refl
 valueAfter-append n (c ∷ s) t = valueAfter-append (10 * n + (c - 48)) s t
+
+-- What holds of the numbers below ten, and of each other number if it holds of its tenth, holds of every number.
+pub by-tenths : (P : ℕ → Type 0) → ((n : ℕ) → n < 10 → P n) → ((n : ℕ) → 10 ≤ n → P (n / 10) → P n) → (n : ℕ) → P n
+by-tenths P few many n = go n n (omega arith)
+  where
+    go : (m n : ℕ) → n ≤ m → P n
+    go zero n h = few n (omega arith)
+    go (suc m) n h =
+        ⊎-elim (λ (e : Small n). few n (e .1)) (λ (e : Large n). many n (e .1) (go m (n / 10) (omega arith))) (size n)
+
+-- The digits of a number have it for their value.
+pub value-digits : (n : ℕ) → value (digits n) ≡ n
+unfolding value valueAfter
+value-digits =
+    by-tenths (λ n. value (digits n) ≡ n)
+    (λ n h. rw (digits-small n h) (omega arith))
+    (λ n h g. rw (digits-large n h, valueAfter-append 0 (digits (n / 10)) ((48 + n % 10) ∷ []), g) (omega arith))
+
+-- They are digits.
+digit-of : (n : ℕ) → n < 10 → digit (48 + n) ≡ true
+digit-of n h = and-i (test-of-le 48 (48 + n) (omega arith)) (test-of-le (48 + n) 57 (omega arith))
+
+pub digits-all : (n : ℕ) → all digit (digits n) ≡ true
+unfolding all
+digits-all =
+    by-tenths (λ n. all digit (digits n) ≡ true)
+    (λ n h. rw (digits-small n h) (and-i (digit-of n h) refl))
+    (λ n h g. rw (digits-large n h) (all-append digit (digits (n / 10)) ((48 + n % 10) ∷ []) g (and-i (digit-of (n % 10) (omega arith)) refl)))
+
+-- They begin with another digit than 0, if the number is not 0.
+pub record Leads (t : Text) : Type 0 where
+  pub first : ℕ
+  pub others : Text
+  pub are : t ≡ first ∷ others
+  pub notZero : eqb 48 first ≡ false
+
+leads-more : (s t : Text) → Leads s → Leads (s ++ t)
+leads-more s t k = record { first = k .first; others = k .others ++ t; are = rw (k .are); notZero = k .notZero }
+
+pub digits-lead : (n : ℕ) → 1 ≤ n → Leads (digits n)
+digits-lead =
+    by-tenths (λ n. 1 ≤ n → Leads (digits n))
+    (λ n h p. rw (digits-small n h) (record { first = 48 + n; others = []; are = refl; notZero = test-of-unequal 48 (48 + n) (λ e. omega arith) }))
+    (λ n h g p. rw (digits-large n h) (leads-more (digits (n / 10)) ((48 + n % 10) ∷ []) (g (omega arith))))
+
+leads-number : (t : Text) → all digit t ≡ true → Leads t → number t ≡ true
+unfolding number begins
+leads-number t e k =
+    let t≡ : t ≡ k .first ∷ k .others = k .are in
+    let some : not (empty t) ≡ true = rw t≡ in
+    let other : not (begins (bytes "0") t) ≡ true = rw (t≡, k .notZero) in
+    and-i (and-i some e) (or-r (same t (bytes "0")) other)
+
+pub digits-number : (n : ℕ) → number (digits n) ≡ true
+unfolding number all same begins digits digitsWithin
+digits-number zero = refl
+digits-number (suc n) = leads-number (digits (suc n)) (digits-all (suc n)) (digits-lead (suc n) (omega arith))
+
+-- A number of fewer than so many digits' value has no more digits.
+pub digits-length : (k n : ℕ) → n < 10 ^ suc k → length (digits n) ≤ suc k
+digits-length k n = go k n
+  where
+    go : (k n : ℕ) → n < 10 ^ suc k → length (digits n) ≤ suc k
+    go zero n h = let l : n < 10 = omega arith in rw (digits-small n l) (omega arith)
+    go (suc k) n h =
+        ⊎-elim
+        (λ (e : Small n). rw (digits-small n (e .1)) (omega arith))
+        (λ (e : Large n).
+        let tenth : n / 10 < 10 ^ suc k = omega (arith, pow-suc 10 (suc k)) in
+        rw (digits-large n (e .1)) (simp length-append (omega (arith, go k (n / 10) tenth))))
+        (size n)
+
+-- The digits of the value of a number are that number.
+digits-step : (v c : ℕ) → 1 ≤ v → digit c ≡ true → digits (10 * v + (c - 48)) ≡ digits v ++ (c ∷ [])
+digits-step v c h e =
+    let low : 48 ≤ c = le-of-test 48 c (and-l (leb 48 c) (leb c 57) e) in
+    let high : c ≤ 57 = le-of-test c 57 (and-r (leb 48 c) (leb c 57) e) in
+    let tenth : (10 * v + (c - 48)) / 10 ≡ v = omega arith in
+    let last : 48 + (10 * v + (c - 48)) % 10 ≡ c = omega arith in
+    rw (digits-large (10 * v + (c - 48)) (omega arith), tenth, last)
+
+digits-after : (v : ℕ) (s : Text) → 1 ≤ v → all digit s ≡ true → digits (valueAfter v s) ≡ digits v ++ s
+unfolding valueAfter all
+digits-after v [] h e = sym (append-nil (digits v))
+digits-after v (c ∷ s) h e =
+    let d : digit c ≡ true = and-l (digit c) (all digit s) e in
+    digits-after (10 * v + (c - 48)) s (omega arith) (and-r (digit c) (all digit s) e) ∙ rw (digits-step v c h d, append-assoc)
+
+pub digits-value : (t : Text) → number t ≡ true → digits (value t) ≡ t
+unfolding number value valueAfter all begins digits digitsWithin
+digits-value [] e = clash refl (sym e)
+digits-value (c ∷ s) e =
+    let q = all digit (c ∷ s) in
+    let a = same (c ∷ s) (bytes "0") in
+    let b = not (begins (bytes "0") (c ∷ s)) in
+    ⊎-elim
+    (λ (z : a ≡ true). let is : c ∷ s ≡ bytes "0" = same-eq (c ∷ s) (bytes "0") z in ap (λ (t : Text). digits (value t)) is ∙ sym is)
+    (λ (z : b ≡ true). leading (and-l q (a || b) e) (sym (and-true (eqb 48 c)) ∙ not-true (eqb 48 c && true) z))
+    (or-cases a b (and-r q (a || b) e))
+  where
+    leading : all digit (c ∷ s) ≡ true → eqb 48 c ≡ false → digits (value (c ∷ s)) ≡ c ∷ s
+    leading g z =
+        let d : digit c ≡ true = and-l (digit c) (all digit s) g in
+        let low : 48 ≤ c = le-of-test 48 c (and-l (leb 48 c) (leb c 57) d) in
+        let high : c ≤ 57 = le-of-test c 57 (and-r (leb 48 c) (leb c 57) d) in
+        let ne : 48 ≢ c = λ q. clash (test-of-eq 48 c q) z in
+        let v : 1 ≤ 0 + (c - 48) = omega (arith, ne) in
+        let back : 48 + (0 + (c - 48)) ≡ c = omega arith in
+        digits-after (0 + (c - 48)) s v (and-r (digit c) (all digit s) g) ∙ rw (digits-small (0 + (c - 48)) (omega arith), back)
