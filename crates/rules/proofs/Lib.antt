@@ -15,3 +15,4 @@ pub mod Strikes
 pub mod Falls
 pub mod PremiseNeeded
 pub mod WrittenVerdicts
+pub mod WrittenClaims
