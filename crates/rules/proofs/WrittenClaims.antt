@@ -16,12 +16,15 @@ use Rattle.rules.specs.Rules.{Rules, base}
 use Rattle.rules.specs.Fields.{Qso}
 use Rattle.rules.specs.Arguments.{Entry, entries, part, every}
 use Rattle.rules.specs.Log.{Log, argumentIn, argument}
-use Rattle.rules.specs.Judging.{classNumber, is, Declared, declared, creditedPoints, totalsOf, totals, totalsOfLog, verdicts, verdictsOfLog}
-use Rattle.rules.specs.Writing.{Claim, recounted, claims, claimed, writtenArguments, writtenRecord, writtenRecords, writtenBack}
+use Rattle.rules.specs.Judging.{classNumber, is, Declared, declared, creditedPoints, totalsOf, totals, totalsOfLog, verdicts, verdictsOfLog, zeroTotals}
+use Rattle.rules.specs.Writing.{Claim, recounted, claims, claimed, writtenArguments, writtenRecord, writtenRecords, writtenBack, unclaimedRecord, unclaimed}
+use Rattle.rules.specs.Demands.{WritingChangesOnlyTheNamed, WritingKeepsPoints}
 use Rattle.rules.proofs.Tests.{and-l, and-r, and-i, so}
 use Rattle.rules.proofs.TextLaws.{plain, parts-plain, parts-joined, same-eq}
 use Rattle.rules.proofs.NumberLaws.{digits-all}
 use Rattle.rules.proofs.FieldLaws.{digits-plain}
+use Rattle.rules.proofs.Passing.{is-false}
+use Rattle.rules.proofs.Classes.{is→equal}
 use Rattle.rules.proofs.WrittenVerdicts.{written-verdicts, records-twice}
 
 -- The argument whose count is rewritten keeps its other parts.
@@ -44,10 +47,10 @@ pub part-recounted : (n k : ℕ) (t : Text) → part (suc k) (recounted (digits 
 unfolding part
 part-recounted n k t = rw (parts-recounted n t) (next-of (parts t) (digits n) k)
 
--- Recounting twice is recounting once.
-recounted-twice : (n : ℕ) (t : Text) → recounted (digits n) (recounted (digits n) t) ≡ recounted (digits n) t
+-- The last count stands.
+recounted-over : (new : Text) (n : ℕ) (t : Text) → recounted new (recounted (digits n) t) ≡ recounted new t
 unfolding recounted
-recounted-twice n t = ap {B = Text} (λ ts. joined (digits n ∷ drop 1 ts)) (parts-recounted n t)
+recounted-over new n t = ap {B = Text} (λ ts. joined (new ∷ drop 1 ts)) (parts-recounted n t)
 
 -- What of an argument no claim on its keyword changes, no writing changes.
 pub argument-kept : {A : Type 0} (g : Text → A) (cs : List Claim) (keyword : Text) →
@@ -140,35 +143,68 @@ module _ (R : Rules) (log : Log) where
       ∙ rw (declared-kept R log, written-verdicts R log, written-records) (totals-of-written (declared log) (verdictsOfLog R log) (log .records))
       ∙ sym (totals-by-verdicts log)
 
--- A claim that changes nothing the second time.
-abbrev Settled : List Claim → Type 0
-Settled [] = Unit {0}
-Settled (c ∷ cs) = ((t : Text) → c .becomes (c .becomes t) ≡ c .becomes t) × Settled cs
+-- Claims on the same keywords: the first have the last word.
+abbrev Covers : List Claim → List Claim → Type 0
+Covers [] [] = Unit {0}
+Covers [] (d ∷ ds) = ⊥
+Covers (c ∷ cs) [] = ⊥
+Covers (c ∷ cs) (d ∷ ds) = (c .keyword ≡ d .keyword) × ((t : Text) → c .becomes (d .becomes t) ≡ c .becomes t) × Covers cs ds
 
-claimed-twice : (cs : List Claim) → Settled cs → (keyword t : Text) → claimed cs keyword (claimed cs keyword t) ≡ claimed cs keyword t
+claimed-over : (cs ds : List Claim) → Covers cs ds → (keyword t : Text) → claimed cs keyword (claimed ds keyword t) ≡ claimed cs keyword t
 unfolding claimed
-claimed-twice [] s keyword t = refl
-claimed-twice (c ∷ cs) s keyword t = by (same (c .keyword) keyword) refl (claimed-twice cs (s .1) keyword t)
+claimed-over [] [] s keyword t = refl
+claimed-over (c ∷ cs) (d ∷ ds) s keyword t = rw (s .0) (by (same (d .keyword) keyword) (claimed-over cs ds (s .2) keyword t))
   where
     by : (b : Bool) →
-        same (c .keyword) keyword ≡ b →
-        claimed cs keyword (claimed cs keyword t) ≡ claimed cs keyword t →
-        cond b (c .becomes (cond b (c .becomes t) (claimed cs keyword t))) (claimed cs keyword (cond b (c .becomes t) (claimed cs keyword t)))
+        claimed cs keyword (claimed ds keyword t) ≡ claimed cs keyword t →
+        cond b (c .becomes (cond b (d .becomes t) (claimed ds keyword t))) (claimed cs keyword (cond b (d .becomes t) (claimed ds keyword t)))
         ≡ cond b (c .becomes t) (claimed cs keyword t)
-    by true e k = s .0 t
-    by false e k = k
+    by true k = s .1 t
+    by false k = k
 
-arguments-twice : (cs : List Claim) → Settled cs → (es : List Entry) (ts : List Text) →
-    writtenArguments cs es (writtenArguments cs es ts) ≡ writtenArguments cs es ts
+arguments-over : (cs ds : List Claim) → Covers cs ds → (es : List Entry) (ts : List Text) →
+    writtenArguments cs es (writtenArguments ds es ts) ≡ writtenArguments cs es ts
 unfolding writtenArguments
-arguments-twice cs s [] ts = refl
-arguments-twice cs s (e ∷ es) [] = refl
-arguments-twice cs s (e ∷ es) (t ∷ ts) = ap₂ _∷_ (claimed-twice cs s (e .keyword) t) (arguments-twice cs s es ts)
+arguments-over cs ds s [] ts = refl
+arguments-over cs ds s (e ∷ es) [] = refl
+arguments-over cs ds s (e ∷ es) (t ∷ ts) = ap₂ _∷_ (claimed-over cs ds s (e .keyword) t) (arguments-over cs ds s es ts)
 
-claims-settled : (t : Totals) → Settled (claims digits t)
+-- Claims in any words cover claims in digits.
+claims-cover : (inWords : ℕ → Text) (t u : Totals) → Covers (claims inWords t) (claims digits u)
 unfolding claims
-claims-settled t =
-    (recounted-twice (t .credited), (λ s. refl, (recounted-twice (t .squares), (λ s. refl, (recounted-twice (t .exchanges), (λ s. refl, (recounted-twice (t .countries), (λ s. refl, (λ s. refl, tt)))))))))
+claims-cover inWords t u = (
+  refl,
+  recounted-over (inWords (t .credited)) (u .credited),
+  (
+    refl,
+    λ s. refl,
+    (
+      refl,
+      recounted-over (inWords (t .squares)) (u .squares),
+      (
+        refl,
+        λ s. refl,
+        (
+          refl,
+          recounted-over (inWords (t .exchanges)) (u .exchanges),
+          (
+            refl,
+            λ s. refl,
+            (
+              refl,
+              recounted-over (inWords (t .countries)) (u .countries),
+              (
+                refl,
+                λ s. refl,
+                (refl, λ s. refl, tt),
+              ),
+            ),
+          ),
+        ),
+      ),
+    ),
+  ),
+)
 
 -- Writing with given totals and verdicts.
 writtenWith : Totals → List Verdict → Log → Log
@@ -182,7 +218,7 @@ writtenWith t vs log =
 with-twice : (t : Totals) (vs : List Verdict) (log : Log) → writtenWith t vs (writtenWith t vs log) ≡ writtenWith t vs log
 unfolding writtenWith
 with-twice t vs log =
-    rw (arguments-twice (claims digits t) (claims-settled t) entries (log .arguments), records-twice vs (log .records))
+    rw (arguments-over (claims digits t) (claims digits t) (claims-cover digits t t) entries (log .arguments), records-twice vs (log .records))
 
 written-with : (R : Rules) (log : Log) → writtenBack R log ≡ writtenWith (totalsOfLog R log) (verdictsOfLog R log) log
 unfolding writtenWith writtenBack
@@ -192,3 +228,36 @@ pub written-twice : (R : Rules) (log : Log) → writtenBack R (writtenBack R log
 written-twice R log =
     written-with R (writtenBack R log)
     ∙ rw (totals-kept R log, written-verdicts R log, written-with R log) (with-twice (totalsOfLog R log) (verdictsOfLog R log) log)
+
+-- Without what is named there the two logs are one.
+unclaimed-records : (vs : List Verdict) (qs : List Qso) → map unclaimedRecord (writtenRecords vs qs) ≡ map unclaimedRecord qs
+unfolding writtenRecords writtenRecord unclaimedRecord
+unclaimed-records [] qs = refl
+unclaimed-records (v ∷ vs) [] = refl
+unclaimed-records (v ∷ vs) (q ∷ qs) = rw (unclaimed-records vs qs)
+
+unclaimed-with : (t : Totals) (vs : List Verdict) (log : Log) → unclaimed (writtenWith t vs log) ≡ unclaimed log
+unfolding unclaimed writtenWith
+unclaimed-with t vs log =
+    rw (
+      arguments-over (claims (λ n. []) zeroTotals) (claims digits t) (claims-cover (λ n. []) zeroTotals t) entries (log .arguments),
+      unclaimed-records vs (log .records),
+    )
+
+pub writing-changes-only-the-named : WritingChangesOnlyTheNamed
+writing-changes-only-the-named log =
+    rw (written-with base log) (unclaimed-with (totalsOfLog base log) (verdictsOfLog base log) log)
+
+-- The points change on duplicates alone.
+points-at : (vs : List Verdict) (qs : List Qso) (j : ℕ) (v : Verdict) (e : Qso) →
+    ((getD vs j v) .class ≡ Duplicate → ⊥) →
+    (getD (writtenRecords vs qs) j e) .points ≡ (getD qs j e) .points
+unfolding writtenRecords writtenRecord
+points-at [] qs j v e f = refl
+points-at (w ∷ vs) [] j v e f = refl
+points-at (w ∷ vs) (q ∷ qs) zero v e f = rw (is-false (is Duplicate (w .class)) (λ t. f (is→equal Duplicate (w .class) t)))
+points-at (w ∷ vs) (q ∷ qs) (suc j) v e f = points-at vs qs j v e f
+
+pub writing-keeps-points : WritingKeepsPoints
+unfolding writtenBack verdictsOfLog
+writing-keeps-points log j f = points-at (verdicts base (log .records)) (log .records) j _ _ f
