@@ -5,4 +5,5 @@ pub mod LineLaws
 pub mod FieldLaws
 pub mod WalkLaws
 pub mod Format
+pub mod Refusals
 pub mod TableHolds
