@@ -3,7 +3,9 @@ pub mod TextLaws
 pub mod NumberLaws
 pub mod LineLaws
 pub mod FieldLaws
+pub mod LogLaws
 pub mod WalkLaws
 pub mod Format
 pub mod Refusals
+pub mod Struck
 pub mod TableHolds
