@@ -8,4 +8,5 @@ pub mod WalkLaws
 pub mod Format
 pub mod Refusals
 pub mod Struck
+pub mod WritingLaws
 pub mod TableHolds
