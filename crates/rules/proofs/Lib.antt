@@ -3,8 +3,12 @@ pub mod TextLaws
 pub mod NumberLaws
 pub mod LineLaws
 pub mod FieldLaws
+pub mod LogLaws
 pub mod WalkLaws
 pub mod Format
+pub mod Refusals
+pub mod Struck
+pub mod WritingLaws
 pub mod TableHolds
 pub mod Classes
 pub mod Passing

@@ -168,3 +168,14 @@ digits-value (c ∷ s) e =
         let v : 1 ≤ 0 + (c - 48) = omega (arith, ne) in
         let back : 48 + (0 + (c - 48)) ≡ c = omega arith in
         digits-after (0 + (c - 48)) s v (and-r (digit c) (all digit s) g) ∙ rw (digits-small (0 + (c - 48)) (omega arith), back)
+
+-- A smaller number has no more digits.
+pub digits-shorter : (n m : ℕ) → m ≤ n → length (digits m) ≤ length (digits n)
+digits-shorter =
+    by-tenths (λ n. (m : ℕ) → m ≤ n → length (digits m) ≤ length (digits n))
+    (λ n h m g. let l : m < 10 = omega arith in rw (digits-small n h, digits-small m l) (omega arith))
+    (λ n h more m g.
+    ⊎-elim
+    (λ (e : Small m). rw (digits-large n h, digits-small m (e .1)) (simp length-append (omega arith)))
+    (λ (e : Large m). rw (digits-large n h, digits-large m (e .1)) (simp length-append (omega (arith, more (m / 10) (omega arith)))))
+    (size m))
