@@ -1,11 +1,11 @@
 -- Each class and each mark is the one that the document defines, and the four counts add up to the number of records.
 -- Assumes nothing.
-use Prim.Native.Nat.{ℕ, zero, suc, _+_, _≤_, _<_, zero-le, suc-le-suc}
+use Prim.Native.Nat.{ℕ, zero, suc, _+_, _<_, zero-le, suc-le-suc}
 use native.Mathlib.Nat.{le-of-suc-le-suc, not-suc-le-zero}
 use native.Mathlib.Omega.{arith}
 use mathlib.Core.Path.{_≡_, refl, sym, ap, _∙_}
 use mathlib.Core.Logic.{_⊎_, inl, inr, ⊎-elim, _↔_}
-use mathlib.Core.Bool.{Bool, true, false, cond, not, _&&_, _||_}
+use mathlib.Core.Bool.{Bool, true, false, cond, not, _&&_}
 use mathlib.Core.List.{List, [], _∷_}
 use lib.Dec.{T}
 use lib.ListN.{length, getD}
@@ -16,8 +16,8 @@ use Rattle.rules.specs.Rules.{Rules, base}
 use Rattle.rules.specs.Text.{Text, same, empty}
 use Rattle.rules.specs.Fields.{Qso, isError}
 use Rattle.rules.specs.Log.{Log}
-use Rattle.rules.specs.Judging.{classNumber, is, some, claimsPoints, classOf, square, isNew, claimsCountry, countOf, verdictOf, creditedAfter, verdictsAfter, verdicts, declared, totalsOf, totals, totalsOfLog}
-use Rattle.rules.specs.Demands.{FourCountsAddUp, ClassesAndMarksAsDefined, AsTheDocumentDefines, SomeEarlierCredited, sameCallAs, sameSquareAs, sameExchangeAs, qsoAt, verdictAt, classAt}
+use Rattle.rules.specs.Judging.{classNumber, is, some, claimsPoints, classOf, square, isNew, claimsCountry, countOf, verdictOf, creditedAfter, verdictsAfter, verdicts, totalsOf, totals, totalsOfLog}
+use Rattle.rules.specs.Demands.{FourCountsAddUp, ClassesAndMarksAsDefined, AsTheDocumentDefines, SomeEarlierCredited, sameCallAs, qsoAt, verdictAt, classAt}
 use Rattle.rules.proofs.Passing.{both, first, second, one-of, left, right, failed, decided}
 
 -- A class is one of the four.

@@ -1,16 +1,16 @@
 -- The number of new texts in a list: striking makes it no greater, and it falls by no more than what is struck.
 -- Assumes nothing.
-use Prim.Native.Nat.{ℕ, zero, suc, _+_, _≤_, _<_}
+use Prim.Native.Nat.{ℕ, _+_, _≤_}
 use native.Mathlib.Omega.{arith}
-use mathlib.Core.Path.{_≡_, refl, sym, ap, _∙_}
-use mathlib.Core.Logic.{_⊎_, inl, inr, ⊎-elim, _↔_}
+use mathlib.Core.Path.{_≡_, refl, sym}
+use mathlib.Core.Logic.{⊎-elim, _↔_}
 use mathlib.Core.Bool.{Bool, true, false, cond, not, _&&_, _||_}
 use mathlib.Core.List.{List, [], _∷_}
 use lib.Dec.{T}
 use Rattle.rules.specs.Text.{Text, same, empty}
 use Rattle.rules.specs.Arguments.{among}
 use Rattle.rules.specs.Striking.{Places, later, kept}
-use Rattle.rules.proofs.Passing.{both, first, second, left, right, failed, decided, is-false, equal-tests, same→equal, equal→same}
+use Rattle.rules.proofs.Passing.{failed, decided, equal-tests, same→equal, equal→same}
 
 -- A text that is not empty and was not seen before is new.
 unfoldable pub fresh : List Text → Text → Bool

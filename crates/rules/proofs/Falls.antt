@@ -1,27 +1,27 @@
 -- Striking, in sum: where no duplicate claims points the total does not rise, and falls by no more than what is struck is worth.
 -- Assumes nothing.
-use Prim.Native.Nat.{ℕ, zero, suc, _+_, _*_, _≤_, _<_, suc-le-suc, zero-le}
+use Prim.Native.Nat.{ℕ, suc, _+_, _*_, _≤_, _<_, suc-le-suc, zero-le}
 use native.Mathlib.Nat.{add-mul, mul-le-mul-right}
 use native.Mathlib.Omega.{arith}
-use mathlib.Core.Path.{_≡_, refl, sym, ap, _∙_}
-use mathlib.Core.Logic.{_⊎_, inl, inr, ⊎-elim, _↔_}
-use mathlib.Core.Bool.{Bool, true, false, cond, not, _&&_, _||_}
+use mathlib.Core.Path.{_≡_, refl, sym, _∙_}
+use mathlib.Core.Logic.{⊎-elim}
+use mathlib.Core.Bool.{Bool, true, false, cond, not, _&&_}
 use mathlib.Core.List.{List, [], _∷_, map}
 use lib.Dec.{T}
 use lib.ListN.{length, getD}
 use Rattle.rules.specs.declared.Class.{Class}
-use Rattle.rules.specs.declared.Class.the-variants.{Credited, Void, Duplicate, Error}
+use Rattle.rules.specs.declared.Class.the-variants.{Credited, Void, Duplicate}
 use Rattle.rules.specs.declared.Verdict.{Verdict}
-use Rattle.rules.specs.Text.{Text, same, empty, value}
+use Rattle.rules.specs.Text.{Text, same, value}
 use Rattle.rules.specs.Rules.{Rules, base}
 use Rattle.rules.specs.Fields.{Qso, isError}
 use Rattle.rules.specs.Arguments.{among}
-use Rattle.rules.specs.Log.{Log, valid}
+use Rattle.rules.specs.Log.{Log}
 use Rattle.rules.specs.Judging.{Declared, declared, multipliers, is, some, classOf, claimsPoints, square, isNew, claimsCountry, verdictOf, creditedAfter, verdictsAfter, verdicts, verdictsOfLog, countOf, creditedPoints, totalsOf, totals, totalsOfLog}
-use Rattle.rules.specs.Striking.{Places, later, kept, strike, placeAfter, struckWorth}
-use Rattle.rules.specs.Demands.{sameCallAs, qsoAt, classAt, DuplicatesClaimNothing, StrikesCheaply, SamenessOfCalls, StrikingRuleForAnySameness, StrikingRuleForTheBase}
-use Rattle.rules.proofs.Passing.{both, first, second, left, right, one-of, failed, decided, equal-tests, same→equal, equal→same}
-use Rattle.rules.proofs.Classes.{is→equal, classBy, by-duplicate, by-credited}
+use Rattle.rules.specs.Striking.{Places, later, kept, strike, struckWorth}
+use Rattle.rules.specs.Demands.{DuplicatesClaimNothing, StrikesCheaply, SamenessOfCalls, StrikingRuleForAnySameness, StrikingRuleForTheBase}
+use Rattle.rules.proofs.Passing.{both, first, second, left, right, one-of, failed, equal-tests, same→equal, equal→same}
+use Rattle.rules.proofs.Classes.{is→equal, by-duplicate, by-credited}
 use Rattle.rules.proofs.Distinct.{tally, fresh, news, lost, news-fall, news-kept}
 use Rattle.rules.proofs.Strikes.{nothing-promoted, strikes-rightly}
 

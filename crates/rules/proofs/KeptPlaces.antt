@@ -1,16 +1,14 @@
 -- What is left of a list once places are struck: which place each of what is left had before.
 -- Assumes nothing.
-use Prim.Native.Nat.{ℕ, zero, suc, _+_, _≤_, _<_, zero-le, suc-le-suc}
+use Prim.Native.Nat.{ℕ, zero, suc, _+_, _<_, zero-le, suc-le-suc}
 use native.Mathlib.Nat.{le-of-suc-le-suc, not-suc-le-zero, zero-add}
 use native.Mathlib.Omega.{arith}
-use mathlib.Core.Path.{_≡_, refl, sym, ap, _∙_}
-use mathlib.Core.Logic.{_⊎_, inl, inr, ⊎-elim}
+use mathlib.Core.Path.{_≡_, refl, _∙_}
 use mathlib.Core.Bool.{Bool, true, false, cond, not}
 use mathlib.Core.List.{List, [], _∷_}
 use lib.Dec.{T}
 use lib.ListN.{length, getD}
 use Rattle.rules.specs.Striking.{Places, later, kept, placeAfter}
-use Rattle.rules.proofs.Tests.{holds}
 use Rattle.rules.proofs.Passing.{is-not}
 
 one-more : (n : ℕ) → 1 + n ≡ suc n

@@ -6,7 +6,7 @@ use mathlib.Core.Bool.{Bool, true, false, not, _&&_, _||_}
 use lib.Dec.{T}
 use Rattle.rules.specs.Text.{Text, same}
 use Rattle.rules.proofs.Tests.{so, holds}
-use Rattle.rules.proofs.TextLaws.{same-refl, same-eq, same-of-eq}
+use Rattle.rules.proofs.TextLaws.{same-eq, same-of-eq}
 
 -- Both of two tests.
 pub both : (a b : Bool) → T a → T b → T (a && b)

@@ -1,6 +1,6 @@
 -- Some accepted log has a total that rises by a strike: a duplicate that claims points is promoted, and brings a square of its own.
 -- Assumes nothing.
-use Prim.Native.Nat.{ℕ, zero, suc}
+use Prim.Native.Nat.{zero, suc}
 use mathlib.Core.Path.{_≡_, refl}
 use mathlib.Core.Bool.{true, false}
 use mathlib.Core.List.{[]}

@@ -1,20 +1,20 @@
 -- Striking, record by record: what is still credited and what becomes credited, over any sameness of calls.
 -- Assumes nothing.
-use Prim.Native.Nat.{ℕ, zero, suc, _≤_, _<_}
+use Prim.Native.Nat.{ℕ, _<_}
 use native.Mathlib.Omega.{arith}
-use mathlib.Core.Path.{_≡_, refl, sym, ap, _∙_}
-use mathlib.Core.Logic.{_⊎_, inl, inr, ⊎-elim, _↔_}
-use mathlib.Core.Bool.{Bool, true, false, cond, not, _&&_, _||_}
-use mathlib.Core.List.{List, [], _∷_}
+use mathlib.Core.Path.{_≡_, sym, ap, _∙_}
+use mathlib.Core.Logic.{⊎-elim, _↔_}
+use mathlib.Core.Bool.{not}
+use mathlib.Core.List.{List}
 use lib.Dec.{T}
-use lib.ListN.{length, getD}
+use lib.ListN.{length}
 use Rattle.rules.specs.declared.Class.the-variants.{Credited, Duplicate}
 use Rattle.rules.specs.Rules.{Rules}
 use Rattle.rules.specs.Fields.{Qso, isError}
 use Rattle.rules.specs.Log.{Log, valid}
 use Rattle.rules.specs.Judging.{claimsPoints}
 use Rattle.rules.specs.Striking.{Places, kept, strike, placeAfter}
-use Rattle.rules.specs.Demands.{SomeEarlierCredited, sameCallAs, qsoAt, classAt, classStruck, EveryEarlierClaimIsStruck, StrikesRightly, DuplicatesClaimNothing, SamenessOfCalls}
+use Rattle.rules.specs.Demands.{SomeEarlierCredited, sameCallAs, qsoAt, classAt, StrikesRightly, SamenessOfCalls}
 use Rattle.rules.proofs.Passing.{failed, decided}
 use Rattle.rules.proofs.ValidLogs.{rules-of, points-ruled, error-claims-nothing, records-valid}
 use Rattle.rules.proofs.Classes.{as-defined, credited-or-repeats}

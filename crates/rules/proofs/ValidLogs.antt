@@ -3,16 +3,18 @@
 use Prim.Native.Nat.{ℕ, zero, suc, _≤_, _<_}
 use native.Mathlib.Nat.{le-of-suc-le-suc, not-suc-le-zero}
 use mathlib.Core.Logic.{⊎-elim}
-use mathlib.Core.Bool.{Bool, true, not, _&&_, _||_}
+use mathlib.Core.Bool.{Bool, true, not, _||_}
 use mathlib.Core.List.{List, [], _∷_}
-use lib.Dec.{T, leb, leb→le}
+use lib.Dec.{T}
 use lib.ListN.{length, getD}
 use Rattle.rules.specs.Text.{bytes, same, value, valueAfter, numberOf}
 use Rattle.rules.specs.Rules.{Rules}
 use Rattle.rules.specs.Fields.{Qso, isError, pointsRule, fieldRules}
-use Rattle.rules.specs.Arguments.{entries, every}
-use Rattle.rules.specs.Log.{Log, conjunction, recordRules, valid, lineRule, linesOf, argumentRules, remarkRule, render}
+use Rattle.rules.specs.Arguments.{entries}
+use Rattle.rules.specs.Log.{Log, conjunction, recordRules, valid, argumentRules}
 use Rattle.rules.specs.Judging.{claimsPoints}
+use Rattle.rules.proofs.Tests.{so, holds, le-of-test}
+use Rattle.rules.proofs.Format.{of-valid}
 use Rattle.rules.proofs.Passing.{first, second, one-of, failed, same→equal}
 
 -- A rule of a list of rules.
@@ -45,33 +47,11 @@ module _ (R : Rules) where
       (one-of (not (isError q)) (same (q .points) (bytes "0")) (second (numberOf (R .pointsDigits) (q .points)) (not (isError q) || same (q .points) (bytes "0")) r))
 
   module _ (log : Log) (v : T (valid R log)) where
-    abbrev shape : Bool
-    shape = leb (length (render log)) (R .longestLog) && every (lineRule R) (linesOf log)
-
-    abbrev ruled : Bool
-    ruled = argumentRules R entries (log .arguments)
-
-    abbrev remarked : Bool
-    remarked = every remarkRule (log .remarks)
-
-    abbrev counted : Bool
-    counted = leb (length (log .records)) (R .mostRecords)
-
-    pub arguments-valid : T ruled
-    unfolding valid
-    arguments-valid =
-        second shape ruled
-        (first (shape && ruled) remarked
-        (first (shape && ruled && remarked) counted
-        (first (shape && ruled && remarked && counted) (recordRules R (log .records)) v)))
+    pub arguments-valid : T (argumentRules R entries (log .arguments))
+    arguments-valid = holds (of-valid R log (so (valid R log) v) .rulesOfArguments)
 
     pub count-valid : length (log .records) ≤ R .mostRecords
-    unfolding valid
-    count-valid =
-        leb→le (length (log .records)) (R .mostRecords)
-        (second (shape && ruled && remarked) counted
-        (first (shape && ruled && remarked && counted) (recordRules R (log .records)) v))
+    count-valid = le-of-test (length (log .records)) (R .mostRecords) (of-valid R log (so (valid R log) v) .fits)
 
     pub records-valid : T (recordRules R (log .records))
-    unfolding valid
-    records-valid = second (shape && ruled && remarked && counted) (recordRules R (log .records)) v
+    records-valid = holds (of-valid R log (so (valid R log) v) .rules)

@@ -39,7 +39,7 @@ unfolding recounted
 recounted-again new later t e = ap (λ (ts : List Text). joined (later ∷ drop 1 ts)) (parts-recounted new t e)
 
 -- The claims of the second list leave nothing of those of the first.
-abbrev Undo : List Claim → List Claim → Type 0
+abbrev pub Undo : List Claim → List Claim → Type 0
 Undo [] [] = Unit {0}
 Undo [] (d ∷ ds) = ⊥
 Undo (c ∷ cs) [] = ⊥
@@ -57,36 +57,37 @@ claimed-again (c ∷ cs) (d ∷ ds) keyword t u = rw (u .0) (by (claimed-again c
     by more true = u .1 t
     by more false = more
 
-arguments-again : (cs ds : List Claim) (es : List Entry) (ts : List Text) → Undo cs ds → writtenArguments ds es (writtenArguments cs es ts) ≡ writtenArguments ds es ts
+pub arguments-again : (cs ds : List Claim) (es : List Entry) (ts : List Text) → Undo cs ds → writtenArguments ds es (writtenArguments cs es ts) ≡ writtenArguments ds es ts
 unfolding writtenArguments
 arguments-again cs ds [] ts u = refl
 arguments-again cs ds (e ∷ es) [] u = refl
 arguments-again cs ds (e ∷ es) (t ∷ ts) u =
     ap₂ {C = List Text} (λ x xs. x ∷ xs) (claimed-again cs ds (e .keyword) t u) (arguments-again cs ds es ts u)
 
-no-claims : (t u : Totals) → Undo (claims digits t) (claims (λ n. []) u)
+-- Whatever words the later claims are in.
+pub later-claims : (inWords : ℕ → Text) (t u : Totals) → Undo (claims digits t) (claims inWords u)
 unfolding claims
-no-claims t u = (
+later-claims inWords t u = (
   refl,
-  again (t .credited),
+  again (inWords (u .credited)) (t .credited),
   (
     refl,
     λ s. refl,
     (
       refl,
-      again (t .squares),
+      again (inWords (u .squares)) (t .squares),
       (
         refl,
         λ s. refl,
         (
           refl,
-          again (t .exchanges),
+          again (inWords (u .exchanges)) (t .exchanges),
           (
             refl,
             λ s. refl,
             (
               refl,
-              again (t .countries),
+              again (inWords (u .countries)) (t .countries),
               (
                 refl,
                 λ s. refl,
@@ -100,8 +101,8 @@ no-claims t u = (
   ),
 )
   where
-    again : (n : ℕ) (s : Text) → recounted [] (recounted (digits n) s) ≡ recounted [] s
-    again n s = recounted-again (digits n) [] s (digits-plain (digits n) (digits-all n))
+    again : (later : Text) (n : ℕ) (s : Text) → recounted later (recounted (digits n) s) ≡ recounted later s
+    again later n s = recounted-again (digits n) later s (digits-plain (digits n) (digits-all n))
 
 records-again : (vs : List Verdict) (qs : List Qso) → map unclaimedRecord (writtenRecords vs qs) ≡ map unclaimedRecord qs
 unfolding writtenRecords unclaimedRecord
@@ -113,7 +114,7 @@ pub writing-changes : WritingChangesOnlyTheNamed
 unfolding unclaimed writtenBack
 writing-changes log =
     ap₂ (λ (ts : List Text) (qs : List Qso). record { arguments = ts; remarks = log .remarks; records = qs })
-    (arguments-again (claims digits (totalsOfLog base log)) (claims (λ n. []) zeroTotals) entries (log .arguments) (no-claims (totalsOfLog base log) zeroTotals))
+    (arguments-again (claims digits (totalsOfLog base log)) (claims (λ n. []) zeroTotals) entries (log .arguments) (later-claims (λ n. []) (totalsOfLog base log) zeroTotals))
     (records-again (verdictsOfLog base log) (log .records))
 
 -- Points.

@@ -1,17 +1,15 @@
 -- Writing back, record by record: the written records are judged as those they were written from, and are written back unchanged.
 -- Assumes nothing.
-use Prim.Native.Nat.{ℕ, zero, suc, _+_}
-use mathlib.Core.Path.{_≡_, refl, sym, ap, ap₂, _∙_}
-use mathlib.Core.Bool.{Bool, true, false, cond, not, _&&_, _||_}
-use mathlib.Core.List.{List, [], _∷_, map}
-use lib.Dec.{T, eqb}
-use lib.ListN.{length, getD, take}
+use mathlib.Core.Path.{_≡_, refl, ap, _∙_}
+use mathlib.Core.Bool.{Bool, true, false, cond, _&&_}
+use mathlib.Core.List.{List, [], _∷_}
+use lib.ListN.{take}
 use Rattle.rules.specs.declared.Class.{Class}
-use Rattle.rules.specs.declared.Class.the-variants.{Credited, Void, Duplicate, Error}
+use Rattle.rules.specs.declared.Class.the-variants.{Credited, Duplicate}
 use Rattle.rules.specs.declared.Verdict.{Verdict}
-use Rattle.rules.specs.Text.{Text, bytes, same, empty, value}
-use Rattle.rules.specs.Rules.{Rules, base}
-use Rattle.rules.specs.Fields.{Qso, isError, newMark, duplicateMark}
+use Rattle.rules.specs.Text.{Text, bytes, same}
+use Rattle.rules.specs.Rules.{Rules}
+use Rattle.rules.specs.Fields.{Qso, isError}
 use Rattle.rules.specs.Log.{Log}
 use Rattle.rules.specs.Judging.{is, classNumber, some, classOf, claimsPoints, square, isNew, claimsCountry, verdictOf, creditedAfter, verdictsAfter, verdicts, verdictsOfLog}
 use Rattle.rules.specs.Writing.{writtenRecord, writtenRecords, writtenBack}
