@@ -20,3 +20,4 @@ pub mod Falls
 pub mod PremiseNeeded
 pub mod WrittenVerdicts
 pub mod WrittenClaims
+pub mod Bounds
