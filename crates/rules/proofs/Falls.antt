@@ -302,7 +302,7 @@ module _ (R : Rules) where
         clean-countries R [] qs c,
       )
 
-  module _ (L : SamenessOfCalls R) (log : Log) (struck : Places) (none : DuplicatesClaimNothing R log) where
+  module _ (log : Log) (struck : Places) (none : DuplicatesClaimNothing R log) where
     before-clean : Clean R [] (log .records)
     unfolding verdicts
     before-clean = clean R [] (log .records) _ _ none
@@ -326,7 +326,7 @@ module _ (R : Rules) where
         let d = declared log in
         let qs = log .records in
         record {
-          nothingPromoted = λ j h n c. nothing-promoted R L qs struck j h n (none j h) c;
+          nothingPromoted = λ j h n c. nothing-promoted R qs struck j h n (none j h) c;
           doesNotRise = rw (total-before, total-after) (mul-le-mul-right (multipliers d) (sum-does-not-rise d struck qs));
           fallIsBounded =
               rw (total-before, total-after, struck-worth R d struck [] qs before-clean, ← add-mul)
@@ -335,7 +335,7 @@ module _ (R : Rules) where
 
 pub striking-rule-for-any-sameness : StrikingRuleForAnySameness
 striking-rule-for-any-sameness R L log struck v =
-    (strikes-rightly R L log struck v, strikes-cheaply R L log struck)
+    (strikes-rightly R (L .transitive) log struck v, strikes-cheaply R log struck)
 
 -- "byte for byte" is a sameness of calls.
 pub sameness-of-base : SamenessOfCalls base
