@@ -15,7 +15,7 @@ use Rattle.rules.specs.Fields.{dayExists, fullYear, shortDate, timeOfDay
 use Rattle.rules.specs.Arguments.{every}
 use Rattle.rules.specs.Log.{recordLine, lineRule, conjunction}
 use Rattle.rules.specs.Reading.{RecordRule, keeps, breaks, firstBroken, recordRule}
-use Rattle.rules.proofs.Tests.{either, clash, and-l, and-r, and-i, or-cases, or-l, or-r, not-true, not-false, le-of-test, test-of-le, eq-of-test, test-of-eq, test-of-unequal}
+use Rattle.rules.proofs.Tests.{never, either, clash, and-l, and-r, and-i, or-cases, or-l, or-r, not-true, not-false, le-of-test, test-of-le, eq-of-test, test-of-eq, test-of-unequal}
 use Rattle.rules.proofs.TextLaws.{all-append, all-halves, all-weaker, same-eq, plain, parts-joined, joined-parts}
 
 -- What a field may hold: an allowed character that is no semicolon.
@@ -78,7 +78,7 @@ digits-plain t e = fits-plain (digits-fit (length t) t e (omega arith))
 empty-fits : (most : ℕ) (t : Text) → empty t ≡ true → Fits most t
 unfolding all
 empty-fits most [] e = record { clean = refl; short = omega arith }
-empty-fits most (c ∷ t) e = clash refl (sym e)
+empty-fits most (c ∷ t) e = never e
 
 emptyOr-fits : (most : ℕ) (rule : Text → Bool) → ((t : Text) → rule t ≡ true → Fits most t) → (t : Text) → emptyOr rule t ≡ true → Fits most t
 unfolding emptyOr

@@ -9,4 +9,5 @@ pub mod Format
 pub mod Refusals
 pub mod Struck
 pub mod WritingLaws
+pub mod WrittenValid
 pub mod TableHolds
