@@ -9,6 +9,7 @@ pub mod Format
 pub mod Refusals
 pub mod Struck
 pub mod WritingLaws
+pub mod WrittenValid
 pub mod TableHolds
 pub mod Classes
 pub mod Passing

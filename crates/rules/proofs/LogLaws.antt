@@ -12,8 +12,9 @@ use Rattle.rules.specs.Rules.{Rules}
 use Rattle.rules.specs.Arguments.{entries, every}
 use Rattle.rules.specs.Log.{Log, identifier, remarksLine, countStart, countLine, keywordLines, recordLine, linesOf, crlf, ended, lineRule}
 use Rattle.rules.proofs.Tests.{and-l, and-r, and-i, le-of-test, test-of-le}
-use Rattle.rules.proofs.TextLaws.{all-append, all-weaker}
+use Rattle.rules.proofs.TextLaws.{all-append}
 use Rattle.rules.proofs.NumberLaws.{digits-all, digits-shorter}
+use Rattle.rules.proofs.FieldLaws.{digits-fit, fits-allowed}
 
 -- Of every text of two lists.
 module _ (f : Text → Bool) where
@@ -62,14 +63,8 @@ unfolding linesOf front
 lines-split log = refl
 
 -- The count line of fewer records is a line too.
-digit-allowed : (c : ℕ) → digit c ≡ true → allowed c ≡ true
-digit-allowed c e =
-    let low : 48 ≤ c = le-of-test 48 c (and-l (leb 48 c) (leb c 57) e) in
-    let high : c ≤ 57 = le-of-test c 57 (and-r (leb 48 c) (leb c 57) e) in
-    and-i (test-of-le 32 c (omega arith)) (test-of-le c 127 (omega arith))
-
 pub digits-allowed : (t : Text) → all digit t ≡ true → all allowed t ≡ true
-digits-allowed t e = all-weaker digit allowed digit-allowed t e
+digits-allowed t e = fits-allowed (digits-fit (length t) t e (omega arith))
 
 count-allowed : (n : ℕ) → all allowed (countLine n) ≡ true
 unfolding countLine

@@ -10,7 +10,7 @@ use lib.ListN.{length, length-append}
 use native.Mathlib.Nat.{pow-suc}
 use native.Mathlib.Omega.{arith}
 use Rattle.rules.specs.Text.{Text, bytes, digit, empty, all, same, begins, valueAfter, value, number, numberOf, numberFrom, digitsWithin, digits}
-use Rattle.rules.proofs.Tests.{either, clash, fails, and-l, and-r, and-i, or-cases, or-l, or-r, not-true, not-false, le-of-test, test-of-le, lt-of-failed, eq-of-test, test-of-eq, test-of-unequal}
+use Rattle.rules.proofs.Tests.{never, either, clash, fails, and-l, and-r, and-i, or-cases, or-l, or-r, not-true, not-false, le-of-test, test-of-le, lt-of-failed, eq-of-test, test-of-eq, test-of-unequal}
 use Rattle.rules.proofs.TextLaws.{all-append, same-eq, same-refl}
 
 -- Fewer than ten, or not.
@@ -149,7 +149,7 @@ digits-after v (c ∷ s) h e =
 
 pub digits-value : (t : Text) → number t ≡ true → digits (value t) ≡ t
 unfolding number value valueAfter all begins digits digitsWithin
-digits-value [] e = clash refl (sym e)
+digits-value [] e = never e
 digits-value (c ∷ s) e =
     let q = all digit (c ∷ s) in
     let a = same (c ∷ s) (bytes "0") in
@@ -179,3 +179,33 @@ digits-shorter =
     (λ (e : Small m). rw (digits-large n h, digits-small m (e .1)) (simp length-append (omega arith)))
     (λ (e : Large m). rw (digits-large n h, digits-large m (e .1)) (simp length-append (omega (arith, more (m / 10) (omega arith)))))
     (size m))
+
+-- The digits of a number within bounds keep the rule of such a number; and such a number has room.
+pub digits-from : (least most n : ℕ) → least ≤ n → n ≤ most → numberFrom least most (digits n) ≡ true
+unfolding numberFrom
+digits-from least most n h g =
+    and-i (and-i (digits-number n) (rw (value-digits n) (test-of-le least n h))) (rw (value-digits n) (test-of-le n most g))
+
+pub digits-of : (k n : ℕ) → n < 10 ^ suc k → numberOf (suc k) (digits n) ≡ true
+unfolding numberOf
+digits-of k n h = and-i (digits-number n) (test-of-le (length (digits n)) (suc k) (digits-length k n h))
+
+pub record From (least most : ℕ) (t : Text) : Type 0 where
+  pub isNumber : number t ≡ true
+  pub low : least ≤ value t
+  pub high : value t ≤ most
+
+pub number-from : (least most : ℕ) (t : Text) → numberFrom least most t ≡ true → From least most t
+unfolding numberFrom
+number-from least most t e =
+    let a = number t in
+    let b = leb least (value t) in
+    let c = leb (value t) most in
+    record {
+      isNumber = and-l a b (and-l (a && b) c e);
+      low = le-of-test least (value t) (and-r a b (and-l (a && b) c e));
+      high = le-of-test (value t) most (and-r (a && b) c e);
+    }
+
+pub number-length : (k : ℕ) (t : Text) → number t ≡ true → value t < 10 ^ suc k → length t ≤ suc k
+number-length k t e h = rw (digits-value t e) at (digits-length k (value t) h)

@@ -26,6 +26,9 @@ fails false f = refl
 pub clash : {b : Bool} {A : Type 0} → b ≡ true → b ≡ false → A
 clash e f = absurd (true≢false (rw e at f))
 
+pub never : {A : Type 0} → false ≡ true → A
+never e = absurd (false≢true e)
+
 -- Of two tests.
 pub and-l : (a b : Bool) → (a && b) ≡ true → a ≡ true
 and-l true b e = refl

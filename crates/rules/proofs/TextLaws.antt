@@ -9,7 +9,7 @@ use lib.Dec.{leb, eqb}
 use lib.ListN.{length, take, drop, length-append, take-append-drop}
 use Rattle.rules.specs.Text.{Text, semicolon, all, span, same, begins, before, parts, joined}
 use Rattle.rules.specs.Arguments.{every}
-use Rattle.rules.proofs.Tests.{either, clash, fails, and-l, and-r, and-i, not-true, not-false, eq-of-test, test-of-eq}
+use Rattle.rules.proofs.Tests.{never, either, clash, fails, and-l, and-r, and-i, not-true, not-false, eq-of-test, test-of-eq}
 
 -- Every character passes a test.
 module _ (f : ℕ → Bool) where
@@ -58,8 +58,8 @@ same-refl (c ∷ s) = and-i (test-of-eq c c refl) (same-refl s)
 pub same-eq : (s t : Text) → same s t ≡ true → s ≡ t
 unfolding same
 same-eq [] [] e = refl
-same-eq [] (d ∷ t) e = clash refl (sym e)
-same-eq (c ∷ s) [] e = clash refl (sym e)
+same-eq [] (d ∷ t) e = never e
+same-eq (c ∷ s) [] e = never e
 same-eq (c ∷ s) (d ∷ t) e =
     let head : c ≡ d = eq-of-test c d (and-l (eqb c d) (same s t) e) in
     let tail : s ≡ t = same-eq s t (and-r (eqb c d) (same s t) e) in
@@ -77,7 +77,7 @@ begins-front (c ∷ s) t = and-i (test-of-eq c c refl) (begins-front s t)
 pub begins-split : (s t : Text) → begins s t ≡ true → t ≡ s ++ drop (length s) t
 unfolding begins
 begins-split [] t e = refl
-begins-split (c ∷ s) [] e = clash refl (sym e)
+begins-split (c ∷ s) [] e = never e
 begins-split (c ∷ s) (d ∷ t) e =
     let head : c ≡ d = eq-of-test c d (and-l (eqb c d) (begins s t) e) in
     let tail : t ≡ s ++ drop (length s) t = begins-split s t (and-r (eqb c d) (begins s t) e) in

@@ -21,9 +21,9 @@ use Rattle.rules.specs.Fields.{Qso, qsoOf, fieldsOf, fieldRules}
 use Rattle.rules.specs.Arguments.{Entry, entries, meets, every}
 use Rattle.rules.specs.Log.{Log, identifier, remarksLine, countStart, countLine, keywordStart, keywordLines, recordLine, linesOf, argumentRules, remarkRule, conjunction, recordRules}
 use Rattle.rules.specs.Reading.{RecordRule, keeps, breaks, recordRule, recordsDue, whole, argumentOn, keywordLine, keywordDue, countRule, afterRecord, step, Reading, accepted, refused, atRest, argumentDue, withLine, put, onNext, walk}
-use Rattle.rules.proofs.Tests.{either, clash, and-l, and-r, and-i, or-cases, not-true, not-false, le-of-test, test-of-le, eq-of-test, test-of-eq}
+use Rattle.rules.proofs.Tests.{never, either, clash, and-l, and-r, and-i, or-cases, not-true, not-false, le-of-test, test-of-le, eq-of-test, test-of-eq}
 use Rattle.rules.proofs.TextLaws.{span-all, span-run, same-eq, same-refl, begins-front, begins-split}
-use Rattle.rules.proofs.NumberLaws.{value-digits, digits-all, digits-number, digits-value}
+use Rattle.rules.proofs.NumberLaws.{value-digits, digits-all, digits-value, digits-from, number-from}
 use Rattle.rules.proofs.FieldLaws.{parts-of-record, record-kept, record-is, record-of-fields}
 
 -- A refusal is no log.
@@ -151,17 +151,13 @@ module _ (R : Rules) where
   unfolding countRule
   count-at t n e = ap (λ (k : ℕ). cond (numberFrom 0 (R .mostRecords) (take k t) && same (drop k t) (bytes "]")) (Goes (recordsDue (value (take k t)))) (Stops 4 0)) e
 
-  count-number : (m : ℕ) → leb m (R .mostRecords) ≡ true → numberFrom 0 (R .mostRecords) (digits m) ≡ true
-  unfolding numberFrom
-  count-number m e = and-i (and-i (digits-number m) (test-of-le 0 (value (digits m)) (omega arith))) (rw (value-digits m) e)
-
   count-goes : (m : ℕ) → leb m (R .mostRecords) ≡ true → countRule R (digits m ++ bytes "]") ≡ Goes (recordsDue m)
   count-goes m e =
       let t = digits m ++ bytes "]" in
       let n : span digit t ≡ length (digits m) = span-run digit (digits m) 93 [] (digits-all m) refl in
       let first : take (length (digits m)) t ≡ digits m = take-append-seam (digits m) (bytes "]") in
       let last : drop (length (digits m)) t ≡ bytes "]" = drop-append-seam (digits m) (bytes "]") in
-      count-at t (length (digits m)) n ∙ rw (first, last, count-number m e, same-refl (bytes "]"), value-digits m)
+      count-at t (length (digits m)) n ∙ rw (first, last, digits-from 0 (R .mostRecords) m (omega arith) (le-of-test m (R .mostRecords) e), same-refl (bytes "]"), value-digits m)
 
   step-count : (m : ℕ) → leb m (R .mostRecords) ≡ true → step R Remark (countLine m) ≡ Goes (recordsDue m)
   unfolding step countLine countStart begins
@@ -179,7 +175,7 @@ module _ (R : Rules) where
     due : recordsDue count ≡ next
 
   is-count : (l : Text) (next : Due) → begins countStart l ≡ true → countRule R (drop (length countStart) l) ≡ Goes next → IsCount l next
-  unfolding countRule countLine numberFrom
+  unfolding countRule countLine
   is-count l next b e =
       let t = drop (length countStart) l in
       let n = span digit t in
@@ -187,16 +183,14 @@ module _ (R : Rules) where
       let p = one-test (numberFrom 0 (R .mostRecords) s && same (drop n t) (bytes "]")) (recordsDue (value s)) next 4 0 e in
       let f : numberFrom 0 (R .mostRecords) s ≡ true = and-l (numberFrom 0 (R .mostRecords) s) (same (drop n t) (bytes "]")) (p .0) in
       let g : same (drop n t) (bytes "]") ≡ true = and-r (numberFrom 0 (R .mostRecords) s) (same (drop n t) (bytes "]")) (p .0) in
-      let a = number s in
-      let c = leb 0 (value s) in
-      let d = leb (value s) (R .mostRecords) in
-      let wrote : digits (value s) ≡ s = digits-value s (and-l a c (and-l (a && c) d f)) in
+      let k = number-from 0 (R .mostRecords) s f in
+      let wrote : digits (value s) ≡ s = digits-value s (k .isNumber) in
       record {
         count = value s;
         line = begins-split countStart l b
             ∙ ap (λ (r : Text). countStart ++ r) (sym (take-append-drop n t) ∙ cc (wrote, same-eq (drop n t) (bytes "]") g))
             ∙ sym (append-assoc countStart (digits (value s)) (bytes "]"));
-        fits = and-r (a && c) d f;
+        fits = test-of-le (value s) (R .mostRecords) (k .high);
         due = p .1;
       }
 
@@ -358,8 +352,8 @@ module _ (R : Rules) where
         (unfold step in whole-goes remarksLine Remark)
         (remarks-lead R (n + 1) ms qs remarks fits records)
         ∙ unfold withLine in refl
-    keywords-lead [] k n (t ∷ ts) h e = clash refl (sym e)
-    keywords-lead (w ∷ es) k n [] h e = clash refl (sym e)
+    keywords-lead [] k n (t ∷ ts) h e = never e
+    keywords-lead (w ∷ es) k n [] h e = never e
     keywords-lead (w ∷ es) k n (t ∷ ts) h e =
         let l = keywordStart w ++ t in
         let m : meets R (w .rule) t ≡ true = and-l (meets R (w .rule) t) (argumentRules R es ts) e in
