@@ -21,5 +21,5 @@ pub mod Falls
 pub mod PremiseNeeded
 pub mod WrittenVerdicts
 pub mod WrittenClaims
-pub mod WritingStable
 pub mod Bounds
+pub mod WritingStable

@@ -1,4 +1,4 @@
--- A log that is written back reads to the same classes and total and is written back unchanged, where what is written back is valid.
+-- A log so written reads to the same classes and total and is written back unchanged.
 -- Assumes nothing.
 use Prim.Native.Nat.{ℕ, _≤_}
 use native.Mathlib.Omega.{arith}
@@ -10,12 +10,15 @@ use Rattle.rules.specs.declared.Refusal.{Refusal}
 use Rattle.rules.specs.Text.{Text}
 use Rattle.rules.specs.Rules.{Rules, base}
 use Rattle.rules.specs.Log.{Log, valid, render}
+use Rattle.rules.specs.Judging.{totalsOfLog}
 use Rattle.rules.specs.Writing.{writtenBack}
 use Rattle.rules.specs.Reading.{accepted, refusal, read}
 use Rattle.rules.specs.Answers.{written, unwritten, writeLog, writeReading, write}
 use Rattle.rules.specs.Demands.{WritingBackIsStable}
 use Rattle.rules.proofs.Tests.{and-l, le-of-test, test-of-le}
 use Rattle.rules.proofs.Format.{accepted-exactly}
+use Rattle.rules.proofs.WrittenValid.{HaveRoom, written-valid}
+use Rattle.rules.proofs.Bounds.{base-within}
 use Rattle.rules.proofs.WrittenVerdicts.{written-verdicts}
 use Rattle.rules.proofs.WrittenClaims.{totals-kept, written-twice}
 
@@ -55,21 +58,36 @@ module _ (R : Rules) where
       let wide : leb (length t) room ≡ true = test-of-le (length t) room k in
       write-law room log ∙ rw (e, f, long, wide)
 
--- What is written back of a valid log is valid, if it is not too long.
-abbrev pub WritesValid : Type 0
-WritesValid =
-    (log : Log) →
+-- What a valid log comes to has room in the places of its claims.
+claims-have-room : (log : Log) → T (valid base log) → HaveRoom (totalsOfLog base log)
+claims-have-room log v =
+    let w = base-within log v in
+    record {
+      credited = omega (arith, w .credited);
+      points = omega (arith, w .points);
+      squares = omega (arith, w .squares);
+      squarebonus = omega (arith, w .squarebonus);
+      exchanges = omega (arith, w .exchanges);
+      exchangebonus = omega (arith, w .exchangebonus);
+      countries = omega (arith, w .countries);
+      countrybonus = omega (arith, w .countrybonus);
+      total = omega (arith, w .total);
+    }
+
+writes-valid : (log : Log) →
     T (valid base log) →
     length (render (writtenBack base log)) ≤ base .longestLog →
     T (valid base (writtenBack base log))
+unfolding base
+writes-valid log v h = written-valid log (claims-have-room log v) v h
 
-pub writing-is-stable : WritesValid → WritingBackIsStable
+pub writing-is-stable : WritingBackIsStable
 unfolding fitting
-writing-is-stable valid-when s log room t e w =
+writing-is-stable s log room t e w =
     let back = writtenBack base log in
     let k = wrote (fitting base room (render back)) (render back) t (refusal 8 0 0) (sym (write-law base room log) ∙ sym (write-accepted base room s log e) ∙ w) in
     let short : length (render back) ≤ base .longestLog = le-of-test (length (render back)) (base .longestLog) (and-l (leb (length (render back)) (base .longestLog)) (leb (length (render back)) room) (k .fitted)) in
-    let reads : read base t ≡ accepted back = accepted-exactly t back .1 (valid-when log (accepted-exactly s log .0 e .0) short, k .is) in
+    let reads : read base t ≡ accepted back = accepted-exactly t back .1 (writes-valid log (accepted-exactly s log .0 e .0) short, k .is) in
     record {
       reads = reads;
       sameVerdicts = written-verdicts base log;
