@@ -12,7 +12,7 @@ use Rattle.rules.specs.declared.Class.{Class}
 use Rattle.rules.specs.declared.Class.the-variants.{Credited, Void, Duplicate, Error}
 use Rattle.rules.specs.declared.Verdict.{Verdict}
 use Rattle.rules.specs.declared.Totals.{Totals}
-use Rattle.rules.specs.Text.{Text, bytes, digit, all, same, empty, begins, value, valueAfter, number, numberOf, numberFrom, parts}
+use Rattle.rules.specs.Text.{Text, bytes, digit, all, same, value, valueAfter, number, numberOf, parts}
 use Rattle.rules.specs.Rules.{Rules, base}
 use Rattle.rules.specs.Fields.{Qso, isError, pointsRule, fieldRules}
 use Rattle.rules.specs.Arguments.{Rule, anything, countBonusMultiplier, Entry, entries, each, count, bonus, multiplier, part, meets}
@@ -20,6 +20,8 @@ use Rattle.rules.specs.Log.{Log, argumentIn, argument, argumentRules, co
 use Rattle.rules.specs.Judging.{is, classOf, square, isNew, claimsCountry, verdictOf, creditedAfter, verdictsAfter, verdicts, countOf, creditedPoints, Declared, declared, multipliers, totalsOf, totals, totalsOfLog}
 use Rattle.rules.specs.Demands.{TotalIsBounded}
 use Rattle.rules.proofs.Tests.{so, and-l, and-r, le-of-test}
+use Rattle.rules.proofs.NumberLaws.{number-from}
+use Rattle.rules.proofs.FieldLaws.{number-digits}
 use Rattle.rules.proofs.Passing.{first, second}
 use Rattle.rules.proofs.Format.{accepted-exactly}
 use Rattle.rules.proofs.Classes.{ofClass, length-verdictsAfter}
@@ -41,19 +43,12 @@ value-after-below n (c ∷ s) e =
     lt-of-lt-of-le more (le-trans (mul-le-mul-right power step) (le-of-eq tens))
 
 value-below : (most : ℕ) (s : Text) → T (numberOf most s) → value s < 10 ^ most
-unfolding value numberOf number
+unfolding value numberOf
 value-below most s t =
-    let digits = all digit s in
-    let start = same s (bytes "0") || not (begins (bytes "0") s) in
-    let h = value-after-below 0 s (so digits (second (not (empty s)) digits (first (not (empty s) && digits) start (first (number s) (leb (length s) most) t)))) in
+    let h = value-after-below 0 s (number-digits s (so (number s) (first (number s) (leb (length s) most) t))) in
     let short : length s ≤ most = leb→le (length s) most (second (number s) (leb (length s) most) t) in
     let power : 10 ^ length s ≤ 10 ^ most = pow-le-pow-right (lit< tt) short in
     omega arith
-
-value-at-most : (least most : ℕ) (s : Text) → T (numberFrom least most s) → value s ≤ most
-unfolding numberFrom
-value-at-most least most s t =
-    leb→le (value s) most (second (number s && leb least (value s)) (leb (value s) most) t)
 
 -- Counts.
 count-length : (f : Verdict → Bool) (vs : List Verdict) → countOf f vs ≤ length vs
@@ -136,12 +131,12 @@ module _ (R : Rules) where
   bonus-below : (t : Text) → T (meets R countBonusMultiplier t) → value (part 1 t) ≤ R .mostBonus
   unfolding meets part bonus
   bonus-below t m =
-      value-at-most 0 (R .mostBonus) (part 1 t) (each-at (count R ∷ bonus R ∷ multiplier R ∷ []) (parts t) 1 m)
+      number-from 0 (R .mostBonus) (part 1 t) (so (bonus R (part 1 t)) (each-at (count R ∷ bonus R ∷ multiplier R ∷ []) (parts t) 1 m)) .high
 
   multiplier-below : (t : Text) → T (meets R countBonusMultiplier t) → value (part 2 t) ≤ R .mostMultiplier
   unfolding meets part multiplier
   multiplier-below t m =
-      value-at-most 1 (R .mostMultiplier) (part 2 t) (each-at (count R ∷ bonus R ∷ multiplier R ∷ []) (parts t) 2 m)
+      number-from 1 (R .mostMultiplier) (part 2 t) (so (multiplier R (part 2 t)) (each-at (count R ∷ bonus R ∷ multiplier R ∷ []) (parts t) 2 m)) .high
 
 -- What the declared bonuses and multipliers are at most.
 pub record DeclaredWithin (R : Rules) (d : Declared) : Type 0 where
