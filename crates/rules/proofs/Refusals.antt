@@ -1,0 +1,169 @@
+-- Every input gets an answer; a refusal has a number, a line and a field, and leaves what was lent as it was.
+-- Assumes nothing.
+use Prim.Native.Nat.{ℕ, zero, suc, _+_, _≤_, _<_}
+use mathlib.Core.Path.{_≡_, refl, sym, ap, subst, _∙_}
+use mathlib.Core.Logic.{_⊎_, inl, inr}
+use mathlib.Core.Bool.{Bool, true, false, cond, _&&_}
+use mathlib.Core.List.{List, [], _∷_}
+use lib.Dec.{ltb, eqb}
+use lib.ListN.{length, take, drop}
+use native.Mathlib.Omega.{arith}
+use Rattle.rules.specs.declared.Refusal.{Refusal}
+use Rattle.rules.specs.declared.Due.{Due}
+use Rattle.rules.specs.declared.Due.the-variants.{Identifier, Keyword, Remarks, Remark, Record, End}
+use Rattle.rules.specs.declared.Next.{Next}
+use Rattle.rules.specs.declared.Next.the-variants.{Goes, Stops}
+use Rattle.rules.specs.Text.{Text, bytes, digit, span, same, begins, parts, value, numberFrom}
+use Rattle.rules.specs.Rules.{Rules, base}
+use Rattle.rules.specs.Fields.{Qso, fieldRules, qsoOf}
+use Rattle.rules.specs.Arguments.{Entry, entries, meets}
+use Rattle.rules.specs.Log.{Log, identifier, remarksLine, countStart, keywordStart}
+use Rattle.rules.specs.Judging.{zeroTotals}
+use Rattle.rules.specs.Reading.{RecordRule, keeps, breaks, firstBroken, recordRule, recordsDue, whole, argumentOn, keywordLine, keywordDue, countRule, afterRecord, step, Reading, accepted, refused, refusal, atRest, put, onNext, lines, walk, read}
+use Rattle.rules.specs.Answers.{Judgement, unjudged, judge, totalsOfJudgement, numbersOfJudgement, Writing, unwritten, write, bytesOfWriting, Viewing, unseen, view, startOfView, viewed, over}
+use Rattle.rules.specs.Demands.{EveryInputGetsAnAnswer, RefusedWithNumberLineField, RefusedJudgingChangesNothing, RefusedWritingChangesNothing, RefusedViewIsEmpty}
+
+pub every-input : EveryInputGetsAnAnswer
+every-input s = by (read base s) refl
+  where
+    by : (a : Reading) → read base s ≡ a → ((log : Log) × (read base s ≡ accepted log)) ⊎ ((r : Refusal) × (read base s ≡ refused r))
+    by (accepted log) e = inl (log, e)
+    by (refused r) e = inr (r, e)
+
+-- A refusal's number is 1 to 6 and its field none or one of fifteen; of a record line too.
+abbrev Numbered : ℕ → ℕ → Type 0
+Numbered number field = (1 ≤ number) × (number ≤ 6) × (field ≤ 15)
+
+abbrev FieldIsOne : RecordRule → Type 0
+FieldIsOne keeps = Unit {0}
+FieldIsOne (breaks field) = field ≤ 15
+
+broken-field : (n : ℕ) (bs : List Bool) → n + length bs ≤ 16 → FieldIsOne (firstBroken n bs)
+unfolding firstBroken
+broken-field n [] h = tt
+broken-field n (true ∷ bs) h = broken-field (suc n) bs (omega arith)
+broken-field n (false ∷ bs) h = omega arith
+
+abbrev StopsNumbered : Next → Type 0
+StopsNumbered (Goes due) = Unit {0}
+StopsNumbered (Stops number field) = Numbered number field
+
+on-test : (b : Bool) (x y : Next) → StopsNumbered x → StopsNumbered y → StopsNumbered (cond b x y)
+on-test true x y p q = p
+on-test false x y p q = q
+
+three : Numbered 3 0
+three = omega arith
+
+four : Numbered 4 0
+four = omega arith
+
+module _ (R : Rules) where
+  rule-field : (l : Text) → FieldIsOne (recordRule R l)
+  unfolding recordRule
+  rule-field l = by (eqb (length (parts l)) 15)
+    where
+      by : (b : Bool) → FieldIsOne (cond b (firstBroken 1 (fieldRules R (qsoOf (parts l)))) (breaks 0))
+      by true = broken-field 1 (fieldRules R (qsoOf (parts l))) (omega arith)
+      by false = omega arith
+
+  after-numbered : (n : ℕ) (r : RecordRule) → FieldIsOne r → StopsNumbered (afterRecord n r)
+  unfolding afterRecord
+  after-numbered n keeps h = tt
+  after-numbered n (breaks field) h = (omega arith, omega arith, h)
+
+  keyword-numbered : (e : Entry) (l : Text) (next : Due) → StopsNumbered (keywordLine R e l next)
+  unfolding keywordLine
+  keyword-numbered e l next =
+      let m = meets R (e .rule) (argumentOn e l) in
+      on-test (begins (keywordStart e) l) (cond m (Goes next) (Stops 4 0)) (Stops 3 0) (on-test m (Goes next) (Stops 4 0) tt four) three
+
+  due-numbered : (es : List Entry) (k : ℕ) (l : Text) → StopsNumbered (keywordDue R es k l)
+  unfolding keywordDue
+  due-numbered [] k l = omega arith
+  due-numbered (e ∷ []) k l = keyword-numbered e l Remarks
+  due-numbered (e ∷ f ∷ es) k l = keyword-numbered e l (Keyword (k + 1))
+
+  whole-numbered : (due l : Text) (next : Due) → StopsNumbered (whole due l next)
+  unfolding whole
+  whole-numbered due l next = on-test (same l due) (Goes next) (Stops 3 0) tt three
+
+  count-numbered : (t : Text) → StopsNumbered (countRule R t)
+  unfolding countRule
+  count-numbered t =
+      let n = span digit t in
+      on-test (numberFrom 0 (R .mostRecords) (take n t) && same (drop n t) (bytes "]")) (Goes (recordsDue (value (take n t)))) (Stops 4 0) tt four
+
+  step-numbered : (due : Due) (l : Text) → StopsNumbered (step R due l)
+  unfolding step
+  step-numbered Identifier l = whole-numbered identifier l (Keyword 0)
+  step-numbered (Keyword k) l = due-numbered (drop k entries) k l
+  step-numbered Remarks l = whole-numbered remarksLine l Remark
+  step-numbered Remark l =
+      let t = drop (length countStart) l in
+      on-test (begins countStart l) (countRule R t) (Goes Remark) (count-numbered t) tt
+  step-numbered (Record n) l = after-numbered n (recordRule R l) (rule-field l)
+  step-numbered End l = omega arith
+
+-- The line is one of the text, or the one that is missing behind them.
+abbrev Placed : ℕ → Reading → Type 0
+Placed most (accepted log) = Unit {0}
+Placed most (refused r) = (1 ≤ r .number) × (r .number ≤ 6) × (r .line ≤ most) × (r .field ≤ 15)
+
+rest-placed : (due : Due) (n : ℕ) (rest : Text) → Placed n (atRest due n rest)
+unfolding atRest
+rest-placed Identifier n rest = omega arith
+rest-placed (Keyword k) n rest = omega arith
+rest-placed Remarks n rest = omega arith
+rest-placed Remark n rest = omega arith
+rest-placed (Record m) n [] = omega arith
+rest-placed (Record m) n (c ∷ rest) = omega arith
+rest-placed End n [] = tt
+rest-placed End n (c ∷ rest) = omega arith
+
+put-placed : (most : ℕ) (due : Due) (l : Text) (a : Reading) → Placed most a → Placed most (put due l a)
+unfolding put
+put-placed most due l (accepted log) p = tt
+put-placed most due l (refused r) p = p
+
+later-placed : (most more : ℕ) (a : Reading) → most ≤ more → Placed most a → Placed more a
+later-placed most more (accepted log) h p = tt
+later-placed most more (refused r) h p = omega arith
+
+module _ (R : Rules) where
+  walk-placed : (due : Due) (n : ℕ) (ls : List Text) (rest : Text) → Placed (n + length ls) (walk R due n ls rest)
+  unfolding walk
+  walk-placed due n [] rest = later-placed n (n + 0) (atRest due n rest) (omega arith) (rest-placed due n rest)
+  walk-placed due n (l ∷ ls) rest = on (λ next. walk-placed next (n + 1) ls rest) (step R due l) (step-numbered R due l)
+    where
+      on : ((next : Due) → Placed (n + 1 + length ls) (walk R next (n + 1) ls rest)) → (m : Next) → StopsNumbered m → Placed (n + suc (length ls)) (onNext (λ next. walk R next (n + 1) ls rest) n due l m)
+      on more (Goes next) p =
+          let a = walk R next (n + 1) ls rest in
+          put-placed (n + suc (length ls)) due l a (later-placed (n + 1 + length ls) (n + suc (length ls)) a (omega arith) (more next))
+      on more (Stops number field) p = omega arith
+
+  read-placed : (s : Text) → Placed (length ((lines R s) .whole) + 1) (read R s)
+  unfolding read
+  read-placed s = by (ltb (R .longestLog) (length s))
+    where
+      by : (b : Bool) → Placed (length ((lines R s) .whole) + 1) (cond b (refused (refusal 1 0 0)) (walk R Identifier 1 ((lines R s) .whole) ((lines R s) .rest)))
+      by true = omega arith
+      by false =
+          let n = length ((lines R s) .whole) in
+          later-placed (1 + n) (n + 1) (walk R Identifier 1 ((lines R s) .whole) ((lines R s) .rest)) (omega arith) (walk-placed Identifier 1 ((lines R s) .whole) ((lines R s) .rest))
+
+pub refused-with : RefusedWithNumberLineField
+refused-with s r e = subst (λ (a : Reading). Placed (length ((lines base s) .whole) + 1) a) e (read-placed base s)
+
+-- What a refused call leaves.
+pub refused-judging : RefusedJudgingChangesNothing
+unfolding totalsOfJudgement numbersOfJudgement over
+refused-judging s slice r e = rw e (refl, refl)
+
+pub refused-writing : RefusedWritingChangesNothing
+unfolding bytesOfWriting over
+refused-writing s slice r e = rw e (refl, refl)
+
+pub refused-view : RefusedViewIsEmpty
+unfolding startOfView viewed
+refused-view s k r e = rw e (refl, refl)

@@ -1,0 +1,450 @@
+-- The log that is written back from a valid log is valid, if it is not too long and what it claims has room.
+-- Assumes nothing.
+use Prim.Native.Nat.{ℕ, zero, suc, _+_, _^_, _≤_, _<_}
+use mathlib.Core.Path.{_≡_, refl, sym, ap, _∙_}
+use mathlib.Core.Logic.{_⊎_, inl, inr, ⊎-elim}
+use mathlib.Core.Bool.{Bool, true, false, cond, not, _&&_, _||_}
+use mathlib.Core.List.{List, [], _∷_, _++_, map}
+use lib.Dec.{T, leb}
+use lib.ListN.{length, drop, length-append}
+use native.Mathlib.Omega.{arith}
+use Rattle.rules.specs.declared.Class.the-variants.{Credited, Duplicate}
+use Rattle.rules.specs.declared.Verdict.{Verdict}
+use Rattle.rules.specs.declared.Totals.{Totals}
+use Rattle.rules.specs.Text.{Text, bytes, all, allowed, same, empty, value, numberOf, numberFrom, digits, parts, joined}
+use Rattle.rules.specs.Rules.{Rules, base}
+use Rattle.rules.specs.Fields.{Qso, newMark, duplicateMark, isError, emptyOr, fieldRules, pointsRule}
+use Rattle.rules.specs.Arguments.{Rule, claimedPoints, claimedBonus, claimedTotal, countAndMultiplier, countBonusMultiplier, Entry, entries, meets, each, every, count, bonus, multiplier}
+use Rattle.rules.specs.Log.{Log, identifier, remarksLine, countLine, keywordStart, keywordLines, recordLine, linesOf, render, lineRule, argumentRules, conjunction, recordRules, valid}
+use Rattle.rules.specs.Judging.{is, verdictsOfLog, totalsOfLog}
+use Rattle.rules.specs.Writing.{recounted, Claim, claims, claimed, writtenArguments, writtenRecord, writtenRecords, writtenBack}
+use Rattle.rules.proofs.Tests.{never, so, holds, and-l, and-r, and-i, or-cases, or-l, or-r, le-of-test, test-of-le}
+use Rattle.rules.proofs.TextLaws.{all-append, same-refl, Some, parts-some, joined-parts}
+use Rattle.rules.proofs.NumberLaws.{digits-all, digits-length, digits-from, digits-of, number-from, number-length}
+use Rattle.rules.proofs.FieldLaws.{Plain, Fits, digits-fit, digits-plain, number-digits, fits-allowed, AllFit, room, joined-short, joined-allowed, record-line-rule}
+use Rattle.rules.proofs.LogLaws.{every-append, every-front, every-back, every-more, every-first, every-others, digits-allowed, front, lines-split}
+use Rattle.rules.proofs.Format.{Rightly, valid-of, of-valid}
+use Rattle.rules.proofs.WritingLaws.{parts-recounted}
+
+-- What has room in the places of the claims.
+pub record HaveRoom (t : Totals) : Type 0 where
+  pub credited : t .credited ≤ 9_999
+  pub points : t .points < 1_000_000_000
+  pub squares : t .squares ≤ 9_999
+  pub squarebonus : t .squarebonus < 10_000_000
+  pub exchanges : t .exchanges ≤ 9_999
+  pub exchangebonus : t .exchangebonus < 10_000_000
+  pub countries : t .countries ≤ 9_999
+  pub countrybonus : t .countrybonus < 10_000_000
+  pub total : t .total < 1_000_000_000_000_000
+
+-- A keyword line: its argument keeps its rule, and it keeps the rule of lines.
+record Good (e : Entry) (t : Text) : Type 0 where
+  rule : meets base (e .rule) t ≡ true
+  line : lineRule base (keywordStart e ++ t) ≡ true
+
+-- A keyword and an argument that is not too long are a line.
+line-of : (k t : Text) → all allowed k ≡ true → length k ≤ 6 → all allowed t ≡ true → length t ≤ 69 → lineRule base (k ++ t) ≡ true
+unfolding lineRule base
+line-of k t a h b g =
+    and-i (test-of-le (length (k ++ t)) 75 (simp length-append (omega arith))) (all-append allowed k t a b)
+
+-- Texts that keep rules have the room of the rules.
+abbrev RulesFit : List ℕ → List (Text → Bool) → Type 0
+RulesFit [] [] = Unit {0}
+RulesFit [] (f ∷ fs) = ⊥
+RulesFit (n ∷ ns) [] = ⊥
+RulesFit (n ∷ ns) (f ∷ fs) = ((t : Text) → f t ≡ true → Fits n t) × RulesFit ns fs
+
+each-fit : (ns : List ℕ) (fs : List (Text → Bool)) (ts : List Text) → RulesFit ns fs → each fs ts ≡ true → AllFit ns ts
+unfolding each
+each-fit [] [] [] r e = tt
+each-fit [] [] (t ∷ ts) r e = never e
+each-fit [] (f ∷ fs) ts r e = absurd r
+each-fit (n ∷ ns) [] ts r e = absurd r
+each-fit (n ∷ ns) (f ∷ fs) [] r e = never e
+each-fit (n ∷ ns) (f ∷ fs) (t ∷ ts) r e = (r .0 t (and-l (f t) (each fs ts) e), each-fit ns fs ts (r .1) (and-r (f t) (each fs ts) e))
+
+-- The first of the texts may be another that keeps its rule.
+each-first : (f : Text → Bool) (fs : List (Text → Bool)) (new : Text) (ts : List Text) → each (f ∷ fs) ts ≡ true → f new ≡ true → each (f ∷ fs) (new ∷ drop 1 ts) ≡ true
+unfolding each
+each-first f fs new [] e g = never e
+each-first f fs new (t ∷ ts) e g = and-i g (and-r (f t) (each fs ts) e)
+
+from-fits : (least most k : ℕ) → most < 10 ^ suc k → (t : Text) → numberFrom least most t ≡ true → Fits (suc k) t
+from-fits least most k h t e =
+    let n = number-from least most t e in
+    digits-fit (suc k) t (number-digits t (n .isNumber)) (number-length k t (n .isNumber) (omega (arith, n .high)))
+
+count-fits : (t : Text) → count base t ≡ true → Fits 4 t
+unfolding count base
+count-fits t e = from-fits 0 9999 3 (omega arith) t e
+
+bonus-fits : (t : Text) → bonus base t ≡ true → Fits 4 t
+unfolding bonus base
+bonus-fits t e = from-fits 0 9999 3 (omega arith) t e
+
+multiplier-fits : (t : Text) → multiplier base t ≡ true → Fits 2 t
+unfolding multiplier base
+multiplier-fits t e = from-fits 1 99 1 (omega arith) t e
+
+digits-count : (n : ℕ) → n ≤ 9_999 → count base (digits n) ≡ true
+unfolding count base
+digits-count n h = digits-from 0 9999 n (omega arith) h
+
+-- An argument with another count keeps the rules of its parts, and is not too long.
+record Recounted (fs : List (Text → Bool)) (most : ℕ) (t : Text) : Type 0 where
+  rule : each fs (parts t) ≡ true
+  characters : all allowed t ≡ true
+  short : length t ≤ most
+
+recounted-rightly : (f : Text → Bool) (fs : List (Text → Bool)) (ns : List ℕ) (new t : Text) → RulesFit ns (f ∷ fs) → Plain new → f new ≡ true → each (f ∷ fs) (parts t) ≡ true → Recounted (f ∷ fs) (room ns) (recounted new t)
+recounted-rightly f fs ns new t r p g e =
+    let u = recounted new t in
+    let rule : each (f ∷ fs) (parts u) ≡ true = rw (parts-recounted new t p) (each-first f fs new (parts t) e g) in
+    let k = each-fit ns (f ∷ fs) (parts u) r rule in
+    record {
+      rule = rule;
+      characters = rw (joined-parts u) at (joined-allowed ns (parts u) k);
+      short = rw (joined-parts u) at (joined-short ns (parts u) k);
+    }
+
+-- The claims, each at the keyword that it is for.
+abbrev Keeps : List Claim → Entry → Type 0
+Keeps cs e = (t : Text) → Good e t → Good e (claimed cs (e .keyword) t)
+
+abbrev at : Text → Rule → Entry
+at word rule = record { keyword = word; rule = rule }
+
+module _ (word : Text) (characters : all allowed (word ++ bytes "=") ≡ true) (short : length (word ++ bytes "=") ≤ 6) (n : ℕ) where
+  word-line : (rule : Rule) (t : Text) → all allowed t ≡ true → length t ≤ 69 → lineRule base (keywordStart (at word rule) ++ t) ≡ true
+  unfolding keywordStart
+  word-line rule t a h = line-of (word ++ bytes "=") t characters short a h
+
+  two-parts : n ≤ 9_999 → (t : Text) → Good (at word countAndMultiplier) t → Good (at word countAndMultiplier) (recounted (digits n) t)
+  unfolding meets
+  two-parts h t g =
+      let k = recounted-rightly (count base) (multiplier base ∷ []) (4 ∷ 2 ∷ []) (digits n) t (count-fits, (multiplier-fits, tt)) (digits-plain (digits n) (digits-all n)) (digits-count n h) (g .rule) in
+      record { rule = k .rule; line = word-line countAndMultiplier (recounted (digits n) t) (k .characters) (omega (arith, k .short)) }
+
+  three-parts : n ≤ 9_999 → (t : Text) → Good (at word countBonusMultiplier) t → Good (at word countBonusMultiplier) (recounted (digits n) t)
+  unfolding meets
+  three-parts h t g =
+      let k = recounted-rightly (count base) (bonus base ∷ multiplier base ∷ []) (4 ∷ 4 ∷ 2 ∷ []) (digits n) t (count-fits, (bonus-fits, (multiplier-fits, tt))) (digits-plain (digits n) (digits-all n)) (digits-count n h) (g .rule) in
+      record { rule = k .rule; line = word-line countBonusMultiplier (recounted (digits n) t) (k .characters) (omega (arith, k .short)) }
+
+  whole-number : (rule : Rule) (k : ℕ) → suc k ≤ 69 → n < 10 ^ suc k → meets base rule (digits n) ≡ true → Good (at word rule) (digits n)
+  whole-number rule k h g e =
+      record { rule = e; line = word-line rule (digits n) (digits-allowed (digits n) (digits-all n)) (omega (arith, digits-length k n g)) }
+
+  points-claim : n < 1_000_000_000 → Good (at word claimedPoints) (digits n)
+  unfolding meets base
+  points-claim h = whole-number claimedPoints 8 (omega arith) (omega arith) (digits-of 8 n (omega arith))
+
+  bonus-claim : n < 10_000_000 → Good (at word claimedBonus) (digits n)
+  unfolding meets base
+  bonus-claim h = whole-number claimedBonus 6 (omega arith) (omega arith) (digits-of 6 n (omega arith))
+
+  total-claim : n < 1_000_000_000_000_000 → Good (at word claimedTotal) (digits n)
+  unfolding meets base
+  total-claim h = whole-number claimedTotal 14 (omega arith) (omega arith) (digits-of 14 n (omega arith))
+
+abbrev AllKeep : List Claim → List Entry → Type 0
+AllKeep cs [] = Unit {0}
+AllKeep cs (e ∷ es) = Keeps cs e × AllKeep cs es
+
+entries-keep : (t : Totals) → HaveRoom t → AllKeep (claims digits t) entries
+unfolding entries claims claimed same all
+entries-keep t h = (
+  stays,
+  (
+    stays,
+    (
+      stays,
+      (
+        stays,
+        (
+          stays,
+          (
+            stays,
+            (
+              stays,
+              (
+                stays,
+                (
+                  stays,
+                  (
+                    stays,
+                    (
+                      stays,
+                      (
+                        stays,
+                        (
+                          stays,
+                          (
+                            stays,
+                            (
+                              stays,
+                              (
+                                stays,
+                                (
+                                  stays,
+                                  (
+                                    stays,
+                                    (
+                                      stays,
+                                      (
+                                        stays,
+                                        (
+                                          stays,
+                                          (
+                                            stays,
+                                            (
+                                              stays,
+                                              (
+                                                stays,
+                                                (
+                                                  stays,
+                                                  (
+                                                    stays,
+                                                    (
+                                                      two-parts (bytes "CQSOs") refl (omega arith) (t .credited) (h .credited),
+                                                      (
+                                                        λ s g. points-claim (bytes "CQSOP") refl (omega arith) (t .points) (h .points),
+                                                        (
+                                                          three-parts (bytes "CWWLs") refl (omega arith) (t .squares) (h .squares),
+                                                          (
+                                                            λ s g. bonus-claim (bytes "CWWLB") refl (omega arith) (t .squarebonus) (h .squarebonus),
+                                                            (
+                                                              three-parts (bytes "CExcs") refl (omega arith) (t .exchanges) (h .exchanges),
+                                                              (
+                                                                λ s g. bonus-claim (bytes "CExcB") refl (omega arith) (t .exchangebonus) (h .exchangebonus),
+                                                                (
+                                                                  three-parts (bytes "CDXCs") refl (omega arith) (t .countries) (h .countries),
+                                                                  (
+                                                                    λ s g. bonus-claim (bytes "CDXCB") refl (omega arith) (t .countrybonus) (h .countrybonus),
+                                                                    (
+                                                                      λ s g. total-claim (bytes "CToSc") refl (omega arith) (t .total) (h .total),
+                                                                      (stays, tt),
+                                                                    ),
+                                                                  ),
+                                                                ),
+                                                              ),
+                                                            ),
+                                                          ),
+                                                        ),
+                                                      ),
+                                                    ),
+                                                  ),
+                                                ),
+                                              ),
+                                            ),
+                                          ),
+                                        ),
+                                      ),
+                                    ),
+                                  ),
+                                ),
+                              ),
+                            ),
+                          ),
+                        ),
+                      ),
+                    ),
+                  ),
+                ),
+              ),
+            ),
+          ),
+        ),
+      ),
+    ),
+  ),
+)
+  where
+    stays : {e : Entry} (s : Text) → Good e s → Good e s
+    stays s g = g
+
+record ArgumentsKept (es : List Entry) (ts : List Text) : Type 0 where
+  rules : argumentRules base es ts ≡ true
+  lines : every (lineRule base) (keywordLines es ts) ≡ true
+
+arguments-keep : (cs : List Claim) (es : List Entry) (ts : List Text) → AllKeep cs es → ArgumentsKept es ts → ArgumentsKept es (writtenArguments cs es ts)
+unfolding writtenArguments argumentRules keywordLines every
+arguments-keep cs [] ts k g = g
+arguments-keep cs (e ∷ es) [] k g = g
+arguments-keep cs (e ∷ es) (t ∷ ts) k g =
+    let a = meets base (e .rule) t in
+    let b = argumentRules base es ts in
+    let c = lineRule base (keywordStart e ++ t) in
+    let d = every (lineRule base) (keywordLines es ts) in
+    let here = k .0 t (record { rule = and-l a b (g .rules); line = and-l c d (g .lines) }) in
+    let later = arguments-keep cs es ts (k .1) (record { rules = and-r a b (g .rules); lines = and-r c d (g .lines) }) in
+    record { rules = and-i (here .rule) (later .rules); lines = and-i (here .line) (later .lines) }
+
+-- Records: each rule that holds of a field still holds of what is written there.
+abbrev Stronger : List Bool → List Bool → Type 0
+Stronger [] [] = Unit {0}
+Stronger [] (c ∷ cs) = ⊥
+Stronger (b ∷ bs) [] = ⊥
+Stronger (b ∷ bs) (c ∷ cs) = (b ≡ true → c ≡ true) × Stronger bs cs
+
+still : (bs cs : List Bool) → Stronger bs cs → conjunction bs ≡ true → conjunction cs ≡ true
+unfolding conjunction
+still [] [] k e = refl
+still [] (c ∷ cs) k e = absurd k
+still (b ∷ bs) [] k e = absurd k
+still (b ∷ bs) (c ∷ cs) k e = and-i (k .0 (and-l b (conjunction bs) e)) (still bs cs (k .1) (and-r b (conjunction bs) e))
+
+-- A mark that is set or not.
+mark-rule : (mark : Text) (b : Bool) → emptyOr (same mark) (cond b mark []) ≡ true
+unfolding emptyOr
+mark-rule mark true = or-r (empty mark) (same-refl mark)
+mark-rule mark false = refl
+
+kept-mark : (mark t : Text) (b : Bool) → emptyOr (same mark) t ≡ true → emptyOr (same mark) (cond b t []) ≡ true
+unfolding emptyOr
+kept-mark mark t true e = e
+kept-mark mark t false e = refl
+
+written-points : (v : Verdict) (q : Qso) → pointsRule base q ≡ true → pointsRule base (writtenRecord v q) ≡ true
+unfolding writtenRecord pointsRule isError base
+written-points v q = by (is Duplicate (v .class))
+  where
+    by : (b : Bool) → pointsRule base q ≡ true → (numberOf (base .pointsDigits) (cond b (bytes "0") (q .points)) && (not (isError q) || same (cond b (bytes "0") (q .points)) (bytes "0"))) ≡ true
+    by true e = or-r (not (isError q)) refl
+    by false e = e
+
+written-rules : (v : Verdict) (q : Qso) → Stronger (fieldRules base q) (fieldRules base (writtenRecord v q))
+unfolding fieldRules writtenRecord
+written-rules v q = (
+  λ e. e,
+  (
+    λ e. e,
+    (
+      λ e. e,
+      (
+        λ e. e,
+        (
+          λ e. e,
+          (
+            λ e. e,
+            (
+              λ e. e,
+              (
+                λ e. e,
+                (
+                  λ e. e,
+                  (
+                    λ e. e,
+                    (
+                      written-points v q,
+                      (
+                        λ e. mark-rule newMark (v .exchange),
+                        (
+                          λ e. mark-rule newMark (v .square),
+                          (
+                            kept-mark newMark (q .newCountry) (is Credited (v .class)),
+                            (λ e. mark-rule duplicateMark (is Duplicate (v .class)), tt),
+                          ),
+                        ),
+                      ),
+                    ),
+                  ),
+                ),
+              ),
+            ),
+          ),
+        ),
+      ),
+    ),
+  ),
+)
+
+records-still : (vs : List Verdict) (qs : List Qso) → recordRules base qs ≡ true → recordRules base (writtenRecords vs qs) ≡ true
+unfolding writtenRecords recordRules
+records-still [] qs e = e
+records-still (v ∷ vs) [] e = e
+records-still (v ∷ vs) (q ∷ qs) e =
+    let a = conjunction (fieldRules base q) in
+    and-i (still (fieldRules base q) (fieldRules base (writtenRecord v q)) (written-rules v q) (and-l a (recordRules base qs) e)) (records-still vs qs (and-r a (recordRules base qs) e))
+
+pub written-length : (vs : List Verdict) (qs : List Qso) → length (writtenRecords vs qs) ≡ length qs
+unfolding writtenRecords
+written-length [] qs = refl
+written-length (v ∷ vs) [] = refl
+written-length (v ∷ vs) (q ∷ qs) = ap suc (written-length vs qs)
+
+-- Records that keep their rules are lines.
+records-lines : (qs : List Qso) → recordRules base qs ≡ true → every (lineRule base) (map recordLine qs) ≡ true
+unfolding recordRules every
+records-lines [] e = refl
+records-lines (q ∷ qs) e =
+    let a = conjunction (fieldRules base q) in
+    and-i (record-line-rule base q (unfold base in omega arith) (and-l a (recordRules base qs) e)) (records-lines qs (and-r a (recordRules base qs) e))
+
+-- What is written back, part by part.
+written-arguments : (log : Log) → (writtenBack base log) .arguments ≡ writtenArguments (claims digits (totalsOfLog base log)) entries (log .arguments)
+unfolding writtenBack
+written-arguments log = refl
+
+written-remarks : (log : Log) → (writtenBack base log) .remarks ≡ log .remarks
+unfolding writtenBack
+written-remarks log = refl
+
+written-records : (log : Log) → (writtenBack base log) .records ≡ writtenRecords (verdictsOfLog base log) (log .records)
+unfolding writtenBack
+written-records log = refl
+
+-- The lines in front of the count line.
+record FrontKept (log : Log) : Type 0 where
+  first : lineRule base identifier ≡ true
+  arguments : ArgumentsKept entries (log .arguments)
+  behind : every (lineRule base) (remarksLine ∷ log .remarks) ≡ true
+
+front-kept : (log : Log) → every (lineRule base) (front log) ≡ true → argumentRules base entries (log .arguments) ≡ true → FrontKept log
+unfolding front
+front-kept log e a =
+    let k = keywordLines entries (log .arguments) in
+    let before : every (lineRule base) (identifier ∷ k) ≡ true = every-front (lineRule base) (identifier ∷ k) (remarksLine ∷ log .remarks) e in
+    record {
+      first = every-first (lineRule base) identifier k before;
+      arguments = record { rules = a; lines = every-others (lineRule base) identifier k before };
+      behind = every-back (lineRule base) (identifier ∷ k) (remarksLine ∷ log .remarks) e;
+    }
+
+kept-front : (log : Log) → FrontKept log → every (lineRule base) (front log) ≡ true
+unfolding front
+kept-front log f =
+    let k = keywordLines entries (log .arguments) in
+    every-append (lineRule base) (identifier ∷ k) (remarksLine ∷ log .remarks) (every-more (lineRule base) identifier k (f .first) (f .arguments .lines)) (f .behind)
+
+module _ (log : Log) (h : HaveRoom (totalsOfLog base log)) where
+  front-still : every (lineRule base) (front log) ≡ true → argumentRules base entries (log .arguments) ≡ true → (every (lineRule base) (front (writtenBack base log)) ≡ true) × (argumentRules base entries ((writtenBack base log) .arguments) ≡ true)
+  front-still e a =
+      let f = front-kept log e a in
+      let k : ArgumentsKept entries ((writtenBack base log) .arguments) = rw (written-arguments log) (arguments-keep (claims digits (totalsOfLog base log)) entries (log .arguments) (entries-keep (totalsOfLog base log) h) (f .arguments)) in
+      (kept-front (writtenBack base log) (record { first = f .first; arguments = k; behind = rw (written-remarks log) (f .behind) }), k .rules)
+
+  written-rightly : Rightly base log → length (render (writtenBack base log)) ≤ 65_535 → Rightly base (writtenBack base log)
+  written-rightly r s =
+      let new = writtenBack base log in
+      let qs = log .records in
+      let before : every (lineRule base) (front log) ≡ true = every-front (lineRule base) (front log) (countLine (length qs) ∷ map recordLine qs) (rw (lines-split log) at (r .lineRules)) in
+      let behind : every (lineRule base) (countLine (length qs) ∷ map recordLine qs) ≡ true = every-back (lineRule base) (front log) (countLine (length qs) ∷ map recordLine qs) (rw (lines-split log) at (r .lineRules)) in
+      let number : length (new .records) ≡ length qs = rw (written-records log) (written-length (verdictsOfLog base log) qs) in
+      let rules : recordRules base (new .records) ≡ true = rw (written-records log) (records-still (verdictsOfLog base log) qs (r .rules)) in
+      let f = front-still before (r .rulesOfArguments) in
+      let line : lineRule base (countLine (length (new .records))) ≡ true = rw number (every-first (lineRule base) (countLine (length qs)) (map recordLine qs) behind) in
+      record {
+        short = unfold base in s;
+        lineRules = rw (lines-split new) (every-append (lineRule base) (front new) (countLine (length (new .records)) ∷ map recordLine (new .records)) (f .0) (every-more (lineRule base) (countLine (length (new .records))) (map recordLine (new .records)) line (records-lines (new .records) rules)));
+        rulesOfArguments = f .1;
+        remarkRules = rw (written-remarks log) (r .remarkRules);
+        fits = rw number (r .fits);
+        rules = rules;
+      }
+
+  -- The log that is written back from a valid log is valid, if it is not too long.
+  pub written-valid : T (valid base log) → length (render (writtenBack base log)) ≤ 65_535 → T (valid base (writtenBack base log))
+  written-valid v s = holds (valid-of base (writtenBack base log) (written-rightly (of-valid base log (so (valid base log) v)) s))
