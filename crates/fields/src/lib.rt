@@ -2,10 +2,10 @@
 // or that it is bad. No byte is looked at twice, and none is copied.
 
 ghost use mathlib.Core.Path.{_≡_};
-ghost use Prim.Native.Nat.{_+_};
-ghost use lib.ListN.{drop};
-ghost use Rattle.rules.specs.Text.{digit, capital, span};
-ghost use Rattle.rules.specs.Fields.{callCharacter, exchangeCharacter, squareLetter, subLetter};
+ghost use Prim.Native.Nat.{_+_, _≤_};
+ghost use lib.ListN.{length, take, drop};
+ghost use Rattle.rules.specs.Text.{digit, capital, span, same};
+ghost use Rattle.rules.specs.Fields.{callCharacter, exchangeCharacter, squareLetter, subLetter, errorCall};
 ghost use Rattle.fields.specs.Field.{endsAt, callAt, callOrEmptyAt, modeAt, reportAt, serialAt, exchangeAt, locatorAt, locatorOrEmptyAt, markAt};
 
 pub fn is_digit(b: u8) -> bool
@@ -109,4 +109,46 @@ pub enum LocatorRead {
 pub enum MarkRead {
     Mark { set: bool, end: usize },
     Bad,
+}
+
+// The five bytes from here on are `ERROR`.
+fn is_error(s: &[u8], at: usize) -> bool
+    requires { ⌜ at + 5 ≤ length (now s) ⌝ }
+    ensures { λ r. ⌜ r ≡ same (take 5 (drop at (now (s .entry)))) errorCall ⌝ }
+{
+    if s[at] != 69 {
+        return false;
+    }
+    if s[at + 1] != 82 {
+        return false;
+    }
+    if s[at + 2] != 82 {
+        return false;
+    }
+    if s[at + 3] != 79 {
+        return false;
+    }
+    s[at + 4] == 82
+}
+
+// Only a call as long as `ERROR` is looked at for it.
+pub fn call(s: &[u8], at: usize) -> CallRead
+    ensures { λ r. ⌜ r ≡ callAt (now (s .entry)) at ⌝ }
+{
+    let end = call_run(s, at);
+    if !ends(s, end) {
+        return CallRead::Bad;
+    }
+    let count = end - at;
+    if count < 3 {
+        return CallRead::Bad;
+    }
+    if 14 < count {
+        return CallRead::Bad;
+    }
+    if count != 5 {
+        return CallRead::Call { end, error: false };
+    }
+    let error = is_error(s, at);
+    CallRead::Call { end, error }
 }
