@@ -3,7 +3,8 @@
 
 ghost use mathlib.Core.Path.{_≡_};
 ghost use Prim.Native.Nat.{_+_, _≤_};
-ghost use lib.ListN.{length, take, drop};
+ghost use mathlib.Core.Bool.{_||_};
+ghost use lib.ListN.{length, take, drop, getD};
 ghost use Rattle.rules.specs.Text.{digit, capital, span, same};
 ghost use Rattle.rules.specs.Fields.{callCharacter, exchangeCharacter, squareLetter, subLetter, errorCall};
 ghost use Rattle.fields.specs.Field.{endsAt, callAt, callOrEmptyAt, modeAt, reportAt, serialAt, exchangeAt, locatorAt, locatorOrEmptyAt, markAt};
@@ -151,4 +152,98 @@ pub fn call(s: &[u8], at: usize) -> CallRead
     }
     let error = is_error(s, at);
     CallRead::Call { end, error }
+}
+
+pub fn call_or_empty(s: &[u8], at: usize) -> CallRead
+    ensures { λ r. ⌜ r ≡ callOrEmptyAt (now (s .entry)) at ⌝ }
+{
+    if ends(s, at) {
+        return CallRead::Call {
+            end: at,
+            error: false,
+        };
+    }
+    call(s, at)
+}
+
+// The byte at this place, and a semicolon where the line has ended: a field goes on at neither.
+fn byte_at(s: &[u8], at: usize) -> u8
+    ensures { λ r. ⌜ r ≡ getD (now (s .entry)) at 59 ⌝ }
+{
+    if s.len() <= at {
+        return 59;
+    }
+    s[at]
+}
+
+pub fn mode(s: &[u8], at: usize) -> ModeRead
+    ensures { λ r. ⌜ r ≡ modeAt (now (s .entry)) at ⌝ }
+{
+    if ends(s, at) {
+        return ModeRead::Mode(at);
+    }
+    if !is_digit(byte_at(s, at)) {
+        return ModeRead::Bad;
+    }
+    let end = at + 1;
+    if !ends(s, end) {
+        return ModeRead::Bad;
+    }
+    ModeRead::Mode(end)
+}
+
+// What may stand behind the two digits of a report.
+fn is_report_character(b: u8) -> bool
+    ensures { λ r. ⌜ r ≡ (digit b || capital b) ⌝ }
+{
+    if is_digit(b) {
+        return true;
+    }
+    is_capital(b)
+}
+
+pub fn report(s: &[u8], at: usize) -> ReportRead
+    ensures { λ r. ⌜ r ≡ reportAt (now (s .entry)) at ⌝ }
+{
+    if ends(s, at) {
+        return ReportRead::Report(at);
+    }
+    if !is_digit(byte_at(s, at)) {
+        return ReportRead::Bad;
+    }
+    if !is_digit(byte_at(s, at + 1)) {
+        return ReportRead::Bad;
+    }
+    let two = at + 2;
+    if ends(s, two) {
+        return ReportRead::Report(two);
+    }
+    if !is_report_character(byte_at(s, two)) {
+        return ReportRead::Bad;
+    }
+    let three = at + 3;
+    if !ends(s, three) {
+        return ReportRead::Bad;
+    }
+    ReportRead::Report(three)
+}
+
+pub fn serial(s: &[u8], at: usize) -> SerialRead
+    ensures { λ r. ⌜ r ≡ serialAt (now (s .entry)) at ⌝ }
+{
+    let end = digit_run(s, at);
+    if !ends(s, end) {
+        return SerialRead::Bad;
+    }
+    let count = end - at;
+    if count == 0 {
+        return SerialRead::Serial(end);
+    }
+    if count < 3 {
+        return SerialRead::Bad;
+    }
+    if 4 < count {
+        return SerialRead::Bad;
+    }
+    SerialRead::Serial(end)
 }
