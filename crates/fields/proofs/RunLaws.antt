@@ -6,16 +6,19 @@ use native.Mathlib.Nat.{not-suc-le-zero}
 use mathlib.Core.Path.{_≡_, refl, sym, ap, _∙_}
 use mathlib.Core.Bool.{Bool, true, false, not, _&&_, and-true, and-false, true≢false}
 use mathlib.Core.List.{[], _∷_}
-use lib.Dec.{leb, eqb}
+use lib.Dec.{leb, ltb, eqb}
 use lib.ListN.{length, take, drop, getD, length-take, length-drop}
-use borrow.Author.Tests.{le-leb, lt-leb, not-true, not-false}
+use borrow.Author.Tests.{le-leb, lt-leb, le-ltb, lt-ltb, leb-true, leb-false, ne-eqb, not-true, not-false}
 use Rattle.rules.specs.Text.{digit, Text, span, all, same}
-use Rattle.rules.specs.Fields.{call, serial, callCharacter, errorCall}
+use Rattle.rules.specs.Rules.{base}
+use Rattle.rules.specs.Fields.{exchange, exchangeCharacter, call, serial, callCharacter, errorCall}
 use Rattle.fields.specs.declared.CallRead.{CallRead}
 use Rattle.fields.specs.declared.CallRead.the-variants as CallRead
+use Rattle.fields.specs.declared.ExchangeRead.{ExchangeRead}
+use Rattle.fields.specs.declared.ExchangeRead.the-variants as ExchangeRead
 use Rattle.fields.specs.declared.SerialRead.{SerialRead}
 use Rattle.fields.specs.declared.SerialRead.the-variants as SerialRead
-use Rattle.fields.specs.Field.{serialAt, inField, textAt, endsAt, endOf, callAt}
+use Rattle.fields.specs.Field.{exchangeAt, serialAt, inField, textAt, endsAt, endOf, callAt}
 use Rattle.fields.proofs.FieldLaws.{at, run-is-field, run-is-as-long}
 
 -- The run from a place on ended: the field is no run of the kind, or it is, and ends there.
@@ -181,3 +184,43 @@ module _ {s : Text} {at end : ℕ} (r : Run digit s at end) where
 
   pub serial-digits : 3 ≤ end - at → end - at ≤ 4 → SerialRead.Serial end ≡ serialAt s at
   serial-digits h l = serial-read (serial-kept (textAt s at) (omega arith) (omega arith) (r .kind))
+
+-- An exchange.
+pub exchange-kind : (s : Text) (at : ℕ) → all exchangeCharacter (textAt s at) ≡ false → ExchangeRead.Bad ≡ exchangeAt s at
+unfolding exchangeAt exchange base
+exchange-kind s at e = rw (e, and-false (leb (length (textAt s at)) 6))
+
+module _ {s : Text} {at end : ℕ} (r : Run exchangeCharacter s at end) where
+  pub exchange-long : 6 < end - at → ExchangeRead.Bad ≡ exchangeAt s at
+  unfolding exchangeAt exchange base
+  exchange-long h = rw (lt-leb (length (textAt s at)) 6 (omega arith))
+
+  pub exchange-read : end - at ≤ 6 → ExchangeRead.Exchange end ≡ exchangeAt s at
+  unfolding exchangeAt exchange base
+  exchange-read h = rw (le-leb (length (textAt s at)) 6 (omega arith), r .kind, r .ending)
+
+-- An exchange's characters: the allowed ones, but for the semicolon and the small letters.
+module _ (b : ℕ) where
+  pub exchange-below : b < 32 → false ≡ exchangeCharacter b
+  exchange-below h = rw (lt-leb 32 b h)
+
+  pub exchange-above : 127 < b → false ≡ exchangeCharacter b
+  exchange-above h = rw (lt-leb b 127 h, and-false (leb 32 b))
+
+  pub exchange-semicolon : b ≡ 59 → false ≡ exchangeCharacter b
+  exchange-semicolon e = rw e
+
+  pub exchange-first : 32 ≤ b → b < 97 → (b ≡ 59 → ⊥) → true ≡ exchangeCharacter b
+  exchange-first h l n =
+      rw (le-leb 32 b h, le-leb b 127 (omega arith), ne-eqb b 59 n, lt-leb 97 b l)
+
+  above : ltb 122 b ≡ not (leb b 122)
+  above = by (leb b 122) refl
+    where
+      by : (x : Bool) → leb b 122 ≡ x → ltb 122 b ≡ not x
+      by true e = le-ltb 122 b (leb-true b 122 e)
+      by false e = lt-ltb 122 b (leb-false b 122 e)
+
+  pub exchange-last : b ≤ 127 → 97 ≤ b → ltb 122 b ≡ exchangeCharacter b
+  exchange-last h l =
+      above ∙ rw (le-leb 32 b (omega arith), le-leb b 127 h, ne-eqb b 59 (omega arith), le-leb 97 b l)

@@ -9,15 +9,19 @@ use mathlib.Core.List.{[], _∷_}
 use lib.Dec.{leb, eqb}
 use lib.ListN.{length, getD, List·getD-eq-default}
 use borrow.Author.Tests.{eq-eqb, eqb-true, leb-true, leb-false, ne-eqb, not-true, not-false}
-use Rattle.rules.specs.Text.{Text, digit, capital, span, all, empty}
-use Rattle.rules.specs.Fields.{mode, report, emptyOr}
+use Rattle.rules.specs.Text.{Text, digit, capital, span, all, same, empty}
+use Rattle.rules.specs.Fields.{mode, report, locator, squareLetter, subLetter, emptyOr}
 use Rattle.fields.specs.declared.CallRead.{CallRead}
 use Rattle.fields.specs.declared.CallRead.the-variants as CallRead
 use Rattle.fields.specs.declared.ModeRead.{ModeRead}
 use Rattle.fields.specs.declared.ModeRead.the-variants as ModeRead
+use Rattle.fields.specs.declared.LocatorRead.{LocatorRead}
+use Rattle.fields.specs.declared.LocatorRead.the-variants as LocatorRead
+use Rattle.fields.specs.declared.MarkRead.{MarkRead}
+use Rattle.fields.specs.declared.MarkRead.the-variants as MarkRead
 use Rattle.fields.specs.declared.ReportRead.{ReportRead}
 use Rattle.fields.specs.declared.ReportRead.the-variants as ReportRead
-use Rattle.fields.specs.Field.{textAt, endsAt, endOf, callAt, callOrEmptyAt, modeAt, reportAt}
+use Rattle.fields.specs.Field.{textAt, endsAt, endOf, callAt, callOrEmptyAt, modeAt, reportAt, locatorAt, locatorOrEmptyAt, markAt}
 use Rattle.fields.proofs.FieldLaws.{at, ends-with-line, ends-at-semicolon}
 
 -- The field ends; a character of a kind comes first; the field ends or goes on.
@@ -235,3 +239,102 @@ no-call s at e = rw (ended-here s at e, ended-text s at e)
 pub some-call : (s : Text) (at : ℕ) → endsAt s at ≡ false → callAt s at ≡ callOrEmptyAt s at
 unfolding callAt callOrEmptyAt endsAt emptyOr
 some-call s at e = rw e
+
+-- A locator: what is left of it behind its square, and in front of that.
+abbrev pub locator-4 : Shape
+locator-4 = endedOr (one subLetter (one subLetter ended))
+
+abbrev pub locator-2 : Shape
+locator-2 = one digit (one digit locator-4)
+
+abbrev pub locator-0 : Shape
+locator-0 = one squareLetter (one squareLetter locator-2)
+
+pub locator-is : (t : Text) → locator t ≡ fits locator-0 t
+unfolding locator all fits
+locator-is [] = refl
+locator-is (a ∷ []) = rw (and-false (squareLetter a))
+locator-is (a ∷ b ∷ []) = rw (and-false (squareLetter b), and-false (squareLetter a))
+locator-is (a ∷ b ∷ c ∷ []) = rw (and-false (digit c), and-false (squareLetter b), and-false (squareLetter a))
+locator-is (a ∷ b ∷ c ∷ d ∷ []) = by (squareLetter a) (squareLetter b) (digit c) (digit d)
+  where
+    by : (w x y z : Bool) → (w && (x && true) && (y && (z && true)) && true) ≡ (w && (x && (y && (z && true))))
+    by true true true true = refl
+    by true true true false = refl
+    by true true false z = refl
+    by true false y z = refl
+    by false x y z = refl
+locator-is (a ∷ b ∷ c ∷ d ∷ e ∷ []) =
+    rw (and-false (subLetter e), and-false (digit d), and-false (digit c), and-false (squareLetter b), and-false (squareLetter a))
+locator-is (a ∷ b ∷ c ∷ d ∷ e ∷ f ∷ []) =
+    by (squareLetter a) (squareLetter b) (digit c) (digit d) (subLetter e && (subLetter f && true))
+  where
+    by : (w x y z u : Bool) → (w && (x && true) && (y && (z && true)) && u) ≡ (w && (x && (y && (z && u))))
+    by true true true true u = refl
+    by true true true false u = refl
+    by true true false z u = refl
+    by true false y z u = refl
+    by false x y z u = refl
+locator-is (a ∷ b ∷ c ∷ d ∷ e ∷ f ∷ g ∷ t) =
+    rw (
+      ne-eqb (suc (suc (suc (suc (suc (suc (suc (length t)))))))) 4 (omega arith),
+      ne-eqb (suc (suc (suc (suc (suc (suc (suc (length t)))))))) 6 (omega arith),
+      and-false (subLetter f),
+      and-false (subLetter e),
+      and-false (digit d),
+      and-false (digit c),
+      and-false (squareLetter b),
+      and-false (squareLetter a),
+    )
+
+pub locator-bad : (s : Text) (at : ℕ) → locator (textAt s at) ≡ false → LocatorRead.Bad ≡ locatorAt s at
+unfolding locatorAt
+locator-bad s at e = rw e
+
+pub locator-kept : (s : Text) (at i : ℕ) → Kept locator s at i → LocatorRead.Locator i ≡ locatorAt s at
+unfolding locatorAt
+locator-kept s at i k = rw (k .holds, k .ending)
+
+-- A locator, where there may be none.
+pub no-locator : (s : Text) (at : ℕ) → endsAt s at ≡ true → LocatorRead.Locator at ≡ locatorOrEmptyAt s at
+unfolding locatorOrEmptyAt
+no-locator s at e = rw (ended-here s at e, ended-text s at e)
+
+pub some-locator : (s : Text) (at : ℕ) → endsAt s at ≡ false → locatorAt s at ≡ locatorOrEmptyAt s at
+unfolding locatorAt locatorOrEmptyAt endsAt emptyOr
+some-locator s at e = rw e
+
+-- A mark of a letter.
+abbrev pub mark-0 : ℕ → Shape
+mark-0 letter = endedOr (one (eqb letter) ended)
+
+pub mark-is : (letter : ℕ) (t : Text) → emptyOr (same (letter ∷ [])) t ≡ fits (mark-0 letter) t
+unfolding emptyOr same fits
+mark-is letter [] = refl
+mark-is letter (a ∷ []) = refl
+mark-is letter (a ∷ b ∷ t) = refl
+
+module _ (letter : ℕ) (s : Text) (at : ℕ) where
+  pub mark-bad : emptyOr (same (letter ∷ [])) (textAt s at) ≡ false → MarkRead.Bad ≡ markAt letter s at
+  unfolding markAt
+  mark-bad e = rw e
+
+  module _ {b : Bool} (l : b ≡ endsAt s at) where
+    pub mark-none : b ≡ true → MarkRead.Mark false at ≡ markAt letter s at
+    unfolding markAt emptyOr
+    mark-none e = rw (ended-here s at (sym l ∙ e), ended-text s at (sym l ∙ e))
+
+    pub mark-set : (i : ℕ) → b ≡ false → Kept (emptyOr (same (letter ∷ []))) s at i → MarkRead.Mark true i ≡ markAt letter s at
+    unfolding markAt endsAt
+    mark-set i e k = rw (k .holds, k .ending, sym l ∙ e)
+
+  module _ {b : Bool} {x : ℕ} (l : b ≡ endsAt s at) (e : b ≡ false) (k : x ≡ getD s at 59) where
+    marked : Goes (emptyOr (same (letter ∷ []))) (one (eqb letter) ended) s at at
+    marked = may-go-on l (goes s at (mark-is letter)) e
+
+    pub mark-other : (x ≡ letter → ⊥) → MarkRead.Bad ≡ markAt letter s at
+    mark-other n =
+        mark-bad (other-one marked (sym l ∙ e) 59 (ne-eqb letter (getD s at 59) (λ q. n (k ∙ sym q))))
+
+    pub mark-here : x ≡ letter → Goes (emptyOr (same (letter ∷ []))) ended s at (at + 1)
+    mark-here q = next-one marked (sym l ∙ e) 59 (at + 1) refl (eq-eqb letter (getD s at 59) (sym q ∙ k))

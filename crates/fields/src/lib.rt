@@ -247,3 +247,127 @@ pub fn serial(s: &[u8], at: usize) -> SerialRead
     }
     SerialRead::Serial(end)
 }
+
+pub fn is_square_letter(b: u8) -> bool
+    ensures { λ r. ⌜ r ≡ squareLetter b ⌝ }
+{
+    if b < 65 {
+        return false;
+    }
+    b <= 82
+}
+
+pub fn is_sub_letter(b: u8) -> bool
+    ensures { λ r. ⌜ r ≡ subLetter b ⌝ }
+{
+    if b < 65 {
+        return false;
+    }
+    b <= 88
+}
+
+pub fn locator(s: &[u8], at: usize) -> LocatorRead
+    ensures { λ r. ⌜ r ≡ locatorAt (now (s .entry)) at ⌝ }
+{
+    if !is_square_letter(byte_at(s, at)) {
+        return LocatorRead::Bad;
+    }
+    if !is_square_letter(byte_at(s, at + 1)) {
+        return LocatorRead::Bad;
+    }
+    if !is_digit(byte_at(s, at + 2)) {
+        return LocatorRead::Bad;
+    }
+    if !is_digit(byte_at(s, at + 3)) {
+        return LocatorRead::Bad;
+    }
+    let four = at + 4;
+    if ends(s, four) {
+        return LocatorRead::Locator(four);
+    }
+    if !is_sub_letter(byte_at(s, four)) {
+        return LocatorRead::Bad;
+    }
+    if !is_sub_letter(byte_at(s, at + 5)) {
+        return LocatorRead::Bad;
+    }
+    let six = at + 6;
+    if !ends(s, six) {
+        return LocatorRead::Bad;
+    }
+    LocatorRead::Locator(six)
+}
+
+pub fn locator_or_empty(s: &[u8], at: usize) -> LocatorRead
+    ensures { λ r. ⌜ r ≡ locatorOrEmptyAt (now (s .entry)) at ⌝ }
+{
+    if ends(s, at) {
+        return LocatorRead::Locator(at);
+    }
+    locator(s, at)
+}
+
+pub fn is_exchange_character(b: u8) -> bool
+    ensures { λ r. ⌜ r ≡ exchangeCharacter b ⌝ }
+{
+    if b < 32 {
+        return false;
+    }
+    if 127 < b {
+        return false;
+    }
+    if b == 59 {
+        return false;
+    }
+    if b < 97 {
+        return true;
+    }
+    122 < b
+}
+
+// The place behind the exchange characters from here on.
+pub fn exchange_run(s: &[u8], at: usize) -> usize
+    ensures { λ r. ⌜ r ≡ at + span exchangeCharacter (drop at (now (s .entry))) ⌝ }
+{
+    let mut i = at;
+    while i < s.len() {
+        if !is_exchange_character(s[i]) {
+            return i;
+        }
+        i += 1;
+    }
+    i
+}
+
+pub fn exchange(s: &[u8], at: usize) -> ExchangeRead
+    ensures { λ r. ⌜ r ≡ exchangeAt (now (s .entry)) at ⌝ }
+{
+    let end = exchange_run(s, at);
+    if !ends(s, end) {
+        return ExchangeRead::Bad;
+    }
+    if 6 < end - at {
+        return ExchangeRead::Bad;
+    }
+    ExchangeRead::Exchange(end)
+}
+
+// A field that is the letter and nothing else, or is empty. A semicolon for the letter is never found, since no field holds one.
+pub fn mark(s: &[u8], at: usize, letter: u8) -> MarkRead
+    ensures { λ r. ⌜ r ≡ markAt letter (now (s .entry)) at ⌝ }
+{
+    if ends(s, at) {
+        return MarkRead::Mark {
+            set: false,
+            end: at,
+        };
+    }
+    if byte_at(s, at) != letter {
+        return MarkRead::Bad;
+    }
+    let end = at + 1;
+    if !ends(s, end) {
+        return MarkRead::Bad;
+    }
+    MarkRead::Mark { set: true, end }
+}
