@@ -1,1 +1,3 @@
 pub mod FieldLaws
+pub mod RunLaws
+pub mod ShapeLaws
