@@ -78,12 +78,12 @@ pub below-power : (n k : ℕ) {v : ℕ} → n ≤ k → v < 10 ^ n → v < 10 ^ 
 below-power n k l h = lt-of-lt-of-le h (pow-le-pow-right (lit< tt) l)
 
 -- The text up to the next semicolon.
-abbrev field : Text → Text
+abbrev pub field : Text → Text
 field s = take (span inField s) s
 
 -- Digits, counted no further than so many: the field ends behind them exactly when all of it is digits, and no more than so many; and then
 -- they are the field.
-abbrev Whole : ℕ → Text → Type 0
+abbrev pub Whole : ℕ → Text → Type 0
 Whole most s =
     (empty (field (drop (digitsWithin most s) s)) ≡ (all digit (field s) && leb (length (field s)) most))
     × ((all digit (field s) && leb (length (field s)) most) ≡ true → digitsWithin most s ≡ span inField s)
@@ -102,7 +102,7 @@ whole-step most c s true false e g h = rw (g, e, leb·suc-suc) (h .0, λ k. ap s
 whole-step most c s false true e g h = rw (g, e, g, leb·zero) (refl, λ k. refl)
 whole-step most c s false false e g h = rw (g, e, g) (refl, λ k. absurd (true≢false (sym k)))
 
-whole : (most : ℕ) (s : Text) → Whole most s
+pub whole : (most : ℕ) (s : Text) → Whole most s
 unfolding span all digitsWithin
 whole zero [] = (refl, λ k. refl)
 whole zero (c ∷ s) = whole-none c s (eqb c 59) refl
@@ -110,7 +110,7 @@ whole (suc most) [] = rw (leb·zero) (refl, λ k. refl)
 whole (suc most) (c ∷ s) = whole-step most c s (digit c) (eqb c 59) refl refl (whole most s)
 
 -- A run of characters is as long as its text.
-span-length : (f : ℕ → Bool) (s : Text) → length (take (span f s) s) ≡ span f s
+pub span-length : (f : ℕ → Bool) (s : Text) → length (take (span f s) s) ≡ span f s
 unfolding span
 span-length f [] = refl
 span-length f (c ∷ s) = by (f c) (span-length f s)
@@ -291,6 +291,17 @@ unfolding valueAfter value
 value-from c t h n =
     let some : 49 ≤ c = omega (arith, digit-least c h) in
     rw (value-after (0 + (c - 48)) t) (omega (arith, mul-le-mul-right {m = 1} {n = 0 + (c - 48)} (10 ^ length t) (omega arith), one-mul (10 ^ length t)))
+
+-- A text's value, from the values of its parts.
+after-split : (k n : ℕ) (t : Text) → valueAfter n t ≡ valueAfter (valueAfter n (take k t)) (drop k t)
+unfolding valueAfter
+after-split zero n t = refl
+after-split (suc k) n [] = refl
+after-split (suc k) n (c ∷ t) = after-split k (10 * n + (c - 48)) t
+
+pub value-split : (k : ℕ) (t : Text) → value t ≡ value (take k t) * 10 ^ length (drop k t) + value (drop k t)
+unfolding value
+value-split k t = after-split k 0 t ∙ value-after (valueAfter 0 (take k t)) (drop k t)
 
 pub number-digits : (t : Text) → number t ≡ true → all digit t ≡ true
 unfolding number

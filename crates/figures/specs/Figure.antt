@@ -12,6 +12,8 @@ use Rattle.figures.specs.declared.DateRead.{DateRead}
 use Rattle.figures.specs.declared.DateRead.the-variants as DateRead
 use Rattle.figures.specs.declared.LongDateRead.{LongDateRead}
 use Rattle.figures.specs.declared.LongDateRead.the-variants as LongDateRead
+use Rattle.figures.specs.declared.TimeMade.{TimeMade}
+use Rattle.figures.specs.declared.TimeMade.the-variants as TimeMade
 use Rattle.figures.specs.declared.TimeRead.{TimeRead}
 use Rattle.figures.specs.declared.TimeRead.the-variants as TimeRead
 use Rattle.figures.specs.declared.NumberRead.{NumberRead}
@@ -31,6 +33,14 @@ unfoldable pub timeAt : Text → ℕ → TimeRead
 unfolding textAt endOf timeOfDay value
 timeAt s at =
     cond (timeOfDay (textAt s at)) (TimeRead.Time (record { digits = value (textAt s at) }) (endOf s at)) TimeRead.Bad
+
+-- The time that four characters write: two digits of hours and two of minutes.
+unfoldable pub timeMade : ℕ → ℕ → ℕ → ℕ → TimeMade
+unfolding timeOfDay value
+timeMade a b c d =
+    cond (timeOfDay (a ∷ b ∷ c ∷ d ∷ []))
+    (TimeMade.Time (record { digits = value (a ∷ b ∷ c ∷ d ∷ []) }))
+    TimeMade.Bad
 
 -- The minutes from 0000 on.
 unfoldable pub minutesOf : TimeOfDay → ℕ

@@ -1,13 +1,15 @@
 // The readers of numbers, dates and times. Each takes a line and the place where its field begins, and answers where the field ends and what it
-// says, or that it is bad. No byte is looked at twice, and none is copied.
+// says, or that it is bad. A byte is looked at once, and once more only where a number begins or ends; none is copied.
 
 ghost use mathlib.Core.Path.{_≡_};
 ghost use Prim.Native.Nat.{_+_, _*_, _≤_, _<_};
-ghost use Rattle.rules.specs.Text.{value, numberOf, numberFrom};
+ghost use mathlib.Core.Bool.{true};
+ghost use mathlib.Core.List.{[], _∷_};
+ghost use Rattle.rules.specs.Text.{digit, value, numberOf, numberFrom};
 ghost use Rattle.rules.specs.Rules.{base};
 ghost use Rattle.rules.specs.Fields.{leap, monthLength, dayExists, fullYear};
 ghost use Rattle.rules.specs.Arguments.{count, bonus, multiplier};
-ghost use Rattle.figures.specs.Figure.{dateAt, longDateAt, timeAt, minutesOf, numberAt, digitsAt};
+ghost use Rattle.figures.specs.Figure.{dateAt, longDateAt, timeAt, minutesOf, numberAt, digitsAt, timeMade};
 use fields::ends;
 use fields::is_digit;
 
@@ -20,6 +22,47 @@ impl TimeOfDay {
     pub const FIRST: u32 = 0;
 
     pub const LAST: u32 = 2359;
+
+    // The time that four digits write: two of hours and two of minutes.
+    pub fn from_digits(a: u8, b: u8, c: u8, d: u8) -> TimeMade
+        ensures { λ r. ⌜ r ≡ timeMade a b c d ⌝ }
+    {
+        if !is_digit(a) {
+            return TimeMade::Bad;
+        }
+        if !is_digit(b) {
+            return TimeMade::Bad;
+        }
+        if !is_digit(c) {
+            return TimeMade::Bad;
+        }
+        if !is_digit(d) {
+            return TimeMade::Bad;
+        }
+        let hours = two_digits(a, b);
+        if 23 < hours {
+            return TimeMade::Bad;
+        }
+        let minutes = two_digits(c, d);
+        if 59 < minutes {
+            return TimeMade::Bad;
+        }
+        TimeMade::Time(TimeOfDay {
+            digits: 100 * hours + minutes,
+        })
+    }
+
+    // The minutes from 0000 on.
+    pub fn minutes(self) -> u32
+        ensures { λ r. ⌜ r ≡ minutesOf self ⌝ }
+    {
+        60 * (self.digits / 100) + self.digits % 100
+    }
+}
+
+pub enum TimeMade {
+    Time(TimeOfDay),
+    Bad,
 }
 
 pub enum DateRead {
@@ -158,4 +201,30 @@ pub fn multiplier_of(s: &[u8], at: usize) -> NumberRead
         return NumberRead::Bad;
     }
     NumberRead::Number(value, end)
+}
+
+// The number that two digits write.
+fn two_digits(a: u8, b: u8) -> u32
+    requires { ⌜ (digit a ≡ true) × (digit b ≡ true) ⌝ }
+    ensures { λ r. ⌜ r ≡ value (a ∷ b ∷ []) ⌝ }
+{
+    10 * (a - 48) as u32 + (b - 48) as u32
+}
+
+pub fn time(s: &[u8], at: usize) -> TimeRead
+    ensures { λ r. ⌜ r ≡ timeAt (now (s .entry)) at ⌝ }
+{
+    if s.len() < 4 {
+        return TimeRead::Bad;
+    }
+    if s.len() - 4 < at {
+        return TimeRead::Bad;
+    }
+    if !ends(s, at + 4) {
+        return TimeRead::Bad;
+    }
+    let TimeMade::Time(t) = TimeOfDay::from_digits(s[at], s[at + 1], s[at + 2], s[at + 3]) else {
+        return TimeRead::Bad;
+    };
+    TimeRead::Time(t, at + 4)
 }
