@@ -1,3 +1,4 @@
 pub mod FieldLaws
 pub mod RunLaws
 pub mod ShapeLaws
+pub mod Picked

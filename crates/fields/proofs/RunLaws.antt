@@ -19,7 +19,7 @@ use Rattle.fields.specs.declared.ExchangeRead.the-variants as ExchangeRe
 use Rattle.fields.specs.declared.SerialRead.{SerialRead}
 use Rattle.fields.specs.declared.SerialRead.the-variants as SerialRead
 use Rattle.fields.specs.Field.{exchangeAt, serialAt, inField, textAt, endsAt, endOf, callAt}
-use Rattle.fields.proofs.FieldLaws.{at, run-is-field, run-is-as-long}
+use Rattle.fields.proofs.FieldLaws.{next, run-is-field, run-is-as-long}
 
 -- The run from a place on ended: the field is no run of the kind, or it is, and ends there.
 pub record Run (f : ℕ → Bool) (s : Text) (at end : ℕ) : Type 0 where
@@ -76,19 +76,19 @@ unfolding textAt
 text-within s at h =
     omega (arith, length-take (span inField (drop at s)) (drop at s), length-drop at s)
 
-next : (s : Text) (i j : ℕ) → i < length s → i + 1 ≡ j → drop i s ≡ getD s i 0 ∷ drop j s
-next s i j h e = at s i h ∙ ap (λ (k : ℕ). getD s i 0 ∷ drop k s) e
+next-at : (s : Text) (i j : ℕ) → i < length s → i + 1 ≡ j → drop i s ≡ getD s i 0 ∷ drop j s
+next-at s i j h e = next s i h ∙ ap (λ (k : ℕ). getD s i 0 ∷ drop k s) e
 
 pub five : (s : Text) (i : ℕ) → i + 5 ≤ length s
     → take 5 (drop i s)
     ≡ getD s i 0 ∷ getD s (i + 1) 0 ∷ getD s (i + 2) 0 ∷ getD s (i + 3) 0 ∷ getD s (i + 4) 0 ∷ []
 five s i h =
     rw (
-      next s i (i + 1) (omega arith) refl,
-      next s (i + 1) (i + 2) (omega arith) (omega arith),
-      next s (i + 2) (i + 3) (omega arith) (omega arith),
-      next s (i + 3) (i + 4) (omega arith) (omega arith),
-      next s (i + 4) (i + 5) (omega arith) (omega arith),
+      next-at s i (i + 1) (omega arith) refl,
+      next-at s (i + 1) (i + 2) (omega arith) (omega arith),
+      next-at s (i + 2) (i + 3) (omega arith) (omega arith),
+      next-at s (i + 3) (i + 4) (omega arith) (omega arith),
+      next-at s (i + 4) (i + 5) (omega arith) (omega arith),
     )
 
 pub error-is : (s : Text) (i : ℕ) → i + 5 ≤ length s

@@ -22,7 +22,8 @@ use Rattle.fields.specs.declared.MarkRead.the-variants as MarkRead
 use Rattle.fields.specs.declared.ReportRead.{ReportRead}
 use Rattle.fields.specs.declared.ReportRead.the-variants as ReportRead
 use Rattle.fields.specs.Field.{textAt, endsAt, endOf, callAt, callOrEmptyAt, modeAt, reportAt, locatorAt, locatorOrEmptyAt, markAt}
-use Rattle.fields.proofs.FieldLaws.{at, ends-with-line, ends-at-semicolon}
+use Rattle.fields.proofs.Picked.{Kept}
+use Rattle.fields.proofs.FieldLaws.{next, ends-with-line, ends-at-semicolon}
 
 -- The field ends; a character of a kind comes first; the field ends or goes on.
 pub data Shape : Type 0 where
@@ -70,7 +71,7 @@ module _ (s : Text) (i j d : ℕ) (q : i + 1 ≡ j) (e : endsAt s i ≡ false) w
   text-next =
       let h : i < length s = in-line s i e in
       let k : eqb (getD s i 0) 59 ≡ false = ends-at-semicolon s i h ∙ e in
-      rw (any-default s i d 0 h, at s i h, k, q)
+      rw (any-default s i d 0 h, next s i h, k, q)
 
   pub end-next : endOf s i ≡ endOf s j
   unfolding endOf
@@ -100,11 +101,6 @@ pub record Goes (rule : Text → Bool) (p : Shape) (s : Text) (at i : ℕ) : Typ
   pub rest : rule (textAt s at) ≡ fits p (textAt s i)
   pub ending : endOf s at ≡ endOf s i
   pub within : at < i → i ≤ length s
-
--- The rule is kept, and the field ends here.
-pub record Kept (rule : Text → Bool) (s : Text) (at i : ℕ) : Type 0 where
-  pub holds : rule (textAt s at) ≡ true
-  pub ending : endOf s at ≡ i
 
 module _ {rule : Text → Bool} {s : Text} {at i : ℕ} where
   -- Where a character must stand and the field has not ended.
@@ -136,13 +132,13 @@ module _ {rule : Text → Bool} {s : Text} {at i : ℕ} where
     unfolding fits endsAt
     whole g e =
         let h : endsAt s i ≡ true = sym l ∙ not-false b e in
-        record { holds = g .rest ∙ h; ending = g .ending ∙ ended-here s i h }
+        record { holds = g .rest ∙ h; ending = sym (g .ending ∙ ended-here s i h) }
 
     pub may-end : {p : Shape} → Goes rule (endedOr p) s at i → b ≡ true → Kept rule s at i
     unfolding fits endsAt
     may-end g e =
         let h : endsAt s i ≡ true = sym l ∙ e in
-        record { holds = g .rest ∙ rw h; ending = g .ending ∙ ended-here s i h }
+        record { holds = g .rest ∙ rw h; ending = sym (g .ending ∙ ended-here s i h) }
 
     pub may-go-on : {p : Shape} → Goes rule (endedOr p) s at i → b ≡ false → Goes rule p s at i
     unfolding fits endsAt
@@ -186,7 +182,7 @@ mode-bad s at e = rw e
 
 pub mode-kept : (s : Text) (at i : ℕ) → Kept mode s at i → ModeRead.Mode i ≡ modeAt s at
 unfolding modeAt
-mode-kept s at i k = rw (k .holds, k .ending)
+mode-kept s at i k = rw (k .holds, ← k .ending)
 
 -- A report: its third character, and from its second and its first on.
 abbrev pub digitOrCapital : ℕ → Bool
@@ -229,7 +225,7 @@ report-bad s at e = rw e
 
 pub report-kept : (s : Text) (at i : ℕ) → Kept report s at i → ReportRead.Report i ≡ reportAt s at
 unfolding reportAt
-report-kept s at i k = rw (k .holds, k .ending)
+report-kept s at i k = rw (k .holds, ← k .ending)
 
 -- A call, where there may be none.
 pub no-call : (s : Text) (at : ℕ) → endsAt s at ≡ true → CallRead.Call at false ≡ callOrEmptyAt s at
@@ -293,7 +289,7 @@ locator-bad s at e = rw e
 
 pub locator-kept : (s : Text) (at i : ℕ) → Kept locator s at i → LocatorRead.Locator i ≡ locatorAt s at
 unfolding locatorAt
-locator-kept s at i k = rw (k .holds, k .ending)
+locator-kept s at i k = rw (k .holds, ← k .ending)
 
 -- A locator, where there may be none.
 pub no-locator : (s : Text) (at : ℕ) → endsAt s at ≡ true → LocatorRead.Locator at ≡ locatorOrEmptyAt s at
@@ -326,7 +322,7 @@ module _ (letter : ℕ) (s : Text) (at : ℕ) where
 
     pub mark-set : (i : ℕ) → b ≡ false → Kept (emptyOr (same (letter ∷ []))) s at i → MarkRead.Mark true i ≡ markAt letter s at
     unfolding markAt endsAt
-    mark-set i e k = rw (k .holds, k .ending, sym l ∙ e)
+    mark-set i e k = rw (k .holds, ← k .ending, sym l ∙ e)
 
   module _ {b : Bool} {x : ℕ} (l : b ≡ endsAt s at) (e : b ≡ false) (k : x ≡ getD s at 59) where
     marked : Goes (emptyOr (same (letter ∷ []))) (one (eqb letter) ended) s at at
