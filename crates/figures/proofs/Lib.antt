@@ -3,3 +3,5 @@ pub mod Picked
 pub mod BoundLaws
 pub mod ExactLaws
 pub mod TimeLaws
+pub mod CalendarLaws
+pub mod DateLaws

@@ -228,3 +228,111 @@ pub fn time(s: &[u8], at: usize) -> TimeRead
     };
     TimeRead::Time(t, at + 4)
 }
+
+// The days of each month, but for the leap day.
+const MONTHS: [u8; 12] = [31, 28, 31, 30, 31, 30, 31, 31, 30, 31, 30, 31];
+
+fn is_leap(year: u32) -> bool
+    ensures { λ r. ⌜ r ≡ leap year ⌝ }
+{
+    if year % 400 == 0 {
+        return true;
+    }
+    if year % 100 == 0 {
+        return false;
+    }
+    year % 4 == 0
+}
+
+// The days of a month. There is no month 0: as in the definition, it counts as the first.
+pub fn month_length(year: u32, month: u32) -> u32
+    ensures { λ r. ⌜ r ≡ monthLength year month ⌝ }
+{
+    if 12 < month {
+        return 0;
+    }
+    if month == 0 {
+        return MONTHS[0] as u32;
+    }
+    let i = (month - 1) as usize;
+    let days = MONTHS[i] as u32;
+    if month != 2 {
+        return days;
+    }
+    if !is_leap(year) {
+        return days;
+    }
+    days + 1
+}
+
+pub fn day_exists(year: u32, month: u32, day: u32) -> bool
+    ensures { λ r. ⌜ r ≡ dayExists year month day ⌝ }
+{
+    if month < 1 {
+        return false;
+    }
+    if 12 < month {
+        return false;
+    }
+    if day < 1 {
+        return false;
+    }
+    day <= month_length(year, month)
+}
+
+// Of a year's last two digits: 90 to 99 are the 1990s, and the rest the 2000s.
+fn full_year(yy: u32) -> u32
+    requires { ⌜ yy < 100 ⌝ }
+    ensures { λ r. ⌜ r ≡ fullYear yy ⌝ }
+{
+    if 90 <= yy {
+        return 1900 + yy;
+    }
+    2000 + yy
+}
+
+pub fn date(s: &[u8], at: usize) -> DateRead
+    ensures { λ r. ⌜ r ≡ dateAt (now (s .entry)) at ⌝ }
+{
+    let run = read_digits(s, at, 6);
+    let end = run.end;
+    if !ends(s, end) {
+        return DateRead::Bad;
+    }
+    if end == at {
+        return DateRead::Empty;
+    }
+    if end - at != 6 {
+        return DateRead::Bad;
+    }
+    let value = run.value as u32;
+    if !day_exists(full_year(value / 10000), value / 100 % 100, value % 100) {
+        return DateRead::Bad;
+    }
+    DateRead::Date(end)
+}
+
+pub fn long_date(s: &[u8], at: usize) -> LongDateRead
+    ensures { λ r. ⌜ r ≡ longDateAt (now (s .entry)) at ⌝ }
+{
+    let run = read_digits(s, at, 8);
+    let end = run.end;
+    if !ends(s, end) {
+        return LongDateRead::Bad;
+    }
+    if end - at != 8 {
+        return LongDateRead::Bad;
+    }
+    let value = run.value as u32;
+    let year = value / 10000;
+    if year < 1990 {
+        return LongDateRead::Bad;
+    }
+    if 2089 < year {
+        return LongDateRead::Bad;
+    }
+    if !day_exists(year, value / 100 % 100, value % 100) {
+        return LongDateRead::Bad;
+    }
+    LongDateRead::Date(value, end)
+}
