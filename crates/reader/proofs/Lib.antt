@@ -1,2 +1,2 @@
 pub mod LineLaws
-pub mod PartLaws
+pub mod CountLaws
