@@ -17,9 +17,9 @@ use Rattle.figures.specs.declared.TimeMade.the-variants as TimeMade
 use Rattle.figures.specs.declared.TimeRead.{TimeRead}
 use Rattle.figures.specs.declared.TimeRead.the-variants as TimeRead
 use Rattle.figures.specs.Figure.{timeMade, timeAt}
-use Rattle.figures.proofs.NumberLaws.{value-split, both-first, both-second, text-within, end-is-length}
+use Rattle.figures.proofs.Choices.{both-first, both-second, passed, picked}
+use Rattle.figures.proofs.NumberLaws.{value-split, text-within, end-is-length}
 use Rattle.figures.proofs.ExactLaws.{exact-text, exact-ends, digits-exact, four-characters}
-use Rattle.figures.proofs.Picked.{picked, passed}
 
 -- The number that two digits write.
 pub two-digits : (a b : ℕ) → 10 * (a - 48) + (b - 48) ≡ value (a ∷ b ∷ [])
@@ -100,6 +100,10 @@ time-last t h =
   where
     hours : (eqb (length t) 4 && all digit t && leb (value (take 2 t)) 23) ≡ true
     hours = both-first (eqb (length t) 4 && all digit t && leb (value (take 2 t)) 23) (leb (value (drop 2 t)) 59) h
+
+pub made-within : (a b c d : ℕ) {t : TimeOfDay} → timeMade a b c d ≡ TimeMade.Time t → t .digits ≤ 2359
+made-within a b c d p =
+    omega (arith, made-picked a b c d p .1, time-last (a ∷ b ∷ c ∷ d ∷ []) (made-picked a b c d p .0))
 
 time-digits : (t : Text) → timeOfDay t ≡ true → all digit t ≡ true
 unfolding timeOfDay
