@@ -1,2 +1,4 @@
 pub mod LineLaws
 pub mod CountLaws
+pub mod RecordLaws
+pub mod FirstLaws
