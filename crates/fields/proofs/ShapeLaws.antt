@@ -37,7 +37,7 @@ fits (one f p) [] = false
 fits (one f p) (c ∷ t) = f c && fits p t
 fits (endedOr p) t = empty t || fits p t
 
--- Where the field has not ended, one character stands before the rest of it.
+-- Where the field has ended nothing is left of it; where it has not, one character stands before the rest.
 no-text : (t : Text) → empty t ≡ true → t ≡ []
 no-text [] e = refl
 no-text (c ∷ t) e = absurd (true≢false (sym e))
@@ -192,7 +192,7 @@ pub mode-kept : (s : Text) (at i : ℕ) → Kept mode s at i → ModeRead.Mode i
 unfolding modeAt
 mode-kept s at i k = rw (k .holds, ← k .ending)
 
--- A report: its third character, and from its second and its first on.
+-- A report: what may stand behind its two digits, and the whole.
 abbrev pub digitOrCapital : ℕ → Bool
 digitOrCapital c = digit c || capital c
 
@@ -244,7 +244,7 @@ pub some-call : (s : Text) (at : ℕ) → endsAt s at ≡ false → callAt s at 
 unfolding callAt callOrEmptyAt endsAt emptyOr
 some-call s at e = rw e
 
--- A locator: what is left of it behind its square, and in front of that.
+-- A locator: what may stand behind its square, behind the square's letters, and the whole.
 abbrev pub locator-4 : Shape
 locator-4 = endedOr (one subLetter (one subLetter ended))
 
@@ -254,31 +254,24 @@ locator-2 = one digit (one digit locator-4)
 abbrev pub locator-0 : Shape
 locator-0 = one squareLetter (one squareLetter locator-2)
 
+in-a-row : (w x y z u : Bool) → (w && (x && true) && (y && (z && true)) && u) ≡ (w && (x && (y && (z && u))))
+in-a-row true true true true u = refl
+in-a-row true true true false u = refl
+in-a-row true true false z u = refl
+in-a-row true false y z u = refl
+in-a-row false x y z u = refl
+
 pub locator-is : (t : Text) → locator t ≡ fits locator-0 t
 unfolding locator all fits
 locator-is [] = refl
 locator-is (a ∷ []) = rw (and-false (squareLetter a))
 locator-is (a ∷ b ∷ []) = rw (and-false (squareLetter b), and-false (squareLetter a))
 locator-is (a ∷ b ∷ c ∷ []) = rw (and-false (digit c), and-false (squareLetter b), and-false (squareLetter a))
-locator-is (a ∷ b ∷ c ∷ d ∷ []) = by (squareLetter a) (squareLetter b) (digit c) (digit d)
-  where
-    by : (w x y z : Bool) → (w && (x && true) && (y && (z && true)) && true) ≡ (w && (x && (y && (z && true))))
-    by true true true true = refl
-    by true true true false = refl
-    by true true false z = refl
-    by true false y z = refl
-    by false x y z = refl
+locator-is (a ∷ b ∷ c ∷ d ∷ []) = in-a-row (squareLetter a) (squareLetter b) (digit c) (digit d) true
 locator-is (a ∷ b ∷ c ∷ d ∷ e ∷ []) =
     rw (and-false (subLetter e), and-false (digit d), and-false (digit c), and-false (squareLetter b), and-false (squareLetter a))
 locator-is (a ∷ b ∷ c ∷ d ∷ e ∷ f ∷ []) =
-    by (squareLetter a) (squareLetter b) (digit c) (digit d) (subLetter e && (subLetter f && true))
-  where
-    by : (w x y z u : Bool) → (w && (x && true) && (y && (z && true)) && u) ≡ (w && (x && (y && (z && u))))
-    by true true true true u = refl
-    by true true true false u = refl
-    by true true false z u = refl
-    by true false y z u = refl
-    by false x y z u = refl
+    in-a-row (squareLetter a) (squareLetter b) (digit c) (digit d) (subLetter e && (subLetter f && true))
 locator-is (a ∷ b ∷ c ∷ d ∷ e ∷ f ∷ g ∷ t) =
     rw (
       ne-eqb (suc (suc (suc (suc (suc (suc (suc (length t)))))))) 4 (omega arith),
