@@ -2,3 +2,4 @@ pub mod FieldLaws
 pub mod RunLaws
 pub mod ShapeLaws
 pub mod Picked
+pub mod PartLaws
