@@ -21,9 +21,9 @@ use Rattle.figures.specs.declared.TimeRead.{TimeRead}
 use Rattle.figures.specs.declared.TimeRead.the-variants as TimeRead
 use Rattle.figures.specs.declared.NumberRead.{NumberRead}
 use Rattle.figures.specs.declared.NumberRead.the-variants as NumberRead
-use Rattle.figures.specs.Figure.{numberAt, dateAt, longDateAt, timeAt}
+use Rattle.figures.specs.Figure.{numberAt, dateAt, longDateAt, timeAt, minutesOf}
 use Rattle.figures.proofs.Choices.{both-first, both-second, picked, passed}
-use Rattle.figures.proofs.TimeLaws.{time-last}
+use Rattle.figures.proofs.TimeLaws.{time-last, minutes-last}
 use Rattle.figures.proofs.NumberLaws.{number-digits, value-below, below-power}
 
 no-number : {v e : ℕ} → NumberRead.Bad ≡ NumberRead.Number v e → ⊥
@@ -141,3 +141,7 @@ module _ (s : Text) (at : ℕ) where
   -- No time is later than the last.
   pub time-within : {t : TimeOfDay} {e : ℕ} → timeAt s at ≡ TimeRead.Time t e → t .digits ≤ 2359
   time-within p = omega (arith, time-picked p .1, time-last (textAt s at) (time-picked p .0))
+
+  pub minutes-within : {t : TimeOfDay} {e : ℕ} → timeAt s at ≡ TimeRead.Time t e → minutesOf t ≤ 1439
+  unfolding minutesOf
+  minutes-within p = omega (arith, time-picked p .1, minutes-last (textAt s at) (time-picked p .0))
