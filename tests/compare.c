@@ -4,8 +4,8 @@
  *
  *     compare [FOLDER] < TRIALS
  *
- * Each log with a difference is saved to FOLDER as trial-INDEX.edi. The status is 0 where there is no difference, 1 where there is one, and 2 where
- * the stream is broken. */
+ * A difference is told in a line, 20 of them at most, and each log that such a line is about is saved to FOLDER as trial-INDEX.edi. The status is 0
+ * where there is no difference, 1 where there is one, and 2 where the stream is broken. */
 #include "sumpquince.h"
 
 #include <stdbool.h>
@@ -227,7 +227,7 @@ static void try_trial(const Trial *trial) {
     try_write(trial);
     hold(trial, "all", "whether the log itself was changed", memcmp(copy, trial->log.at, trial->log.length) != 0, 0);
     free(copy);
-    if (run.differences != before) save_log(trial);
+    if (run.differences != before && before < MOST_LINES) save_log(trial);
 }
 
 int main(int count, char **words) {
