@@ -2,4 +2,3 @@ pub mod FieldLaws
 pub mod RunLaws
 pub mod ShapeLaws
 pub mod Picked
-pub mod PartLaws
