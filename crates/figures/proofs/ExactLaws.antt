@@ -10,7 +10,7 @@ use lib.ListN.{length, take, drop, getD}
 use lib.Seq.{drop-drop}
 use Rattle.rules.specs.Text.{Text, digit, span, all, empty}
 use Rattle.fields.specs.Field.{inField, textAt, endsAt}
-use Rattle.fields.proofs.FieldLaws.{at as at-place}
+use Rattle.fields.proofs.FieldLaws.{next as at-place}
 use Rattle.figures.specs.Figure.{digitsWithin}
 use Rattle.figures.proofs.NumberLaws.{both-first, both-second, field, span-length, whole}
 

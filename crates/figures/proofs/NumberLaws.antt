@@ -12,7 +12,7 @@ use lib.Seq.{drop-drop, getD-drop}
 use borrow.Author.Tests.{leb-true, leb-false, le-leb, lt-leb, eqb-true, eqb-false, ne-eqb, not-true}
 use Rattle.rules.specs.Text.{Text, bytes, digit, span, all, same, begins, empty, value, valueAfter, number, numberOf}
 use Rattle.fields.specs.Field.{inField, textAt, endsAt, endOf}
-use Rattle.fields.proofs.FieldLaws.{at as at-place}
+use Rattle.fields.proofs.FieldLaws.{next as at-place}
 use Rattle.figures.specs.declared.DigitsRead.{DigitsRead}
 use Rattle.figures.specs.declared.NumberRead.{NumberRead}
 use Rattle.figures.specs.declared.NumberRead.the-variants as NumberRead

@@ -14,7 +14,7 @@ use borrow.Author.Tests.{eq-eqb, ne-eqb}
 use native.Mathlib.Numerals.{add-one}
 use Rattle.rules.specs.Text.{Text, semicolon, span, parts, before}
 use Rattle.fields.specs.Field.{inField, textAt, endOf}
-use Rattle.fields.proofs.FieldLaws.{at}
+use Rattle.fields.proofs.FieldLaws.{next}
 
 -- A run lies within its text.
 pub span-short : (f : ℕ → Bool) (s : Text) → span f s ≤ length s
@@ -66,7 +66,7 @@ module _ (l : Text) where
   parts-last a h = at-end a ∙ ap (λ (t : Text). textAt l a ∷ rest t) (drop-of-length-le l h)
 
   pub parts-more : (a : ℕ) → endOf l a < length l → parts (drop a l) ≡ textAt l a ∷ parts (drop (endOf l a + 1) l)
-  parts-more a h = at-end a ∙ ap (λ (t : Text). textAt l a ∷ rest t) (at l (endOf l a) h)
+  parts-more a h = at-end a ∙ ap (λ (t : Text). textAt l a ∷ rest t) (next l (endOf l a) h)
 
   -- The part of number k begins at a, and so on from there.
   abbrev pub Reaches : ℕ → ℕ → Type 0
@@ -136,11 +136,11 @@ module _ (l : Text) where
   -- Counting semicolons from a place on.
   pub count-semicolon : (i : ℕ) → i < length l → getD l i 0 ≡ 59 → length (parts (drop i l)) ≡ length (parts (drop (i + 1) l)) + 1
   unfolding parts
-  count-semicolon i h e = rw (at l i h, eq-eqb (getD l i 0) 59 e) (sym (add-one _))
+  count-semicolon i h e = rw (next l i h, eq-eqb (getD l i 0) 59 e) (sym (add-one _))
 
   pub count-other : (i : ℕ) → i < length l → (getD l i 0 ≡ 59 → ⊥) → length (parts (drop i l)) ≡ length (parts (drop (i + 1) l))
   unfolding parts before
-  count-other i h e = rw (at l i h, ne-eqb (getD l i 0) 59 e) (kept (parts-split (drop (i + 1) l)))
+  count-other i h e = rw (next l i h, ne-eqb (getD l i 0) 59 e) (kept (parts-split (drop (i + 1) l)))
     where
       kept : {t : Text} {ts : List Text} → parts (drop (i + 1) l) ≡ t ∷ ts → length (before (getD l i 0) (parts (drop (i + 1) l))) ≡ length (parts (drop (i + 1) l))
       kept p = rw p
