@@ -31,7 +31,7 @@ abbrev rest : Text → List Text
 rest [] = []
 rest (c ∷ s) = parts s
 
-parts-split : (s : Text) → parts s ≡ take (span inField s) s ∷ rest (drop (span inField s) s)
+pub parts-split : (s : Text) → parts s ≡ take (span inField s) s ∷ rest (drop (span inField s) s)
 unfolding parts before span
 parts-split [] = refl
 parts-split (c ∷ s) = by (eqb c 59) (parts-split s)
