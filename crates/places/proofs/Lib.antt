@@ -1,3 +1,4 @@
 pub mod PlaceLaws
+pub mod LineStarts
 pub mod FieldsHeld
 pub mod RecordsHeld
