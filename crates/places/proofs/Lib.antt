@@ -3,3 +3,4 @@ pub mod LineStarts
 pub mod FieldsHeld
 pub mod RecordsHeld
 pub mod LinesHeld
+pub mod HeaderHeld
