@@ -4,3 +4,4 @@ pub mod FieldsHeld
 pub mod RecordsHeld
 pub mod LinesHeld
 pub mod HeaderHeld
+pub mod ToldBounds
