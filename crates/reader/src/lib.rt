@@ -12,6 +12,10 @@ ghost use Rattle.rules.specs.Fields.{errorCall};
 ghost use mathlib.Core.List.{[]};
 ghost use lib.ListN.{getD};
 ghost use Rattle.reader.specs.Record.{brokenAt, datedOf, scoredAt, recordOf};
+use rules::Due;
+use rules::Next;
+ghost use Rattle.rules.specs.Rules.{base};
+ghost use Rattle.rules.specs.Reading.{recordsDue, countRule};
 use fields::CallRead;
 use fields::ExchangeRead;
 use fields::LocatorRead;
@@ -244,4 +248,46 @@ pub fn record(line: &[u8]) -> RecordRead
         return RecordRead::Kept;
     }
     RecordRead::Broken(0)
+}
+
+// So many records are due.
+fn records_due(n: usize) -> Due
+    ensures { λ r. ⌜ r ≡ recordsDue n ⌝ }
+{
+    if n == 0 {
+        return Due::End;
+    }
+    Due::Record(n)
+}
+
+// The count line behind its `[QSORecords;`: a number, and then `]` and no more.
+fn count_step(t: &[u8]) -> Next
+    ensures { λ r. ⌜ r ≡ countRule base (now (t .entry)) ⌝ }
+{
+    let n = fields::digit_run(t, 0);
+    if t.len() <= n {
+        return Next::Stops {
+            number: 4,
+            field: 0,
+        };
+    }
+    let NumberRead::Number(count, _) = figures::record_count(&t[..n], 0) else {
+        return Next::Stops {
+            number: 4,
+            field: 0,
+        };
+    };
+    if t.len() != n + 1 {
+        return Next::Stops {
+            number: 4,
+            field: 0,
+        };
+    }
+    if t[n] != 93 {
+        return Next::Stops {
+            number: 4,
+            field: 0,
+        };
+    }
+    Next::Goes(records_due(count as usize))
 }
