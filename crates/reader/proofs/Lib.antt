@@ -3,3 +3,4 @@ pub mod CountLaws
 pub mod RecordLaws
 pub mod FirstLaws
 pub mod StepLaws
+pub mod DueLaws
