@@ -142,3 +142,9 @@ pub fn band(t: &[u8]) -> BandRead
     }
     BandRead::Differs
 }
+
+// Whether the argument of a keyword keeps its rule.
+pub enum ArgumentRead {
+    Kept,
+    Broken,
+}
