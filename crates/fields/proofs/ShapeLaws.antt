@@ -37,7 +37,7 @@ fits (one f p) [] = false
 fits (one f p) (c ∷ t) = f c && fits p t
 fits (endedOr p) t = empty t || fits p t
 
--- Where the field has not ended, one character stands before the rest of it.
+-- Where the field has ended nothing is left of it; where it has not, one character stands before the rest.
 no-text : (t : Text) → empty t ≡ true → t ≡ []
 no-text [] e = refl
 no-text (c ∷ t) e = absurd (true≢false (sym e))
@@ -89,6 +89,13 @@ ends-is s i = by (leb (length s) i) refl
         let h : i < length s = leb-false (length s) i k in
         sym (ends-at-semicolon s i h) ∙ ap (λ (b : ℕ). eqb b 59) (any-default s i 0 59 h)
 
+module _ (s : Text) (i : ℕ) {x : ℕ} (k : x ≡ getD s i 59) where
+  at-end : x ≡ 59 → endsAt s i ≡ true
+  at-end q = ends-is s i ∙ eq-eqb (getD s i 59) 59 (sym k ∙ q)
+
+  at-none : (x ≡ 59 → ⊥) → endsAt s i ≡ false
+  at-none n = ends-is s i ∙ ne-eqb (getD s i 59) 59 (λ q. n (k ∙ q))
+
 still : (f : ℕ → Bool) → f 59 ≡ false → (s : Text) (i : ℕ) → f (getD s i 59) ≡ true → endsAt s i ≡ false
 still f apart s i h = by (endsAt s i) refl
   where
@@ -134,16 +141,17 @@ module _ {rule : Text → Bool} {s : Text} {at i : ℕ} where
         let h : endsAt s i ≡ true = sym l ∙ not-false b e in
         record { holds = g .rest ∙ h; ending = sym (g .ending ∙ ended-here s i h) }
 
-    pub may-end : {p : Shape} → Goes rule (endedOr p) s at i → b ≡ true → Kept rule s at i
+  module _ {x : ℕ} (k : x ≡ getD s i 59) {p : Shape} (g : Goes rule (endedOr p) s at i) where
+    pub may-end : x ≡ 59 → Kept rule s at i
     unfolding fits endsAt
-    may-end g e =
-        let h : endsAt s i ≡ true = sym l ∙ e in
+    may-end q =
+        let h : endsAt s i ≡ true = at-end s i k q in
         record { holds = g .rest ∙ rw h; ending = sym (g .ending ∙ ended-here s i h) }
 
-    pub may-go-on : {p : Shape} → Goes rule (endedOr p) s at i → b ≡ false → Goes rule p s at i
+    pub may-go-on : (x ≡ 59 → ⊥) → Goes rule p s at i
     unfolding fits endsAt
-    may-go-on g e =
-        let h : endsAt s i ≡ false = sym l ∙ e in
+    may-go-on n =
+        let h : endsAt s i ≡ false = at-none s i k n in
         record { rest = g .rest ∙ rw h; ending = g .ending; within = g .within }
 
 pub goes : {rule : Text → Bool} {p : Shape} (s : Text) (at : ℕ) → ((t : Text) → rule t ≡ fits p t) → Goes rule p s at at
@@ -184,7 +192,7 @@ pub mode-kept : (s : Text) (at i : ℕ) → Kept mode s at i → ModeRead.Mode i
 unfolding modeAt
 mode-kept s at i k = rw (k .holds, ← k .ending)
 
--- A report: its third character, and from its second and its first on.
+-- A report: what may stand behind its two digits, and the whole.
 abbrev pub digitOrCapital : ℕ → Bool
 digitOrCapital c = digit c || capital c
 
@@ -236,7 +244,7 @@ pub some-call : (s : Text) (at : ℕ) → endsAt s at ≡ false → callAt s at 
 unfolding callAt callOrEmptyAt endsAt emptyOr
 some-call s at e = rw e
 
--- A locator: what is left of it behind its square, and in front of that.
+-- A locator: what may stand behind its square, behind the square's letters, and the whole.
 abbrev pub locator-4 : Shape
 locator-4 = endedOr (one subLetter (one subLetter ended))
 
@@ -246,31 +254,24 @@ locator-2 = one digit (one digit locator-4)
 abbrev pub locator-0 : Shape
 locator-0 = one squareLetter (one squareLetter locator-2)
 
+in-a-row : (w x y z u : Bool) → (w && (x && true) && (y && (z && true)) && u) ≡ (w && (x && (y && (z && u))))
+in-a-row true true true true u = refl
+in-a-row true true true false u = refl
+in-a-row true true false z u = refl
+in-a-row true false y z u = refl
+in-a-row false x y z u = refl
+
 pub locator-is : (t : Text) → locator t ≡ fits locator-0 t
 unfolding locator all fits
 locator-is [] = refl
 locator-is (a ∷ []) = rw (and-false (squareLetter a))
 locator-is (a ∷ b ∷ []) = rw (and-false (squareLetter b), and-false (squareLetter a))
 locator-is (a ∷ b ∷ c ∷ []) = rw (and-false (digit c), and-false (squareLetter b), and-false (squareLetter a))
-locator-is (a ∷ b ∷ c ∷ d ∷ []) = by (squareLetter a) (squareLetter b) (digit c) (digit d)
-  where
-    by : (w x y z : Bool) → (w && (x && true) && (y && (z && true)) && true) ≡ (w && (x && (y && (z && true))))
-    by true true true true = refl
-    by true true true false = refl
-    by true true false z = refl
-    by true false y z = refl
-    by false x y z = refl
+locator-is (a ∷ b ∷ c ∷ d ∷ []) = in-a-row (squareLetter a) (squareLetter b) (digit c) (digit d) true
 locator-is (a ∷ b ∷ c ∷ d ∷ e ∷ []) =
     rw (and-false (subLetter e), and-false (digit d), and-false (digit c), and-false (squareLetter b), and-false (squareLetter a))
 locator-is (a ∷ b ∷ c ∷ d ∷ e ∷ f ∷ []) =
-    by (squareLetter a) (squareLetter b) (digit c) (digit d) (subLetter e && (subLetter f && true))
-  where
-    by : (w x y z u : Bool) → (w && (x && true) && (y && (z && true)) && u) ≡ (w && (x && (y && (z && u))))
-    by true true true true u = refl
-    by true true true false u = refl
-    by true true false z u = refl
-    by true false y z u = refl
-    by false x y z u = refl
+    in-a-row (squareLetter a) (squareLetter b) (digit c) (digit d) (subLetter e && (subLetter f && true))
 locator-is (a ∷ b ∷ c ∷ d ∷ e ∷ f ∷ g ∷ t) =
     rw (
       ne-eqb (suc (suc (suc (suc (suc (suc (suc (length t)))))))) 4 (omega arith),
@@ -315,22 +316,23 @@ module _ (letter : ℕ) (s : Text) (at : ℕ) where
   unfolding markAt
   mark-bad e = rw e
 
-  module _ {b : Bool} (l : b ≡ endsAt s at) where
-    pub mark-none : b ≡ true → MarkRead.Mark false at ≡ markAt letter s at
+  module _ {x : ℕ} (k : x ≡ getD s at 59) where
+    pub mark-none : x ≡ 59 → MarkRead.Mark false at ≡ markAt letter s at
     unfolding markAt emptyOr
-    mark-none e = rw (ended-here s at (sym l ∙ e), ended-text s at (sym l ∙ e))
+    mark-none q = rw (ended-here s at (at-end s at k q), ended-text s at (at-end s at k q))
 
-    pub mark-set : (i : ℕ) → b ≡ false → Kept (emptyOr (same (letter ∷ []))) s at i → MarkRead.Mark true i ≡ markAt letter s at
-    unfolding markAt endsAt
-    mark-set i e k = rw (k .holds, ← k .ending, sym l ∙ e)
+    module _ (n : x ≡ 59 → ⊥) where
+      pub mark-set : (i : ℕ) → Kept (emptyOr (same (letter ∷ []))) s at i → MarkRead.Mark true i ≡ markAt letter s at
+      unfolding markAt endsAt
+      mark-set i h = rw (h .holds, ← h .ending, at-none s at k n)
 
-  module _ {b : Bool} {x : ℕ} (l : b ≡ endsAt s at) (e : b ≡ false) (k : x ≡ getD s at 59) where
-    marked : Goes (emptyOr (same (letter ∷ []))) (one (eqb letter) ended) s at at
-    marked = may-go-on l (goes s at (mark-is letter)) e
+      marked : Goes (emptyOr (same (letter ∷ []))) (one (eqb letter) ended) s at at
+      marked = may-go-on k (goes s at (mark-is letter)) n
 
-    pub mark-other : (x ≡ letter → ⊥) → MarkRead.Bad ≡ markAt letter s at
-    mark-other n =
-        mark-bad (other-one marked (sym l ∙ e) 59 (ne-eqb letter (getD s at 59) (λ q. n (k ∙ sym q))))
+      pub mark-other : (x ≡ letter → ⊥) → MarkRead.Bad ≡ markAt letter s at
+      mark-other m =
+          mark-bad (other-one marked (at-none s at k n) 59 (ne-eqb letter (getD s at 59) (λ q. m (k ∙ sym q))))
 
-    pub mark-here : x ≡ letter → Goes (emptyOr (same (letter ∷ []))) ended s at (at + 1)
-    mark-here q = next-one marked (sym l ∙ e) 59 (at + 1) refl (eq-eqb letter (getD s at 59) (sym q ∙ k))
+      pub mark-here : x ≡ letter → Goes (emptyOr (same (letter ∷ []))) ended s at (at + 1)
+      mark-here q =
+          next-one marked (at-none s at k n) 59 (at + 1) refl (eq-eqb letter (getD s at 59) (sym q ∙ k))

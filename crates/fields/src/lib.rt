@@ -1,5 +1,5 @@
 // The readers of single fields. Each takes a line and the place where its field begins, and answers where the field ends and what it holds,
-// or that it is bad. No byte is looked at twice, and none is copied.
+// or that it is bad. Each goes over its field once, and copies nothing; a call of five characters alone is looked at again, for `ERROR`.
 
 ghost use mathlib.Core.Path.{_≡_};
 ghost use Prim.Native.Nat.{_+_, _≤_};
@@ -39,6 +39,52 @@ pub fn is_call_character(b: u8) -> bool
     b == 47
 }
 
+// What may stand behind the two digits of a report.
+fn is_report_character(b: u8) -> bool
+    ensures { λ r. ⌜ r ≡ (digit b || capital b) ⌝ }
+{
+    if is_digit(b) {
+        return true;
+    }
+    is_capital(b)
+}
+
+pub fn is_exchange_character(b: u8) -> bool
+    ensures { λ r. ⌜ r ≡ exchangeCharacter b ⌝ }
+{
+    if b < 32 {
+        return false;
+    }
+    if 127 < b {
+        return false;
+    }
+    if b == 59 {
+        return false;
+    }
+    if b < 97 {
+        return true;
+    }
+    122 < b
+}
+
+pub fn is_square_letter(b: u8) -> bool
+    ensures { λ r. ⌜ r ≡ squareLetter b ⌝ }
+{
+    if b < 65 {
+        return false;
+    }
+    b <= 82
+}
+
+pub fn is_sub_letter(b: u8) -> bool
+    ensures { λ r. ⌜ r ≡ subLetter b ⌝ }
+{
+    if b < 65 {
+        return false;
+    }
+    b <= 88
+}
+
 // Nothing of a field is left at this place: a semicolon stands there, or the line ends.
 pub fn ends(s: &[u8], at: usize) -> bool
     ensures { λ r. ⌜ r ≡ endsAt (now (s .entry)) at ⌝ }
@@ -47,6 +93,16 @@ pub fn ends(s: &[u8], at: usize) -> bool
         return true;
     }
     s[at] == 59
+}
+
+// The byte at this place, and a semicolon where the line has ended: a field goes on at neither.
+fn byte_at(s: &[u8], at: usize) -> u8
+    ensures { λ r. ⌜ r ≡ getD (now (s .entry)) at 59 ⌝ }
+{
+    if s.len() <= at {
+        return 59;
+    }
+    s[at]
 }
 
 // The place behind the digits from here on.
@@ -77,38 +133,22 @@ pub fn call_run(s: &[u8], at: usize) -> usize
     i
 }
 
+// The place behind the exchange characters from here on.
+pub fn exchange_run(s: &[u8], at: usize) -> usize
+    ensures { λ r. ⌜ r ≡ at + span exchangeCharacter (drop at (now (s .entry))) ⌝ }
+{
+    let mut i = at;
+    while i < s.len() {
+        if !is_exchange_character(s[i]) {
+            return i;
+        }
+        i += 1;
+    }
+    i
+}
+
 pub enum CallRead {
     Call { end: usize, error: bool },
-    Bad,
-}
-
-pub enum ModeRead {
-    Mode(usize),
-    Bad,
-}
-
-pub enum ReportRead {
-    Report(usize),
-    Bad,
-}
-
-pub enum SerialRead {
-    Serial(usize),
-    Bad,
-}
-
-pub enum ExchangeRead {
-    Exchange(usize),
-    Bad,
-}
-
-pub enum LocatorRead {
-    Locator(usize),
-    Bad,
-}
-
-pub enum MarkRead {
-    Mark { set: bool, end: usize },
     Bad,
 }
 
@@ -166,23 +206,19 @@ pub fn call_or_empty(s: &[u8], at: usize) -> CallRead
     call(s, at)
 }
 
-// The byte at this place, and a semicolon where the line has ended: a field goes on at neither.
-fn byte_at(s: &[u8], at: usize) -> u8
-    ensures { λ r. ⌜ r ≡ getD (now (s .entry)) at 59 ⌝ }
-{
-    if s.len() <= at {
-        return 59;
-    }
-    s[at]
+pub enum ModeRead {
+    Mode(usize),
+    Bad,
 }
 
 pub fn mode(s: &[u8], at: usize) -> ModeRead
     ensures { λ r. ⌜ r ≡ modeAt (now (s .entry)) at ⌝ }
 {
-    if ends(s, at) {
+    let first = byte_at(s, at);
+    if first == 59 {
         return ModeRead::Mode(at);
     }
-    if !is_digit(byte_at(s, at)) {
+    if !is_digit(first) {
         return ModeRead::Bad;
     }
     let end = at + 1;
@@ -192,33 +228,30 @@ pub fn mode(s: &[u8], at: usize) -> ModeRead
     ModeRead::Mode(end)
 }
 
-// What may stand behind the two digits of a report.
-fn is_report_character(b: u8) -> bool
-    ensures { λ r. ⌜ r ≡ (digit b || capital b) ⌝ }
-{
-    if is_digit(b) {
-        return true;
-    }
-    is_capital(b)
+pub enum ReportRead {
+    Report(usize),
+    Bad,
 }
 
 pub fn report(s: &[u8], at: usize) -> ReportRead
     ensures { λ r. ⌜ r ≡ reportAt (now (s .entry)) at ⌝ }
 {
-    if ends(s, at) {
+    let first = byte_at(s, at);
+    if first == 59 {
         return ReportRead::Report(at);
     }
-    if !is_digit(byte_at(s, at)) {
+    if !is_digit(first) {
         return ReportRead::Bad;
     }
     if !is_digit(byte_at(s, at + 1)) {
         return ReportRead::Bad;
     }
     let two = at + 2;
-    if ends(s, two) {
+    let third = byte_at(s, two);
+    if third == 59 {
         return ReportRead::Report(two);
     }
-    if !is_report_character(byte_at(s, two)) {
+    if !is_report_character(third) {
         return ReportRead::Bad;
     }
     let three = at + 3;
@@ -226,6 +259,11 @@ pub fn report(s: &[u8], at: usize) -> ReportRead
         return ReportRead::Bad;
     }
     ReportRead::Report(three)
+}
+
+pub enum SerialRead {
+    Serial(usize),
+    Bad,
 }
 
 pub fn serial(s: &[u8], at: usize) -> SerialRead
@@ -248,22 +286,27 @@ pub fn serial(s: &[u8], at: usize) -> SerialRead
     SerialRead::Serial(end)
 }
 
-pub fn is_square_letter(b: u8) -> bool
-    ensures { λ r. ⌜ r ≡ squareLetter b ⌝ }
-{
-    if b < 65 {
-        return false;
-    }
-    b <= 82
+pub enum ExchangeRead {
+    Exchange(usize),
+    Bad,
 }
 
-pub fn is_sub_letter(b: u8) -> bool
-    ensures { λ r. ⌜ r ≡ subLetter b ⌝ }
+pub fn exchange(s: &[u8], at: usize) -> ExchangeRead
+    ensures { λ r. ⌜ r ≡ exchangeAt (now (s .entry)) at ⌝ }
 {
-    if b < 65 {
-        return false;
+    let end = exchange_run(s, at);
+    if !ends(s, end) {
+        return ExchangeRead::Bad;
     }
-    b <= 88
+    if 6 < end - at {
+        return ExchangeRead::Bad;
+    }
+    ExchangeRead::Exchange(end)
+}
+
+pub enum LocatorRead {
+    Locator(usize),
+    Bad,
 }
 
 pub fn locator(s: &[u8], at: usize) -> LocatorRead
@@ -282,10 +325,11 @@ pub fn locator(s: &[u8], at: usize) -> LocatorRead
         return LocatorRead::Bad;
     }
     let four = at + 4;
-    if ends(s, four) {
+    let fifth = byte_at(s, four);
+    if fifth == 59 {
         return LocatorRead::Locator(four);
     }
-    if !is_sub_letter(byte_at(s, four)) {
+    if !is_sub_letter(fifth) {
         return LocatorRead::Bad;
     }
     if !is_sub_letter(byte_at(s, at + 5)) {
@@ -307,62 +351,23 @@ pub fn locator_or_empty(s: &[u8], at: usize) -> LocatorRead
     locator(s, at)
 }
 
-pub fn is_exchange_character(b: u8) -> bool
-    ensures { λ r. ⌜ r ≡ exchangeCharacter b ⌝ }
-{
-    if b < 32 {
-        return false;
-    }
-    if 127 < b {
-        return false;
-    }
-    if b == 59 {
-        return false;
-    }
-    if b < 97 {
-        return true;
-    }
-    122 < b
-}
-
-// The place behind the exchange characters from here on.
-pub fn exchange_run(s: &[u8], at: usize) -> usize
-    ensures { λ r. ⌜ r ≡ at + span exchangeCharacter (drop at (now (s .entry))) ⌝ }
-{
-    let mut i = at;
-    while i < s.len() {
-        if !is_exchange_character(s[i]) {
-            return i;
-        }
-        i += 1;
-    }
-    i
-}
-
-pub fn exchange(s: &[u8], at: usize) -> ExchangeRead
-    ensures { λ r. ⌜ r ≡ exchangeAt (now (s .entry)) at ⌝ }
-{
-    let end = exchange_run(s, at);
-    if !ends(s, end) {
-        return ExchangeRead::Bad;
-    }
-    if 6 < end - at {
-        return ExchangeRead::Bad;
-    }
-    ExchangeRead::Exchange(end)
+pub enum MarkRead {
+    Mark { set: bool, end: usize },
+    Bad,
 }
 
 // A field that is the letter and nothing else, or is empty. A semicolon for the letter is never found, since no field holds one.
 pub fn mark(s: &[u8], at: usize, letter: u8) -> MarkRead
     ensures { λ r. ⌜ r ≡ markAt letter (now (s .entry)) at ⌝ }
 {
-    if ends(s, at) {
+    let first = byte_at(s, at);
+    if first == 59 {
         return MarkRead::Mark {
             set: false,
             end: at,
         };
     }
-    if byte_at(s, at) != letter {
+    if first != letter {
         return MarkRead::Bad;
     }
     let end = at + 1;

@@ -10,7 +10,7 @@ use lib.ListN.{getD, List·getD-eq-default}
 use borrow.Author.Tests.{not-true, eq-eqb, ne-eqb, le-leb, lt-leb, leb-true}
 use Rattle.rules.specs.Text.{Text, all}
 use Rattle.rules.specs.Fields.{monthLengths, leap, monthLength, dayExists, fullYear}
-use Rattle.figures.proofs.NumberLaws.{both-first, both-second}
+use Rattle.figures.proofs.Choices.{both-first, both-second}
 
 module _ (year : ℕ) where
   pub leap-four-hundred : year % 400 ≡ 0 → true ≡ leap year

@@ -18,7 +18,8 @@ use Rattle.figures.specs.declared.DateRead.the-variants as DateRead
 use Rattle.figures.specs.declared.LongDateRead.{LongDateRead}
 use Rattle.figures.specs.declared.LongDateRead.the-variants as LongDateRead
 use Rattle.figures.specs.Figure.{digitsAt, dateAt, longDateAt}
-use Rattle.figures.proofs.NumberLaws.{both-second, value-split, value-below, is-read, not-read, end-is-length}
+use Rattle.figures.proofs.Choices.{both-second}
+use Rattle.figures.proofs.NumberLaws.{value-split, value-below, is-read, not-read, end-is-length}
 
 all-drop : (k : ℕ) (t : Text) → all digit t ≡ true → all digit (drop k t) ≡ true
 unfolding all

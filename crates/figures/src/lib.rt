@@ -2,7 +2,7 @@
 // says, or that it is bad. A byte is looked at once, and once more only where a number begins or ends; none is copied.
 
 ghost use mathlib.Core.Path.{_≡_};
-ghost use Prim.Native.Nat.{_+_, _*_, _≤_, _<_};
+ghost use Prim.Native.Nat.{_≤_, _<_};
 ghost use mathlib.Core.Bool.{true};
 ghost use mathlib.Core.List.{[], _∷_};
 ghost use Rattle.rules.specs.Text.{digit, value, numberOf, numberFrom};
@@ -132,6 +132,7 @@ fn number(s: &[u8], at: usize, most: usize) -> NumberRead
     if s[at] != 48 {
         return NumberRead::Number(value, end);
     }
+    // a zero leads no number but itself
     if end - at != 1 {
         return NumberRead::Bad;
     }
@@ -214,6 +215,7 @@ fn two_digits(a: u8, b: u8) -> u32
 pub fn time(s: &[u8], at: usize) -> TimeRead
     ensures { λ r. ⌜ r ≡ timeAt (now (s .entry)) at ⌝ }
 {
+    // taken from the length, since no sum with `at` need fit
     if s.len() < 4 {
         return TimeRead::Bad;
     }
@@ -291,6 +293,7 @@ fn full_year(yy: u32) -> u32
     2000 + yy
 }
 
+// An empty date is told apart, since a record of the call `ERROR` may have one.
 pub fn date(s: &[u8], at: usize) -> DateRead
     ensures { λ r. ⌜ r ≡ dateAt (now (s .entry)) at ⌝ }
 {
@@ -312,6 +315,7 @@ pub fn date(s: &[u8], at: usize) -> DateRead
     DateRead::Date(end)
 }
 
+// The years run from 1990 to 2089, so that a long date's last six digits are a short one.
 pub fn long_date(s: &[u8], at: usize) -> LongDateRead
     ensures { λ r. ⌜ r ≡ longDateAt (now (s .entry)) at ⌝ }
 {

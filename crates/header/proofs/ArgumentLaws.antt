@@ -14,7 +14,7 @@ use lib.ListN.{drop-of-length-le}
 use Rattle.rules.specs.Text.{Text}
 use Rattle.rules.specs.Rules.{base}
 use Rattle.rules.specs.Arguments.{Rule, meets, entries}
-use Rattle.figures.proofs.NumberLaws.{both-first, both-second}
+use Rattle.figures.proofs.Choices.{both-first, both-second}
 use Rattle.header.specs.declared.ArgumentRead.{ArgumentRead}
 use Rattle.header.specs.declared.ArgumentRead.the-variants as ArgumentRead
 use Rattle.header.specs.Header.{firstArgument, argumentOf}

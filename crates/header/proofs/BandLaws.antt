@@ -12,7 +12,7 @@ use lib.Seq.{drop-cons}
 use Rattle.rules.specs.Text.{Text, bytes, same}
 use Rattle.rules.specs.Rules.{base, bandNames}
 use Rattle.rules.specs.Arguments.{among, meets, aBand}
-use Rattle.figures.proofs.Picked.{picked, passed}
+use Rattle.figures.proofs.Choices.{picked, passed}
 use Rattle.header.specs.declared.BandRead.{BandRead}
 use Rattle.header.specs.declared.BandRead.the-variants as BandRead
 use Rattle.header.specs.Header.{bandOf}

@@ -15,7 +15,7 @@ use Rattle.fields.proofs.Picked.{Kept}
 use Rattle.figures.specs.declared.LongDateRead.{LongDateRead}
 use Rattle.figures.specs.declared.LongDateRead.the-variants as LongDateRead
 use Rattle.figures.specs.Figure.{longDateAt}
-use Rattle.figures.proofs.Picked.{picked, passed}
+use Rattle.figures.proofs.Choices.{picked, passed}
 use Rattle.header.proofs.PartLaws.{reach-first, reach-next, text-of}
 
 no-date : {v e : ℕ} → LongDateRead.Bad ≡ LongDateRead.Date v e → ⊥

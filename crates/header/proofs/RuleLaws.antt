@@ -16,7 +16,8 @@ use Rattle.fields.proofs.ShapeLaws.{Shape, ended, one, endedOr, fits, locator-0
 use Rattle.figures.specs.declared.NumberRead.{NumberRead}
 use Rattle.figures.specs.declared.NumberRead.the-variants as NumberRead
 use Rattle.figures.specs.Figure.{numberAt}
-use Rattle.figures.proofs.NumberLaws.{both-first, both-second, number-digits}
+use Rattle.figures.proofs.Choices.{both-first, both-second}
+use Rattle.figures.proofs.NumberLaws.{number-digits}
 use Rattle.figures.proofs.Picked.{number-picked}
 
 -- A kind of characters that the semicolon is not of.

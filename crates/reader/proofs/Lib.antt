@@ -1,2 +1,5 @@
 pub mod LineLaws
 pub mod CountLaws
+pub mod RecordLaws
+pub mod FirstLaws
+pub mod StepLaws

@@ -1,3 +1,4 @@
+use native.Mathlib.Omega.{arith}
 use mathlib.Core.Path.{refl}
 use denote.Ref.{now}
 use borrow.Author.Needs.{needs}
@@ -23,13 +24,13 @@ sub-count : tie.Need-sub-count
 sub-count c = search needs
 
 returns-2 : tie.Need-returns-2
-returns-2 c = call-short (upto (c .before)) (c .if2 .taken)
+returns-2 c = call-short (upto (c .before)) (omega arith)
 
 returns-3 : tie.Need-returns-3
-returns-3 c = call-long (upto (c .before .before)) (c .if3 .taken)
+returns-3 c = call-long (upto (c .before .before)) (omega arith)
 
 returns-4 : tie.Need-returns-4
-returns-4 c = call-other (upto (c .before .before .before)) (c .before .before .if2 .left) (c .before .if3 .left) (c .if4 .taken)
+returns-4 c = call-other (upto (c .before .before .before)) (omega arith) (omega arith) (c .if4 .taken)
 
 is-error-requires : tie.Need-is-error-requires
 is-error-requires c κs = five-within (upto (c .before .before .before)) (c .if4 .left)

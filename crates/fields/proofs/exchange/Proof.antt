@@ -1,3 +1,4 @@
+use native.Mathlib.Omega.{arith}
 use mathlib.Core.Path.{refl}
 use denote.Ref.{now}
 use borrow.Author.Needs.{needs}
@@ -22,10 +23,10 @@ sub-if2 : tie.Need-sub-if2
 sub-if2 c = search needs
 
 returns-2 : tie.Need-returns-2
-returns-2 c = exchange-long (upto (c .before)) (c .if2 .taken)
+returns-2 c = exchange-long (upto (c .before)) (omega arith)
 
 returns-3 : tie.Need-returns-3
-returns-3 c = exchange-read (upto (c .before)) (c .if2 .left)
+returns-3 c = exchange-read (upto (c .before)) (omega arith)
 
 pub exchange-spec : {M : Type 1} → statement M
 exchange-spec =

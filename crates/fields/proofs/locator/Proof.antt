@@ -22,11 +22,11 @@ is-square-letter-requires c κs = search needs
 returns : tie.Need-returns
 returns c = locator-bad _ _ (stop squareLetter refl (goes _ _ locator-is) (c .before .before .byte-at .ensures) (c .before .is-square-letter .ensures) (c .if1 .taken))
 
-upto1 : (c : tie.Else1) → Behind (c .before .before .before .before) (one squareLetter locator-2) 1
-upto1 c = step squareLetter refl (goes _ _ locator-is) (c .before .before .byte-at .ensures) (c .before .is-square-letter .ensures) _ refl (c .if1 .left)
+behind1 : (c : tie.Else1) → Behind (c .before .before .before .before) (one squareLetter locator-2) 1
+behind1 c = step squareLetter refl (goes _ _ locator-is) (c .before .before .byte-at .ensures) (c .before .is-square-letter .ensures) _ refl (c .if1 .left)
 
 add-byte-at : tie.Need-add-byte-at
-add-byte-at c = omega (arith, upto1 c .within (omega arith))
+add-byte-at c = omega (arith, behind1 c .within (omega arith))
 
 byte-at-requires-2 : tie.Need-byte-at-requires-2
 byte-at-requires-2 c κs = search needs
@@ -35,13 +35,13 @@ is-square-letter-requires-2 : tie.Need-is-square-letter-requires-2
 is-square-letter-requires-2 c κs = search needs
 
 returns-2 : tie.Need-returns-2
-returns-2 c = locator-bad _ _ (stop squareLetter refl (upto1 (c .before .before .before)) (c .before .before .byte-at2 .ensures) (c .before .is-square-letter2 .ensures) (c .if2 .taken))
+returns-2 c = locator-bad _ _ (stop squareLetter refl (behind1 (c .before .before .before)) (c .before .before .byte-at2 .ensures) (c .before .is-square-letter2 .ensures) (c .if2 .taken))
 
-upto2 : (c : tie.Else2) → Behind (c .before .before .before .before .before .before .before) locator-2 2
-upto2 c = step squareLetter refl (upto1 (c .before .before .before)) (c .before .before .byte-at2 .ensures) (c .before .is-square-letter2 .ensures) _ (omega arith) (c .if2 .left)
+behind2 : (c : tie.Else2) → Behind (c .before .before .before .before .before .before .before) locator-2 2
+behind2 c = step squareLetter refl (behind1 (c .before .before .before)) (c .before .before .byte-at2 .ensures) (c .before .is-square-letter2 .ensures) _ (omega arith) (c .if2 .left)
 
 add-byte-at-2 : tie.Need-add-byte-at-2
-add-byte-at-2 c = omega (arith, upto2 c .within (omega arith))
+add-byte-at-2 c = omega (arith, behind2 c .within (omega arith))
 
 byte-at-requires-3 : tie.Need-byte-at-requires-3
 byte-at-requires-3 c κs = search needs
@@ -50,13 +50,13 @@ is-digit-requires : tie.Need-is-digit-requires
 is-digit-requires c κs = search needs
 
 returns-3 : tie.Need-returns-3
-returns-3 c = locator-bad _ _ (stop digit refl (upto2 (c .before .before .before)) (c .before .before .byte-at3 .ensures) (c .before .is-digit .ensures) (c .if3 .taken))
+returns-3 c = locator-bad _ _ (stop digit refl (behind2 (c .before .before .before)) (c .before .before .byte-at3 .ensures) (c .before .is-digit .ensures) (c .if3 .taken))
 
-upto3 : (c : tie.Else3) → Behind (c .before .before .before .before .before .before .before .before .before .before) (one digit locator-4) 3
-upto3 c = step digit refl (upto2 (c .before .before .before)) (c .before .before .byte-at3 .ensures) (c .before .is-digit .ensures) _ (omega arith) (c .if3 .left)
+behind3 : (c : tie.Else3) → Behind (c .before .before .before .before .before .before .before .before .before .before) (one digit locator-4) 3
+behind3 c = step digit refl (behind2 (c .before .before .before)) (c .before .before .byte-at3 .ensures) (c .before .is-digit .ensures) _ (omega arith) (c .if3 .left)
 
 add-byte-at-3 : tie.Need-add-byte-at-3
-add-byte-at-3 c = omega (arith, upto3 c .within (omega arith))
+add-byte-at-3 c = omega (arith, behind3 c .within (omega arith))
 
 byte-at-requires-4 : tie.Need-byte-at-requires-4
 byte-at-requires-4 c κs = search needs
@@ -65,37 +65,34 @@ is-digit-requires-2 : tie.Need-is-digit-requires-2
 is-digit-requires-2 c κs = search needs
 
 returns-4 : tie.Need-returns-4
-returns-4 c = locator-bad _ _ (stop digit refl (upto3 (c .before .before .before)) (c .before .before .byte-at4 .ensures) (c .before .is-digit2 .ensures) (c .if4 .taken))
+returns-4 c = locator-bad _ _ (stop digit refl (behind3 (c .before .before .before)) (c .before .before .byte-at4 .ensures) (c .before .is-digit2 .ensures) (c .if4 .taken))
 
-upto4 : (c : tie.Else4) → Behind (c .before .before .before .before .before .before .before .before .before .before .before .before .before) locator-4 4
-upto4 c = step digit refl (upto3 (c .before .before .before)) (c .before .before .byte-at4 .ensures) (c .before .is-digit2 .ensures) _ (omega arith) (c .if4 .left)
+behind4 : (c : tie.Else4) → Behind (c .before .before .before .before .before .before .before .before .before .before .before .before .before) locator-4 4
+behind4 c = step digit refl (behind3 (c .before .before .before)) (c .before .before .byte-at4 .ensures) (c .before .is-digit2 .ensures) _ (omega arith) (c .if4 .left)
 
 add-four : tie.Need-add-four
-add-four c = omega (arith, upto4 c .within (omega arith))
-
-ends-requires : tie.Need-ends-requires
-ends-requires c κs = search needs
-
-returns-5 : tie.Need-returns-5
-returns-5 c = locator-kept _ _ _ (may-end (c .before .ends .ensures) (upto4 (c .before .before)) (c .if5 .taken))
-
-past4 : (c : tie.Else5) → Behind (c .before .before .before .before .before .before .before .before .before .before .before .before .before .before .before) (one subLetter (one subLetter ended)) 4
-past4 c = may-go-on (c .before .ends .ensures) (upto4 (c .before .before)) (c .if5 .left)
+add-four c = omega (arith, behind4 c .within (omega arith))
 
 byte-at-requires-5 : tie.Need-byte-at-requires-5
 byte-at-requires-5 c κs = search needs
+
+returns-5 : tie.Need-returns-5
+returns-5 c = locator-kept _ _ _ (may-end (c .before .byte-at5 .ensures) (behind4 (c .before .before)) (c .if5 .taken))
+
+past4 : (c : tie.Else5) → Behind (c .before .before .before .before .before .before .before .before .before .before .before .before .before .before .before) (one subLetter (one subLetter ended)) 4
+past4 c = may-go-on (c .before .byte-at5 .ensures) (behind4 (c .before .before)) (c .if5 .left)
 
 is-sub-letter-requires : tie.Need-is-sub-letter-requires
 is-sub-letter-requires c κs = search needs
 
 returns-6 : tie.Need-returns-6
-returns-6 c = locator-bad _ _ (stop subLetter refl (past4 (c .before .before .before)) (c .before .before .byte-at5 .ensures) (c .before .is-sub-letter .ensures) (c .if6 .taken))
+returns-6 c = locator-bad _ _ (stop subLetter refl (past4 (c .before .before)) (c .before .before .before .byte-at5 .ensures) (c .before .is-sub-letter .ensures) (c .if6 .taken))
 
-upto5 : (c : tie.Else6) → Behind (c .before .before .before .before .before .before .before .before .before .before .before .before .before .before .before .before .before .before) (one subLetter ended) 5
-upto5 c = step subLetter refl (past4 (c .before .before .before)) (c .before .before .byte-at5 .ensures) (c .before .is-sub-letter .ensures) _ (omega arith) (c .if6 .left)
+behind5 : (c : tie.Else6) → Behind (c .before .before .before .before .before .before .before .before .before .before .before .before .before .before .before .before .before) (one subLetter ended) 5
+behind5 c = step subLetter refl (past4 (c .before .before)) (c .before .before .before .byte-at5 .ensures) (c .before .is-sub-letter .ensures) _ (omega arith) (c .if6 .left)
 
 add-byte-at-4 : tie.Need-add-byte-at-4
-add-byte-at-4 c = omega (arith, upto5 c .within (omega arith))
+add-byte-at-4 c = omega (arith, behind5 c .within (omega arith))
 
 byte-at-requires-6 : tie.Need-byte-at-requires-6
 byte-at-requires-6 c κs = search needs
@@ -104,22 +101,22 @@ is-sub-letter-requires-2 : tie.Need-is-sub-letter-requires-2
 is-sub-letter-requires-2 c κs = search needs
 
 returns-7 : tie.Need-returns-7
-returns-7 c = locator-bad _ _ (stop subLetter refl (upto5 (c .before .before .before)) (c .before .before .byte-at6 .ensures) (c .before .is-sub-letter2 .ensures) (c .if7 .taken))
+returns-7 c = locator-bad _ _ (stop subLetter refl (behind5 (c .before .before .before)) (c .before .before .byte-at6 .ensures) (c .before .is-sub-letter2 .ensures) (c .if7 .taken))
 
-upto6 : (c : tie.Else7) → Behind (c .before .before .before .before .before .before .before .before .before .before .before .before .before .before .before .before .before .before .before .before .before) ended 6
-upto6 c = step subLetter refl (upto5 (c .before .before .before)) (c .before .before .byte-at6 .ensures) (c .before .is-sub-letter2 .ensures) _ (omega arith) (c .if7 .left)
+behind6 : (c : tie.Else7) → Behind (c .before .before .before .before .before .before .before .before .before .before .before .before .before .before .before .before .before .before .before .before) ended 6
+behind6 c = step subLetter refl (behind5 (c .before .before .before)) (c .before .before .byte-at6 .ensures) (c .before .is-sub-letter2 .ensures) _ (omega arith) (c .if7 .left)
 
 add-six : tie.Need-add-six
-add-six c = omega (arith, upto6 c .within (omega arith))
+add-six c = omega (arith, behind6 c .within (omega arith))
 
-ends-requires-2 : tie.Need-ends-requires-2
-ends-requires-2 c κs = search needs
+ends-requires : tie.Need-ends-requires
+ends-requires c κs = search needs
 
 returns-8 : tie.Need-returns-8
-returns-8 c = locator-bad _ _ (too-long (c .before .ends2 .ensures) (upto6 (c .before .before)) (c .if8 .taken))
+returns-8 c = locator-bad _ _ (too-long (c .before .ends .ensures) (behind6 (c .before .before)) (c .if8 .taken))
 
 returns-9 : tie.Need-returns-9
-returns-9 c = locator-kept _ _ _ (whole (c .before .ends2 .ensures) (upto6 (c .before .before)) (c .if8 .left))
+returns-9 c = locator-kept _ _ _ (whole (c .before .ends .ensures) (behind6 (c .before .before)) (c .if8 .left))
 
 pub locator-spec : {M : Type 1} → statement M
 locator-spec =
@@ -141,9 +138,8 @@ locator-spec =
     is-digit-requires-2
     returns-4
     add-four
-    ends-requires
-    returns-5
     byte-at-requires-5
+    returns-5
     is-sub-letter-requires
     returns-6
     add-byte-at-4
@@ -151,6 +147,6 @@ locator-spec =
     is-sub-letter-requires-2
     returns-7
     add-six
-    ends-requires-2
+    ends-requires
     returns-8
     returns-9)

@@ -13,29 +13,26 @@ use Rattle.fields.proofs.report.Tie as tie
 abbrev Behind : tie.Start → Shape → ℕ → Type 0
 Behind c p n = Goes report p (now (c .args .s)) (c .args .at) (c .args .at + n)
 
-ends-requires : tie.Need-ends-requires
-ends-requires c κs = search needs
-
-returns : tie.Need-returns
-returns c = report-kept _ _ _ (may-end (c .before .ends .ensures) (goes _ _ report-is) (c .if1 .taken))
-
-upto0 : (c : tie.Else1) → Goes report (one digit (one digit report-2)) (now (c .before .before .before .args .s)) (c .before .before .before .args .at) (c .before .before .before .args .at)
-upto0 c = may-go-on (c .before .ends .ensures) (goes _ _ report-is) (c .if1 .left)
-
 byte-at-requires : tie.Need-byte-at-requires
 byte-at-requires c κs = search needs
+
+returns : tie.Need-returns
+returns c = report-kept _ _ _ (may-end (c .before .byte-at .ensures) (goes _ _ report-is) (c .if1 .taken))
+
+past0 : (c : tie.Else1) → Goes report (one digit (one digit report-2)) (now (c .before .before .before .args .s)) (c .before .before .before .args .at) (c .before .before .before .args .at)
+past0 c = may-go-on (c .before .byte-at .ensures) (goes _ _ report-is) (c .if1 .left)
 
 is-digit-requires : tie.Need-is-digit-requires
 is-digit-requires c κs = search needs
 
 returns-2 : tie.Need-returns-2
-returns-2 c = report-bad _ _ (stop digit refl (upto0 (c .before .before .before)) (c .before .before .byte-at .ensures) (c .before .is-digit .ensures) (c .if2 .taken))
+returns-2 c = report-bad _ _ (stop digit refl (past0 (c .before .before)) (c .before .before .before .byte-at .ensures) (c .before .is-digit .ensures) (c .if2 .taken))
 
-upto1 : (c : tie.Else2) → Behind (c .before .before .before .before .before .before) (one digit report-2) 1
-upto1 c = step digit refl (upto0 (c .before .before .before)) (c .before .before .byte-at .ensures) (c .before .is-digit .ensures) _ refl (c .if2 .left)
+behind1 : (c : tie.Else2) → Behind (c .before .before .before .before .before) (one digit report-2) 1
+behind1 c = step digit refl (past0 (c .before .before)) (c .before .before .before .byte-at .ensures) (c .before .is-digit .ensures) _ refl (c .if2 .left)
 
 add-byte-at : tie.Need-add-byte-at
-add-byte-at c = omega (arith, upto1 c .within (omega arith))
+add-byte-at c = omega (arith, behind1 c .within (omega arith))
 
 byte-at-requires-2 : tie.Need-byte-at-requires-2
 byte-at-requires-2 c κs = search needs
@@ -44,54 +41,50 @@ is-digit-requires-2 : tie.Need-is-digit-requires-2
 is-digit-requires-2 c κs = search needs
 
 returns-3 : tie.Need-returns-3
-returns-3 c = report-bad _ _ (stop digit refl (upto1 (c .before .before .before)) (c .before .before .byte-at2 .ensures) (c .before .is-digit2 .ensures) (c .if3 .taken))
+returns-3 c = report-bad _ _ (stop digit refl (behind1 (c .before .before .before)) (c .before .before .byte-at2 .ensures) (c .before .is-digit2 .ensures) (c .if3 .taken))
 
-upto2 : (c : tie.Else3) → Behind (c .before .before .before .before .before .before .before .before .before) report-2 2
-upto2 c = step digit refl (upto1 (c .before .before .before)) (c .before .before .byte-at2 .ensures) (c .before .is-digit2 .ensures) _ (omega arith) (c .if3 .left)
+behind2 : (c : tie.Else3) → Behind (c .before .before .before .before .before .before .before .before) report-2 2
+behind2 c = step digit refl (behind1 (c .before .before .before)) (c .before .before .byte-at2 .ensures) (c .before .is-digit2 .ensures) _ (omega arith) (c .if3 .left)
 
 add-two : tie.Need-add-two
-add-two c = omega (arith, upto2 c .within (omega arith))
-
-ends-requires-2 : tie.Need-ends-requires-2
-ends-requires-2 c κs = search needs
-
-returns-4 : tie.Need-returns-4
-returns-4 c = report-kept _ _ _ (may-end (c .before .ends2 .ensures) (upto2 (c .before .before)) (c .if4 .taken))
-
-upto3 : (c : tie.Else4) → Behind (c .before .before .before .before .before .before .before .before .before .before .before) (one digitOrCapital ended) 2
-upto3 c = may-go-on (c .before .ends2 .ensures) (upto2 (c .before .before)) (c .if4 .left)
+add-two c = omega (arith, behind2 c .within (omega arith))
 
 byte-at-requires-3 : tie.Need-byte-at-requires-3
 byte-at-requires-3 c κs = search needs
+
+returns-4 : tie.Need-returns-4
+returns-4 c = report-kept _ _ _ (may-end (c .before .byte-at3 .ensures) (behind2 (c .before .before)) (c .if4 .taken))
+
+past2 : (c : tie.Else4) → Behind (c .before .before .before .before .before .before .before .before .before .before) (one digitOrCapital ended) 2
+past2 c = may-go-on (c .before .byte-at3 .ensures) (behind2 (c .before .before)) (c .if4 .left)
 
 is-report-character-requires : tie.Need-is-report-character-requires
 is-report-character-requires c κs = search needs
 
 returns-5 : tie.Need-returns-5
-returns-5 c = report-bad _ _ (stop digitOrCapital refl (upto3 (c .before .before .before)) (c .before .before .byte-at3 .ensures) (c .before .is-report-character .ensures) (c .if5 .taken))
+returns-5 c = report-bad _ _ (stop digitOrCapital refl (past2 (c .before .before)) (c .before .before .before .byte-at3 .ensures) (c .before .is-report-character .ensures) (c .if5 .taken))
 
-upto4 : (c : tie.Else5) → Behind (c .before .before .before .before .before .before .before .before .before .before .before .before .before .before) ended 3
-upto4 c = step digitOrCapital refl (upto3 (c .before .before .before)) (c .before .before .byte-at3 .ensures) (c .before .is-report-character .ensures) _ (omega arith) (c .if5 .left)
+behind3 : (c : tie.Else5) → Behind (c .before .before .before .before .before .before .before .before .before .before .before .before) ended 3
+behind3 c = step digitOrCapital refl (past2 (c .before .before)) (c .before .before .before .byte-at3 .ensures) (c .before .is-report-character .ensures) _ (omega arith) (c .if5 .left)
 
 add-three : tie.Need-add-three
-add-three c = omega (arith, upto4 c .within (omega arith))
+add-three c = omega (arith, behind3 c .within (omega arith))
 
-ends-requires-3 : tie.Need-ends-requires-3
-ends-requires-3 c κs = search needs
+ends-requires : tie.Need-ends-requires
+ends-requires c κs = search needs
 
 returns-6 : tie.Need-returns-6
-returns-6 c = report-bad _ _ (too-long (c .before .ends3 .ensures) (upto4 (c .before .before)) (c .if6 .taken))
+returns-6 c = report-bad _ _ (too-long (c .before .ends .ensures) (behind3 (c .before .before)) (c .if6 .taken))
 
 returns-7 : tie.Need-returns-7
-returns-7 c = report-kept _ _ _ (whole (c .before .ends3 .ensures) (upto4 (c .before .before)) (c .if6 .left))
+returns-7 c = report-kept _ _ _ (whole (c .before .ends .ensures) (behind3 (c .before .before)) (c .if6 .left))
 
 pub report-spec : {M : Type 1} → statement M
 report-spec =
     tie.close
     (tie.spec
-    ends-requires
-    returns
     byte-at-requires
+    returns
     is-digit-requires
     returns-2
     add-byte-at
@@ -99,12 +92,11 @@ report-spec =
     is-digit-requires-2
     returns-3
     add-two
-    ends-requires-2
-    returns-4
     byte-at-requires-3
+    returns-4
     is-report-character-requires
     returns-5
     add-three
-    ends-requires-3
+    ends-requires
     returns-6
     returns-7)

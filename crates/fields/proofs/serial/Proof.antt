@@ -1,3 +1,4 @@
+use native.Mathlib.Omega.{arith}
 use mathlib.Core.Path.{refl}
 use denote.Ref.{now}
 use borrow.Author.Needs.{needs}
@@ -25,13 +26,13 @@ returns-2 : tie.Need-returns-2
 returns-2 c = serial-empty (upto (c .before)) (c .if2 .taken)
 
 returns-3 : tie.Need-returns-3
-returns-3 c = serial-short (upto (c .before .before)) (c .before .if2 .left) (c .if3 .taken)
+returns-3 c = serial-short (upto (c .before .before)) (c .before .if2 .left) (omega arith)
 
 returns-4 : tie.Need-returns-4
-returns-4 c = serial-long (upto (c .before .before .before)) (c .if4 .taken)
+returns-4 c = serial-long (upto (c .before .before .before)) (omega arith)
 
 returns-5 : tie.Need-returns-5
-returns-5 c = serial-digits (upto (c .before .before .before)) (c .before .if3 .left) (c .if4 .left)
+returns-5 c = serial-digits (upto (c .before .before .before)) (omega arith) (omega arith)
 
 pub serial-spec : {M : Type 1} → statement M
 serial-spec =

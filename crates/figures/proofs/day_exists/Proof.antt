@@ -1,4 +1,3 @@
-use Prim.Native.Nat.{_-_}
 use Rattle.figures.proofs.CalendarLaws.{exists-no-month, exists-beyond, exists-no-day, exists-within}
 use borrow.Author.Needs.{needs}
 use Rattle.figures.proofs.day_exists.Statement.{statement}

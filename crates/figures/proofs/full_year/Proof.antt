@@ -1,4 +1,3 @@
-use Prim.Native.Nat.{_-_}
 use Rattle.figures.proofs.CalendarLaws.{year-ninety, year-later}
 use borrow.Author.Needs.{needs}
 use Rattle.figures.proofs.full_year.Statement.{statement}
@@ -8,13 +7,13 @@ add-result : tie.Need-add-result
 add-result c = search needs
 
 returns : tie.Need-returns
-returns c = year-ninety _ (c .if1 .taken)
+returns c = year-ninety _ (search needs)
 
 add-result-2 : tie.Need-add-result-2
 add-result-2 c = search needs
 
 returns-2 : tie.Need-returns-2
-returns-2 c = year-later _ (c .if1 .left)
+returns-2 c = year-later _ (search needs)
 
 pub full-year-spec : {M : Type 1} → statement M
 full-year-spec = tie.close (tie.spec add-result returns add-result-2 returns-2)

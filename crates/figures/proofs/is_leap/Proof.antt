@@ -1,4 +1,3 @@
-use Prim.Native.Nat.{_-_}
 use Rattle.figures.proofs.CalendarLaws.{leap-four-hundred, leap-hundred, leap-four}
 use Rattle.figures.proofs.is_leap.Statement.{statement}
 use Rattle.figures.proofs.is_leap.Tie as tie

@@ -20,7 +20,7 @@ cast-result c = search needs
 
 returns-2 : tie.Need-returns-2
 unfolding monthLengths
-returns-2 c = length-none _ _ (c .if2 .taken)
+returns-2 c = omega (arith, length-none (c .before .before .args .year) (c .before .before .args .month) (c .if2 .taken))
 
 sub-i : tie.Need-sub-i
 sub-i c = search needs

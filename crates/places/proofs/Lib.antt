@@ -1,0 +1,7 @@
+pub mod PlaceLaws
+pub mod LineStarts
+pub mod FieldsHeld
+pub mod RecordsHeld
+pub mod LinesHeld
+pub mod HeaderHeld
+pub mod ToldBounds
