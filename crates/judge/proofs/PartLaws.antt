@@ -1,0 +1,88 @@
+-- Laws of parts of a log that are kept by their places, and of the search among them.
+-- Assumes nothing.
+use Prim.Native.Nat.{ℕ, zero, suc, _+_, _-_, _≤_, _<_, min}
+use native.Mathlib.Omega.{arith}
+use native.Mathlib.Numerals.{add-one}
+use mathlib.Core.Path.{_≡_, refl, sym, ap, _∙_}
+use mathlib.Core.Bool.{Bool, true, false, cond, _||_}
+use mathlib.Core.List.{List, [], _∷_}
+use lib.Dec.{leb}
+use lib.ListN.{length, take, drop, getD, set, length-take, length-drop, length-set}
+use lib.Seq.{take-all, take-take, getD-set-same, getD-set-other}
+use borrow.Author.Tests.{le-leb, lt-leb, leb-true, leb-false}
+use Rattle.rules.specs.Text.{Text, same}
+use Rattle.rules.specs.Arguments.{among}
+use Rattle.places.specs.Places.{between}
+use Rattle.judge.specs.declared.Found.{Found}
+use Rattle.judge.specs.declared.Found.the-variants.{At, Nothing}
+use Rattle.judge.specs.Parts.{squareEnd, keptAt, seek, isAt, keptTexts}
+
+pub part-size : (s : Text) (a e : ℕ) → length (between s a e) ≡ min (e - a) (length s - a)
+part-size s a e = rw (length-take, length-drop)
+
+take-its-length : (k : ℕ) (l : Text) → take (length (take k l)) l ≡ take k l
+take-its-length zero l = refl
+take-its-length (suc k) [] = refl
+take-its-length (suc k) (c ∷ l) = ap (λ (t : Text). c ∷ t) (take-its-length k l)
+
+-- A part that is cut to its own length.
+pub part-cut : (s : Text) (a e n : ℕ) → n ≡ length (between s a e) → between s a (a + n) ≡ between s a e
+part-cut s a e n h =
+    let k : a + n - a ≡ length (between s a e) = omega (arith, h) in
+    ap (λ (m : ℕ). take m (drop a s)) k ∙ take-its-length (e - a) (drop a s)
+
+pub same-cut : (s : Text) (a e b f n : ℕ) {r : Bool} →
+    n ≡ length (between s a e) →
+    n ≡ length (between s b f) →
+    r ≡ same (between s a (a + n)) (between s b (b + n)) →
+    r ≡ same (between s a e) (between s b f)
+same-cut s a e b f n h k r =
+    r
+    ∙ ap (λ (t : Text). same t (between s b (b + n))) (part-cut s a e n h)
+    ∙ ap (λ (t : Text). same (between s a e) t) (part-cut s b f n k)
+
+pub same-none : (t u : Text) → length t ≡ 0 → length u ≡ 0 → true ≡ same t u
+unfolding same
+same-none [] [] e f = refl
+same-none [] (d ∷ u) e f = absurd (omega arith)
+same-none (c ∷ t) u e f = absurd (omega arith)
+
+take-more : (m n : ℕ) (l : Text) → n ≤ m → take m (take n l) ≡ take n l
+take-more m n l h = take-all m (take n l) (simp length-take (omega arith))
+
+-- The first four characters of a part.
+pub square-part : (s : Text) (a e : ℕ) → between s a (squareEnd a e) ≡ take 4 (between s a e)
+unfolding squareEnd
+square-part s a e = by (leb (e - a) 4) refl
+  where
+    by : (b : Bool) → leb (e - a) 4 ≡ b → between s a (cond b e (a + 4)) ≡ take 4 (between s a e)
+    by true h = let k : e - a ≤ 4 = leb-true (e - a) 4 h in sym (take-more 4 (e - a) (drop a s) k)
+    by false h =
+        let k : 4 < e - a = leb-false (e - a) 4 h in
+        let four : a + 4 - a ≡ 4 = omega arith in
+        rw four (sym (take-take 4 (e - a) (drop a s) (omega arith)))
+
+pub square-whole : (a e : ℕ) → e - a ≤ 4 → e ≡ squareEnd a e
+unfolding squareEnd
+square-whole a e h = rw (le-leb (e - a) 4 h)
+
+pub square-cut : (a e : ℕ) → 4 < e - a → a + 4 ≡ squareEnd a e
+unfolding squareEnd
+square-cut a e h = rw (lt-leb (e - a) 4 h)
+
+module _ (s : Text) (starts ends : List ℕ) (t : Text) where
+  pub seek-all : (m : ℕ) → seek s starts ends t m 0 ≡ seek s starts ends t (m - 0) 0
+  seek-all m = let z : m - 0 ≡ m = omega arith in rw z
+
+  pub seek-none : (m i : ℕ) → m ≤ i → Nothing ≡ seek s starts ends t (m - i) i
+  unfolding seek
+  seek-none m i h = let z : m - i ≡ 0 = omega arith in rw z
+
+  pub seek-here : (m i : ℕ) → i < m → same (keptAt s starts ends i) t ≡ true → seek s starts ends t (m - i) i ≡ At i
+  unfolding seek
+  seek-here m i h e = let z : m - i ≡ suc (m - (i + 1)) = omega arith in rw (z, seek, e)
+
+  pub seek-later : (m i : ℕ) →
+      i < m → same (keptAt s starts ends i) t ≡ false → seek s starts ends t (m - i) i ≡ seek s starts ends t (m - (i + 1)) (i + 1)
+  unfolding seek
+  seek-later m i h e = let z : m - i ≡ suc (m - (i + 1)) = omega arith in rw (z, seek, e)

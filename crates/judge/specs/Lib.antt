@@ -1,0 +1,3 @@
+-- What the judge keeps of the records before, and what it adds up, in the words of document 01's definitions.
+pub mod Parts
+pub mod Count

@@ -1,0 +1,175 @@
+// The judge of an accepted log: the class and the marks of each record, and what they come to. It looks at no byte but through the places
+// that are told of each record.
+
+ghost use mathlib.Core.Path.{_≡_};
+ghost use Prim.Native.Nat.{_+_, _*_, _<_, _≤_};
+ghost use lib.ListN.{length};
+ghost use Rattle.rules.specs.Text.{same, empty};
+ghost use Rattle.rules.specs.Judging.{classNumber, verdictNumber};
+ghost use Rattle.places.specs.Places.{between};
+ghost use Rattle.judge.specs.Parts.{squareEnd, seek};
+ghost use Rattle.judge.specs.Count.{worthIf, addRecord, closing, Countable, Closable};
+use places::Contact;
+use places::Declared;
+use rules::Class;
+use rules::Totals;
+use rules::Verdict;
+
+// How many characters a part has; places beyond the end add none.
+fn part_length(s: &[u8], a: usize, e: usize) -> usize
+    ensures { λ r. ⌜ r ≡ length (between (now (s .entry)) a e) ⌝ }
+{
+    if s.len() <= a {
+        return 0;
+    }
+    if e <= a {
+        return 0;
+    }
+    if s.len() < e {
+        return s.len() - a;
+    }
+    e - a
+}
+
+// Two parts are the same, byte for byte. Their lengths are compared first, for most parts differ in them or soon.
+fn same_part(s: &[u8], a: usize, e: usize, b: usize, f: usize) -> bool
+    ensures { λ r. ⌜ r ≡ same (between (now (s .entry)) a e) (between (now (s .entry)) b f) ⌝ }
+{
+    let n = part_length(s, a, e);
+    if n != part_length(s, b, f) {
+        return false;
+    }
+    if n == 0 {
+        return true;
+    }
+    let p = a + n;
+    let q = b + n;
+    header::same_text(&s[a..p], &s[b..q])
+}
+
+// Where the square of a locator ends: behind four characters, if there are so many.
+fn square_end(a: usize, e: usize) -> usize
+    ensures { λ r. ⌜ r ≡ squareEnd a e ⌝ }
+{
+    if e <= a {
+        return e;
+    }
+    if e - a <= 4 {
+        return e;
+    }
+    a + 4
+}
+
+// Where a repeat was found.
+enum Found {
+    At(usize),
+    Nothing,
+}
+
+// The first of the m parts kept that is the same as this part.
+fn find(s: &[u8], starts: &[usize], ends: &[usize], m: usize, a: usize, e: usize) -> Found
+    requires { ⌜ (m ≤ length (now starts)) × (m ≤ length (now ends)) ⌝ }
+    ensures { λ r. ⌜ r ≡ seek (now (s .entry)) (now (starts .entry)) (now (ends .entry)) (between (now (s .entry)) a e) m 0 ⌝ }
+{
+    let mut i = 0;
+    let at = 'look: loop {
+        if m <= i {
+            break 'look m;
+        }
+        if same_part(s, starts[i], ends[i], a, e) {
+            break 'look i;
+        }
+        i += 1;
+    };
+    if at < m {
+        return Found::At(at);
+    }
+    Found::Nothing
+}
+
+fn class_number(class: Class) -> u8
+    ensures { λ r. ⌜ r ≡ classNumber class ⌝ }
+{
+    match class {
+        Class::Credited => 0,
+        Class::Void => 1,
+        Class::Duplicate => 2,
+        Class::Error => 3,
+    }
+}
+
+// What a mark adds to the number of a verdict.
+fn mark(set: bool, worth: u8) -> u8
+    ensures { λ r. ⌜ r ≡ worthIf set worth ⌝ }
+{
+    if set {
+        return worth;
+    }
+    0
+}
+
+pub fn verdict_number(v: Verdict) -> u8
+    ensures { λ r. ⌜ r ≡ verdictNumber v ⌝ }
+{
+    let class = v.class;
+    class_number(class) + mark(v.exchange, 16) + mark(v.square, 32) + mark(v.country, 64)
+}
+
+// A sum after one more record: what the record is worth is added where it counts.
+fn raised(sum: u64, counts: bool, worth: u64) -> u64
+    requires { ⌜ (sum ≤ 998_998_001) × (worth ≤ 999_999) ⌝ }
+    ensures { λ r. ⌜ r ≡ worthIf counts worth + sum ⌝ }
+{
+    if counts {
+        return worth + sum;
+    }
+    sum
+}
+
+// The totals after one more record: what it is worth, and what is said of it. The bonuses and the total wait for the last record.
+fn counted(t: Totals, worth: u64, v: Verdict) -> Totals
+    requires { ⌜ Countable t worth ⌝ }
+    ensures { λ r. ⌜ r ≡ addRecord t worth v ⌝ }
+{
+    let class = v.class;
+    let n = class_number(class);
+    Totals {
+        credited: raised(t.credited, 0 == n, 1),
+        voids: raised(t.voids, 1 == n, 1),
+        duplicates: raised(t.duplicates, 2 == n, 1),
+        errors: raised(t.errors, 3 == n, 1),
+        points: raised(t.points, 0 == n, worth),
+        squares: raised(t.squares, v.square, 1),
+        exchanges: raised(t.exchanges, v.exchange, 1),
+        countries: raised(t.countries, v.country, 1),
+        squarebonus: t.squarebonus,
+        exchangebonus: t.exchangebonus,
+        countrybonus: t.countrybonus,
+        total: t.total,
+    }
+}
+
+// The totals of all the records, with what the declared bonuses and multipliers make of them.
+fn closed(t: Totals, d: Declared) -> Totals
+    requires { ⌜ Closable t d ⌝ }
+    ensures { λ r. ⌜ r ≡ closing t d ⌝ }
+{
+    let squares = t.squares * d.squarebonus;
+    let exchanges = t.exchanges * d.exchangebonus;
+    let countries = t.countries * d.countrybonus;
+    let multipliers = d.squaremultiplier * d.exchangemultiplier * d.countrymultiplier;
+    Totals {
+        credited: t.credited,
+        voids: t.voids,
+        duplicates: t.duplicates,
+        errors: t.errors,
+        points: t.points,
+        squares: t.squares,
+        exchanges: t.exchanges,
+        countries: t.countries,
+        squarebonus: squares,
+        exchangebonus: exchanges,
+        countrybonus: countries,
+        total: (t.points + squares + exchanges + countries) * multipliers,
+    }
+}
