@@ -1,8 +1,10 @@
 -- What each reader answers of the field at a place of a line: where it ends, with what it says, if it keeps its rule; else that it is bad.
 -- Assumes nothing.
-use Prim.Native.Nat.{ℕ, _+_, _*_, _/_, _%_}
+use Prim.Native.Nat.{ℕ, zero, suc, _+_, _*_, _/_, _%_}
 use mathlib.Core.Bool.{Bool, cond}
-use Rattle.rules.specs.Text.{Text, empty, value}
+use mathlib.Core.List.{[], _∷_}
+use lib.ListN.{take, drop}
+use Rattle.rules.specs.Text.{Text, digit, empty, value, valueAfter}
 use Rattle.rules.specs.Fields.{shortDate, longDate, timeOfDay}
 use Rattle.fields.specs.Field.{textAt, endOf}
 use Rattle.figures.specs.declared.TimeOfDay.{TimeOfDay}
@@ -10,10 +12,13 @@ use Rattle.figures.specs.declared.DateRead.{DateRead}
 use Rattle.figures.specs.declared.DateRead.the-variants as DateRead
 use Rattle.figures.specs.declared.LongDateRead.{LongDateRead}
 use Rattle.figures.specs.declared.LongDateRead.the-variants as LongDateRead
+use Rattle.figures.specs.declared.TimeMade.{TimeMade}
+use Rattle.figures.specs.declared.TimeMade.the-variants as TimeMade
 use Rattle.figures.specs.declared.TimeRead.{TimeRead}
 use Rattle.figures.specs.declared.TimeRead.the-variants as TimeRead
 use Rattle.figures.specs.declared.NumberRead.{NumberRead}
 use Rattle.figures.specs.declared.NumberRead.the-variants as NumberRead
+use Rattle.figures.specs.declared.DigitsRead.{DigitsRead}
 
 unfoldable pub dateAt : Text → ℕ → DateRead
 unfolding textAt endOf shortDate
@@ -29,6 +34,14 @@ unfolding textAt endOf timeOfDay value
 timeAt s at =
     cond (timeOfDay (textAt s at)) (TimeRead.Time (record { digits = value (textAt s at) }) (endOf s at)) TimeRead.Bad
 
+-- The time that four characters write: two digits of hours and two of minutes.
+unfoldable pub timeMade : ℕ → ℕ → ℕ → ℕ → TimeMade
+unfolding timeOfDay value
+timeMade a b c d =
+    cond (timeOfDay (a ∷ b ∷ c ∷ d ∷ []))
+    (TimeMade.Time (record { digits = value (a ∷ b ∷ c ∷ d ∷ []) }))
+    TimeMade.Bad
+
 -- The minutes from 0000 on.
 unfoldable pub minutesOf : TimeOfDay → ℕ
 minutesOf t = 60 * (t .digits / 100) + t .digits % 100
@@ -37,3 +50,21 @@ minutesOf t = 60 * (t .digits / 100) + t .digits % 100
 unfoldable pub numberAt : (Text → Bool) → Text → ℕ → NumberRead
 unfolding textAt endOf value
 numberAt rule s at = cond (rule (textAt s at)) (NumberRead.Number (value (textAt s at)) (endOf s at)) NumberRead.Bad
+
+-- How many characters at the front are digits, counted no further than so many.
+unfoldable pub digitsWithin : ℕ → Text → ℕ
+digitsWithin zero s = 0
+digitsWithin (suc most) [] = 0
+digitsWithin (suc most) (c ∷ s) =
+    let more = suc (digitsWithin most s) in
+    cond (digit c) more 0
+
+-- The digits from a place on, and no more than so many, after those that wrote n: what they all write, and the place behind them.
+unfoldable pub digitsFrom : ℕ → ℕ → Text → ℕ → DigitsRead
+unfolding digitsWithin valueAfter
+digitsFrom most n s at =
+    record { value = valueAfter n (take (digitsWithin most (drop at s)) (drop at s)); end = at + digitsWithin most (drop at s) }
+
+unfoldable pub digitsAt : ℕ → Text → ℕ → DigitsRead
+unfolding digitsFrom
+digitsAt most s at = digitsFrom most 0 s at

@@ -1,13 +1,17 @@
 // The readers of numbers, dates and times. Each takes a line and the place where its field begins, and answers where the field ends and what it
-// says, or that it is bad. No byte is looked at twice, and none is copied.
+// says, or that it is bad. A byte is looked at once, and once more only where a number begins or ends; none is copied.
 
 ghost use mathlib.Core.Path.{_≡_};
 ghost use Prim.Native.Nat.{_+_, _*_, _≤_, _<_};
-ghost use Rattle.rules.specs.Text.{value, numberOf};
+ghost use mathlib.Core.Bool.{true};
+ghost use mathlib.Core.List.{[], _∷_};
+ghost use Rattle.rules.specs.Text.{digit, value, numberOf, numberFrom};
 ghost use Rattle.rules.specs.Rules.{base};
 ghost use Rattle.rules.specs.Fields.{leap, monthLength, dayExists, fullYear};
 ghost use Rattle.rules.specs.Arguments.{count, bonus, multiplier};
-ghost use Rattle.figures.specs.Figure.{dateAt, longDateAt, timeAt, minutesOf, numberAt};
+ghost use Rattle.figures.specs.Figure.{dateAt, longDateAt, timeAt, minutesOf, numberAt, digitsAt, timeMade};
+use fields::ends;
+use fields::is_digit;
 
 // A time of day, as its four digits read.
 pub struct TimeOfDay {
@@ -18,6 +22,47 @@ impl TimeOfDay {
     pub const FIRST: u32 = 0;
 
     pub const LAST: u32 = 2359;
+
+    // The time that four digits write: two of hours and two of minutes.
+    pub fn from_digits(a: u8, b: u8, c: u8, d: u8) -> TimeMade
+        ensures { λ r. ⌜ r ≡ timeMade a b c d ⌝ }
+    {
+        if !is_digit(a) {
+            return TimeMade::Bad;
+        }
+        if !is_digit(b) {
+            return TimeMade::Bad;
+        }
+        if !is_digit(c) {
+            return TimeMade::Bad;
+        }
+        if !is_digit(d) {
+            return TimeMade::Bad;
+        }
+        let hours = two_digits(a, b);
+        if 23 < hours {
+            return TimeMade::Bad;
+        }
+        let minutes = two_digits(c, d);
+        if 59 < minutes {
+            return TimeMade::Bad;
+        }
+        TimeMade::Time(TimeOfDay {
+            digits: 100 * hours + minutes,
+        })
+    }
+
+    // The minutes from 0000 on.
+    pub fn minutes(self) -> u32
+        ensures { λ r. ⌜ r ≡ minutesOf self ⌝ }
+    {
+        60 * (self.digits / 100) + self.digits % 100
+    }
+}
+
+pub enum TimeMade {
+    Time(TimeOfDay),
+    Bad,
 }
 
 pub enum DateRead {
@@ -39,4 +84,147 @@ pub enum TimeRead {
 pub enum NumberRead {
     Number(u64, usize),
     Bad,
+}
+
+// Digits from a place on: what they write, and the place behind them.
+struct DigitsRead {
+    value: u64,
+    end: usize,
+}
+
+// The digits from here on, and no more than so many: a longer run is left where it goes on, so that the field does not end there.
+fn read_digits(s: &[u8], at: usize, most: usize) -> DigitsRead
+    requires { ⌜ most ≤ 15 ⌝ }
+    ensures { λ r. ⌜ r ≡ digitsAt most (now (s .entry)) at ⌝ }
+{
+    let mut value: u64 = 0;
+    let mut left = most;
+    let mut i = at;
+    while i < s.len() {
+        if left == 0 {
+            return DigitsRead { value, end: i };
+        }
+        let b = s[i];
+        if !is_digit(b) {
+            return DigitsRead { value, end: i };
+        }
+        value = 10 * value + (b - 48) as u64;
+        left -= 1;
+        i += 1;
+    }
+    DigitsRead { value, end: i }
+}
+
+// A number of at most so many digits.
+fn number(s: &[u8], at: usize, most: usize) -> NumberRead
+    requires { ⌜ most ≤ 15 ⌝ }
+    ensures { λ r. ⌜ r ≡ numberAt (numberOf most) (now (s .entry)) at ⌝ }
+{
+    let run = read_digits(s, at, most);
+    let value = run.value;
+    let end = run.end;
+    if !ends(s, end) {
+        return NumberRead::Bad;
+    }
+    if end == at {
+        return NumberRead::Bad;
+    }
+    if s[at] != 48 {
+        return NumberRead::Number(value, end);
+    }
+    if end - at != 1 {
+        return NumberRead::Bad;
+    }
+    NumberRead::Number(value, end)
+}
+
+// A record's points.
+pub fn points(s: &[u8], at: usize) -> NumberRead
+    ensures { λ r. ⌜ r ≡ numberAt (numberOf 6) (now (s .entry)) at ⌝ }
+{
+    number(s, at, 6)
+}
+
+// The best contact's distance.
+pub fn distance(s: &[u8], at: usize) -> NumberRead
+    ensures { λ r. ⌜ r ≡ numberAt (numberOf 6) (now (s .entry)) at ⌝ }
+{
+    number(s, at, 6)
+}
+
+// The claims, by what they are the sum of.
+pub fn claimed_points(s: &[u8], at: usize) -> NumberRead
+    ensures { λ r. ⌜ r ≡ numberAt (numberOf 9) (now (s .entry)) at ⌝ }
+{
+    number(s, at, 9)
+}
+
+pub fn claimed_bonus(s: &[u8], at: usize) -> NumberRead
+    ensures { λ r. ⌜ r ≡ numberAt (numberOf 7) (now (s .entry)) at ⌝ }
+{
+    number(s, at, 7)
+}
+
+pub fn claimed_total(s: &[u8], at: usize) -> NumberRead
+    ensures { λ r. ⌜ r ≡ numberAt (numberOf 15) (now (s .entry)) at ⌝ }
+{
+    number(s, at, 15)
+}
+
+// A count, a bonus and N have no least but 0, so the number of their digits bounds them.
+pub fn counted(s: &[u8], at: usize) -> NumberRead
+    ensures { λ r. ⌜ r ≡ numberAt (count base) (now (s .entry)) at ⌝ }
+{
+    number(s, at, 4)
+}
+
+pub fn bonus_of(s: &[u8], at: usize) -> NumberRead
+    ensures { λ r. ⌜ r ≡ numberAt (bonus base) (now (s .entry)) at ⌝ }
+{
+    number(s, at, 4)
+}
+
+pub fn record_count(s: &[u8], at: usize) -> NumberRead
+    ensures { λ r. ⌜ r ≡ numberAt (numberFrom 0 999) (now (s .entry)) at ⌝ }
+{
+    number(s, at, 3)
+}
+
+// A multiplier is at least 1.
+pub fn multiplier_of(s: &[u8], at: usize) -> NumberRead
+    ensures { λ r. ⌜ r ≡ numberAt (multiplier base) (now (s .entry)) at ⌝ }
+{
+    let NumberRead::Number(value, end) = number(s, at, 2) else {
+        return NumberRead::Bad;
+    };
+    if value == 0 {
+        return NumberRead::Bad;
+    }
+    NumberRead::Number(value, end)
+}
+
+// The number that two digits write.
+fn two_digits(a: u8, b: u8) -> u32
+    requires { ⌜ (digit a ≡ true) × (digit b ≡ true) ⌝ }
+    ensures { λ r. ⌜ r ≡ value (a ∷ b ∷ []) ⌝ }
+{
+    10 * (a - 48) as u32 + (b - 48) as u32
+}
+
+pub fn time(s: &[u8], at: usize) -> TimeRead
+    ensures { λ r. ⌜ r ≡ timeAt (now (s .entry)) at ⌝ }
+{
+    if s.len() < 4 {
+        return TimeRead::Bad;
+    }
+    if s.len() - 4 < at {
+        return TimeRead::Bad;
+    }
+    if !ends(s, at + 4) {
+        return TimeRead::Bad;
+    }
+    let TimeMade::Time(t) = TimeOfDay::from_digits(s[at], s[at + 1], s[at + 2], s[at + 3]) else {
+        return TimeRead::Bad;
+    };
+    TimeRead::Time(t, at + 4)
 }

@@ -1,7 +1,17 @@
 // Where the parts of a log lie: what the judge and the writer ask of an accepted log.
 
 ghost use mathlib.Core.Path.{_≡_};
-ghost use Rattle.places.specs.Places.{lineStart, contactAt, declaredAt};
+ghost use Prim.Native.Nat.{_+_, _≤_, min};
+ghost use lib.ListN.{length};
+ghost use Rattle.rules.specs.Text.{same, numberOf};
+ghost use Rattle.rules.specs.Fields.{errorCall, newMark};
+ghost use Rattle.fields.specs.Field.{textAt, endOf};
+ghost use Rattle.places.specs.Places.{lineStart, fieldStart, valueBy, contactAt, declaredAt};
+use figures::NumberRead;
+use figures::points;
+use header::same_text;
+use reader::allowed_run;
+use reader::field_end;
 
 // What is told of the record that begins at a place.
 pub struct Contact {
@@ -27,4 +37,96 @@ pub struct Declared {
     pub exchangemultiplier: u64,
     pub countrybonus: u64,
     pub countrymultiplier: u64,
+}
+
+// The place behind so many fields and the semicolon behind each. No record has more than fifteen fields, so that a place so far behind the
+// log's end still fits.
+fn skip_fields(s: &[u8], at: usize, n: usize) -> usize
+    requires { ⌜ (at ≤ length (now s) + 15) × (n ≤ 15) ⌝ }
+    ensures { λ r. ⌜ r ≡ fieldStart (now (s .entry)) at n ⌝ }
+{
+    let mut i = at;
+    let mut k = 0;
+    while k < n {
+        i = field_end(s, i) + 1;
+        k += 1;
+    }
+    i
+}
+
+// What the points at a place are worth.
+fn worth(s: &[u8], at: usize) -> u64
+    ensures { λ r. ⌜ r ≡ valueBy (numberOf 6) (textAt (now (s .entry)) at) ⌝ }
+{
+    let NumberRead::Number(value, _) = points(s, at) else {
+        return 0;
+    };
+    value
+}
+
+// The field from here to there is the call that marks a mistake. Only a field of five bytes is looked at.
+fn is_error(s: &[u8], at: usize, end: usize) -> bool
+    requires { ⌜ end ≡ endOf (now s) at ⌝ }
+    ensures { λ r. ⌜ r ≡ same (textAt (now (s .entry)) at) errorCall ⌝ }
+{
+    if end - at != 5 {
+        return false;
+    }
+    same_text(&s[at..end], b"ERROR")
+}
+
+// The field from here to there is the mark of a new one.
+fn is_new(s: &[u8], at: usize, end: usize) -> bool
+    requires { ⌜ end ≡ endOf (now s) at ⌝ }
+    ensures { λ r. ⌜ r ≡ same (textAt (now (s .entry)) at) newMark ⌝ }
+{
+    if end - at != 1 {
+        return false;
+    }
+    s[at] == 78
+}
+
+// The record at a place of the log.
+fn contact_within(s: &[u8], at: usize) -> Contact
+    requires { ⌜ at ≤ length (now s) ⌝ }
+    ensures { λ r. ⌜ r ≡ contactAt (now (s .entry)) at ⌝ }
+{
+    let call = skip_fields(s, at, 2);
+    let callend = field_end(s, call);
+    let exchange = skip_fields(s, callend + 1, 5);
+    let exchangeend = field_end(s, exchange);
+    let locator = exchangeend + 1;
+    let locatorend = field_end(s, locator);
+    let points = locatorend + 1;
+    let pointsend = field_end(s, points);
+    let country = skip_fields(s, pointsend + 1, 2);
+    let countryend = field_end(s, country);
+    let error = is_error(s, call, callend);
+    let new = is_new(s, country, countryend);
+    let worth = worth(s, points);
+    let next = allowed_run(s, countryend + 1) + 2;
+    Contact {
+        call,
+        callend,
+        exchange,
+        exchangeend,
+        locator,
+        locatorend,
+        points,
+        pointsend,
+        worth,
+        error,
+        country: new,
+        next,
+    }
+}
+
+// The record at a place. Behind the log's end nothing can be told, and what is told of the end itself serves.
+pub fn contact_at(s: &[u8], at: usize) -> Contact
+    ensures { λ r. ⌜ r ≡ contactAt (now (s .entry)) (min at (length (now (s .entry)))) ⌝ }
+{
+    if s.len() < at {
+        return contact_within(s, s.len());
+    }
+    contact_within(s, at)
 }

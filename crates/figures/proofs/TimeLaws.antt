@@ -1,0 +1,156 @@
+-- Laws of times of day.
+-- Assumes nothing.
+use Prim.Native.Nat.{ℕ, _+_, _*_, _-_, _≤_, _<_}
+use native.Mathlib.Omega.{arith}
+use mathlib.Core.Path.{_≡_, refl, sym, ap, _∙_}
+use mathlib.Core.Bool.{Bool, true, false, not, _&&_, true≢false}
+use mathlib.Core.List.{[], _∷_}
+use lib.Dec.{leb, eqb}
+use lib.ListN.{length, take, drop, getD, length-drop}
+use borrow.Author.Tests.{not-true, leb-true, ne-eqb, eqb-true, eqb-false, le-leb, lt-leb}
+use Rattle.rules.specs.Text.{Text, digit, all, value, valueAfter}
+use Rattle.rules.specs.Fields.{timeOfDay}
+use Rattle.fields.specs.Field.{textAt, endsAt, endOf}
+use Rattle.figures.specs.declared.TimeOfDay.{TimeOfDay}
+use Rattle.figures.specs.declared.TimeMade.{TimeMade}
+use Rattle.figures.specs.declared.TimeMade.the-variants as TimeMade
+use Rattle.figures.specs.declared.TimeRead.{TimeRead}
+use Rattle.figures.specs.declared.TimeRead.the-variants as TimeRead
+use Rattle.figures.specs.Figure.{timeMade, timeAt}
+use Rattle.figures.proofs.NumberLaws.{value-split, both-first, both-second, text-within, end-is-length}
+use Rattle.figures.proofs.ExactLaws.{exact-text, exact-ends, digits-exact, four-characters}
+use Rattle.figures.proofs.Picked.{picked, passed}
+
+-- The number that two digits write.
+pub two-digits : (a b : ℕ) → 10 * (a - 48) + (b - 48) ≡ value (a ∷ b ∷ [])
+unfolding value valueAfter
+two-digits a b = omega arith
+
+-- The answers on four characters, one for each.
+module _ (a b c d : ℕ) where
+  pub made-first : not (digit a) ≡ true → TimeMade.Bad ≡ timeMade a b c d
+  unfolding timeMade timeOfDay all
+  made-first h = rw (not-true (digit a) h)
+
+  pub made-second : digit a ≡ true → not (digit b) ≡ true → TimeMade.Bad ≡ timeMade a b c d
+  unfolding timeMade timeOfDay all
+  made-second f h = rw (f, not-true (digit b) h)
+
+  pub made-third : digit a ≡ true → digit b ≡ true → not (digit c) ≡ true → TimeMade.Bad ≡ timeMade a b c d
+  unfolding timeMade timeOfDay all
+  made-third f g h = rw (f, g, not-true (digit c) h)
+
+  pub made-fourth : digit a ≡ true → digit b ≡ true → digit c ≡ true → not (digit d) ≡ true → TimeMade.Bad ≡ timeMade a b c d
+  unfolding timeMade timeOfDay all
+  made-fourth f g h i = rw (f, g, h, not-true (digit d) i)
+
+  pub record Four : Type 0 where
+    pub first : digit a ≡ true
+    pub second : digit b ≡ true
+    pub third : digit c ≡ true
+    pub fourth : digit d ≡ true
+
+  module _ (four : Four) {hours : ℕ} (h : hours ≡ value (a ∷ b ∷ [])) where
+    pub made-hours : 23 < hours → TimeMade.Bad ≡ timeMade a b c d
+    unfolding timeMade timeOfDay all
+    made-hours l = rw (four .first, four .second, four .third, four .fourth, ← h, lt-leb hours 23 l)
+
+    pub made-minutes : {minutes : ℕ} → hours ≤ 23 → minutes ≡ value (c ∷ d ∷ []) → 59 < minutes → TimeMade.Bad ≡ timeMade a b c d
+    unfolding timeMade timeOfDay all
+    made-minutes {minutes} l m n =
+        rw (four .first, four .second, four .third, four .fourth, ← h, le-leb hours 23 l, ← m, lt-leb minutes 59 n)
+
+    pub made-time : {minutes : ℕ} → hours ≤ 23 → minutes ≡ value (c ∷ d ∷ []) → minutes ≤ 59
+        → TimeMade.Time (record { digits = 100 * hours + minutes }) ≡ timeMade a b c d
+    unfolding timeMade timeOfDay all value valueAfter
+    made-time {minutes} l m n =
+        rw (four .first, four .second, four .third, four .fourth, ← h, le-leb hours 23 l, ← m, le-leb minutes 59 n)
+        (ap (λ (k : ℕ). TimeMade.Time (record { digits = k })) (omega arith))
+
+no-time : {t : TimeOfDay} → TimeMade.Bad ≡ TimeMade.Time t → ⊥
+no-time p = let z : _≡_ {A = ℕ} 0 1 = cc in omega arith
+
+-- What the answer on four characters tells of them.
+module _ (a b c d : ℕ) where
+  pub made-picked : {t : TimeOfDay} → timeMade a b c d ≡ TimeMade.Time t
+      → (timeOfDay (a ∷ b ∷ c ∷ d ∷ []) ≡ true) × (t .digits ≡ value (a ∷ b ∷ c ∷ d ∷ []))
+  unfolding timeMade
+  made-picked {t} p =
+      let q : (timeOfDay (a ∷ b ∷ c ∷ d ∷ []) ≡ true) × (TimeMade.Time (record { digits = value (a ∷ b ∷ c ∷ d ∷ []) }) ≡ TimeMade.Time t) = picked (timeOfDay (a ∷ b ∷ c ∷ d ∷ [])) p no-time in
+      let r : record { digits = value (a ∷ b ∷ c ∷ d ∷ []) } ≡ t = cc in
+      (q .0, ap (λ (t : TimeOfDay). t .digits) (sym r))
+
+  pub made-refused : timeMade a b c d ≡ TimeMade.Bad → timeOfDay (a ∷ b ∷ c ∷ d ∷ []) ≡ false
+  unfolding timeMade
+  made-refused p = passed (timeOfDay (a ∷ b ∷ c ∷ d ∷ [])) p (λ q. no-time (sym q)) .0
+
+-- A time has four characters, and all of them are digits.
+time-long : (t : Text) → (length t ≡ 4 → ⊥) → timeOfDay t ≡ false
+unfolding timeOfDay
+time-long t h = rw (ne-eqb (length t) 4 h)
+
+-- The last time of a day is 2359.
+pub time-last : (t : Text) → timeOfDay t ≡ true → value t ≤ 2359
+unfolding timeOfDay
+time-last t h =
+    let four : length t ≡ 4 = eqb-true (length t) 4 (both-first (eqb (length t) 4) (all digit t) (both-first (eqb (length t) 4 && all digit t) (leb (value (take 2 t)) 23) hours)) in
+    let two : length (drop 2 t) ≡ 2 = omega (arith, length-drop 2 t) in
+    let whole : value t ≡ value (take 2 t) * 100 + value (drop 2 t) = rw two at (value-split 2 t) in
+    omega (arith, leb-true (value (take 2 t)) 23 (both-second (eqb (length t) 4 && all digit t) (leb (value (take 2 t)) 23) hours), leb-true (value (drop 2 t)) 59 (both-second (eqb (length t) 4 && all digit t && leb (value (take 2 t)) 23) (leb (value (drop 2 t)) 59) h))
+  where
+    hours : (eqb (length t) 4 && all digit t && leb (value (take 2 t)) 23) ≡ true
+    hours = both-first (eqb (length t) 4 && all digit t && leb (value (take 2 t)) 23) (leb (value (drop 2 t)) 59) h
+
+time-digits : (t : Text) → timeOfDay t ≡ true → all digit t ≡ true
+unfolding timeOfDay
+time-digits t h =
+    both-second (eqb (length t) 4) (all digit t)
+    (both-first (eqb (length t) 4 && all digit t) (leb (value (take 2 t)) 23)
+    (both-first (eqb (length t) 4 && all digit t && leb (value (take 2 t)) 23) (leb (value (drop 2 t)) 59) h))
+
+module _ (s : Text) (at : ℕ) where
+  time-bad : timeOfDay (textAt s at) ≡ false → TimeRead.Bad ≡ timeAt s at
+  unfolding timeAt
+  time-bad h = rw h
+
+  time-good : {t : TimeOfDay} {e : ℕ} → timeOfDay (textAt s at) ≡ true → t .digits ≡ value (textAt s at) → e ≡ endOf s at
+      → TimeRead.Time t e ≡ timeAt s at
+  unfolding timeAt
+  time-good {t} {e} h p q = rw (h, q) (ap (λ (k : ℕ). TimeRead.Time (record { digits = k }) (endOf s at)) p)
+
+  pub time-short : length s < at + 4 → TimeRead.Bad ≡ timeAt s at
+  time-short h = time-bad (time-long (textAt s at) (λ e. omega (arith, text-within s at (omega arith))))
+
+  pub time-unended : not (endsAt s (at + 4)) ≡ true → TimeRead.Bad ≡ timeAt s at
+  time-unended h =
+      time-bad
+      (time-long (textAt s at)
+      (λ e. true≢false (sym (exact-ends 4 s at e) ∙ not-true (endsAt s (at + 4)) h)))
+
+  abbrev made : TimeMade
+  made = timeMade (getD s at 0) (getD s (at + 1) 0) (getD s (at + 2) 0) (getD s (at + 3) 0)
+
+  pub time-none : at + 4 ≤ length s → made ≡ TimeMade.Bad → TimeRead.Bad ≡ timeAt s at
+  time-none h p = time-bad (by (eqb (length (textAt s at)) 4) refl)
+    where
+      by : (b : Bool) → eqb (length (textAt s at)) 4 ≡ b → timeOfDay (textAt s at) ≡ false
+      by true e =
+          ap timeOfDay (exact-text 4 s at (eqb-true (length (textAt s at)) 4 e) ∙ four-characters s at h)
+          ∙ made-refused _ _ _ _ p
+      by false e = time-long (textAt s at) (eqb-false (length (textAt s at)) 4 e)
+
+  pub time-some : {t : TimeOfDay} → at + 4 ≤ length s → endsAt s (at + 4) ≡ true → made ≡ TimeMade.Time t
+      → TimeRead.Time t (at + 4) ≡ timeAt s at
+  time-some {t} h e p =
+      time-good (ap timeOfDay text ∙ right) (made-picked _ _ _ _ p .1 ∙ ap value (sym text)) (sym (end-is-length s at ∙ ap (λ (t : Text). at + length t) text))
+    where
+      four : Text
+      four = getD s at 0 ∷ getD s (at + 1) 0 ∷ getD s (at + 2) 0 ∷ getD s (at + 3) 0 ∷ []
+
+      right : timeOfDay four ≡ true
+      right = made-picked _ _ _ _ p .0
+
+      text : textAt s at ≡ four
+      text =
+          digits-exact 4 s at (ap (all digit) (four-characters s at h) ∙ time-digits four right) (omega (arith, length-drop at s)) e
+          ∙ four-characters s at h

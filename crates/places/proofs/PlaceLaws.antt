@@ -1,0 +1,135 @@
+-- Laws of places: of a field by where it ends, of the fields behind one another, and of what is told of a record.
+-- Assumes nothing.
+use Prim.Native.Nat.{ℕ, zero, suc, _+_, _-_, _≤_, _<_, max}
+use native.Mathlib.Omega.{arith}
+use native.Mathlib.Nat.{add-zero, add-suc}
+use native.Mathlib.Numerals.{add-one}
+use mathlib.Core.Path.{_≡_, sym, ap, _∙_}
+use mathlib.Core.Bool.{Bool, false, and-true}
+use lib.Dec.{eqb}
+use lib.ListN.{length, take, drop, getD, length-drop}
+use Rattle.rules.specs.Text.{Text, allowed, span, same, numberOf}
+use Rattle.rules.specs.Fields.{errorCall, newMark}
+use Rattle.fields.specs.Field.{inField, textAt, endOf}
+use Rattle.fields.proofs.FieldLaws.{at}
+use Rattle.figures.specs.declared.NumberRead.{NumberRead}
+use Rattle.figures.specs.declared.NumberRead.the-variants as NumberRead
+use Rattle.figures.specs.Figure.{numberAt}
+use Rattle.figures.proofs.Picked.{number-picked, number-refused}
+use Rattle.header.proofs.WordLaws.{same-apart}
+use Rattle.reader.proofs.LineLaws.{span-short}
+use Rattle.reader.proofs.PartLaws.{end-by-span, end-within}
+use Rattle.places.specs.declared.Contact.{Contact}
+use Rattle.places.specs.Places.{fieldStart, valueBy, contactAt}
+
+module _ (s : Text) where
+  -- A run ends within the text, or where it begins.
+  pub run-within : (f : ℕ → Bool) (i : ℕ) → i + span f (drop i s) ≤ max i (length s)
+  run-within f i = omega (arith, span-short f (drop i s), length-drop i s)
+
+  -- A field by its two ends.
+  module _ (a : ℕ) {e : ℕ} (h : e ≡ endOf s a) where
+    pub ends-behind : a ≤ e
+    ends-behind = omega (arith, end-by-span s a)
+
+    pub ends-inside : a < e → e ≤ length s
+    ends-inside g = omega (arith, end-within s a)
+
+    pub text-by-end : textAt s a ≡ take (e - a) (drop a s)
+    unfolding textAt
+    text-by-end =
+        let n : span inField (drop a s) ≡ e - a = omega (arith, end-by-span s a) in
+        ap (λ (k : ℕ). take k (drop a s)) n
+
+    pub text-length : length (textAt s a) ≡ e - a
+    unfolding endOf
+    text-length = omega arith
+
+  -- The fields behind one another.
+  pub start-more : (at j k : ℕ) → fieldStart s (fieldStart s at j) k ≡ fieldStart s at (j + k)
+  unfolding fieldStart
+  start-more at j zero = rw (add-zero j)
+  start-more at j (suc k) = rw (add-suc j k, start-more at j k)
+
+  pub start-next : (at k : ℕ) → endOf s (fieldStart s at k) + 1 ≡ fieldStart s at (k + 1)
+  unfolding fieldStart
+  start-next at k = rw (add-one k)
+
+  pub start-within : (at k : ℕ) → fieldStart s at k ≤ max at (length s) + k
+  unfolding fieldStart
+  start-within at zero = omega arith
+  start-within at (suc k) = omega (arith, start-within at k, end-within s (fieldStart s at k))
+
+  -- A number that is read, and one that is not.
+  module _ (rule : Text → Bool) (at : ℕ) where
+    pub value-read : {v e : ℕ} → numberAt rule s at ≡ NumberRead.Number v e → v ≡ valueBy rule (textAt s at)
+    unfolding valueBy
+    value-read p = let q = number-picked rule s at p in rw (q .0) (q .1)
+
+    pub value-none : numberAt rule s at ≡ NumberRead.Bad → 0 ≡ valueBy rule (textAt s at)
+    unfolding valueBy
+    value-none p = rw (number-refused rule s at p)
+
+  -- The mark of a new one is one character, and the call of a mistake is five.
+  module _ (a : ℕ) {e : ℕ} (h : e ≡ endOf s a) where
+    pub no-error : (e - a ≡ 5 → ⊥) → false ≡ same (textAt s a) errorCall
+    unfolding errorCall
+    no-error n = same-apart (textAt s a) errorCall (λ k. n (sym (text-length a h) ∙ k))
+
+    pub no-new : (e - a ≡ 1 → ⊥) → false ≡ same (textAt s a) newMark
+    unfolding newMark
+    no-new n = same-apart (textAt s a) newMark (λ k. n (sym (text-length a h) ∙ k))
+
+    pub new-by-byte : e - a ≡ 1 → eqb (getD s a 0) 78 ≡ same (textAt s a) newMark
+    unfolding newMark same
+    new-by-byte n =
+        rw (text-by-end a h, n, at s a (omega (arith, ends-inside a h (omega arith)))) (sym (and-true (eqb (getD s a 0) 78)))
+
+  -- One field after the other, from a place on.
+  module _ (at k : ℕ) where
+    pub field-ends : {a e : ℕ} → a ≡ fieldStart s at k → e ≡ a + span inField (drop a s) → e ≡ endOf s (fieldStart s at k)
+    field-ends g h = h ∙ sym (end-by-span s _) ∙ ap (endOf s) g
+
+    pub next-start : {e : ℕ} → e ≡ endOf s (fieldStart s at k) → e + 1 ≡ fieldStart s at (suc k)
+    unfolding fieldStart
+    next-start g = ap (λ (n : ℕ). n + 1) g
+
+    pub fields-on : (j : ℕ) {e a : ℕ} → e ≡ endOf s (fieldStart s at k) → a ≡ fieldStart s (e + 1) j → a ≡ fieldStart s at (suc k + j)
+    fields-on j g h =
+        h ∙ ap (λ (n : ℕ). fieldStart s n j) (next-start g) ∙ start-more at (suc k) j
+
+    pub ends-near : {e : ℕ} → at ≤ length s → e ≡ endOf s (fieldStart s at k) → e ≤ length s + k
+    ends-near h g = omega (arith, start-within at (suc k), next-start g)
+
+  -- What is told of a record, put together from its places.
+  pub told : (at : ℕ) {call callend exchange exchangeend locatorend pointsend country countryend next worth : ℕ} {error new : Bool}
+      → call ≡ fieldStart s at 2
+      → callend ≡ endOf s (fieldStart s at 2)
+      → exchange ≡ fieldStart s at 8
+      → exchangeend ≡ endOf s (fieldStart s at 8)
+      → locatorend ≡ endOf s (fieldStart s at 9)
+      → pointsend ≡ endOf s (fieldStart s at 10)
+      → country ≡ fieldStart s at 13
+      → countryend ≡ endOf s (fieldStart s at 13)
+      → error ≡ same (textAt s call) errorCall
+      → new ≡ same (textAt s country) newMark
+      → worth ≡ valueBy (numberOf 6) (textAt s (locatorend + 1))
+      → next ≡ countryend + 1 + span allowed (drop (countryend + 1) s)
+      → _≡_ {A = Contact}
+      (record {
+        call = call;
+        callend = callend;
+        exchange = exchange;
+        exchangeend = exchangeend;
+        locator = exchangeend + 1;
+        locatorend = locatorend;
+        points = locatorend + 1;
+        pointsend = pointsend;
+        worth = worth;
+        error = error;
+        country = new;
+        next = next + 2;
+      })
+      (contactAt s at)
+  unfolding contactAt fieldStart
+  told at c ce x xe le pe n ne er nw w nx = rw (nx, w, nw, er, c, ce, x, xe, le, pe, n, ne)

@@ -1,0 +1,140 @@
+-- An accepted log holds its records one behind the other, and ends behind the last: what is told at the place of each is true of it.
+-- Assumes nothing.
+use Prim.Native.Nat.{ℕ, suc, _+_, _-_, _≤_, _<_}
+use native.Mathlib.Omega.{arith}
+use mathlib.Core.Path.{_≡_, refl, sym, ap, _∙_}
+use mathlib.Core.Bool.{true, not, _||_}
+use mathlib.Core.List.{List, [], _∷_, _++_, map, append-assoc}
+use lib.ListN.{length, drop, getD, length-append, length-drop}
+use lib.Seq.{drop-drop, drop-append-add, drop-at}
+use Rattle.rules.specs.Text.{Text, bytes, allowed, all, span, same, joined, value, numberOf}
+use Rattle.rules.specs.Rules.{base}
+use Rattle.rules.specs.Fields.{Qso, errorCall, newMark, isError, pointsRule, fieldsOf, fieldRules}
+use Rattle.rules.specs.Log.{Log, countLine, recordLine, crlf, ended, conjunction, recordRules}
+use Rattle.rules.specs.Reading.{read, accepted}
+use Rattle.rules.specs.Judging.{claimsCountry}
+use Rattle.rules.proofs.TextLaws.{span-run}
+use Rattle.rules.proofs.Tests.{so, holds, and-l, and-r}
+use Rattle.rules.proofs.ValidLogs.{points-ruled, records-valid}
+use Rattle.rules.proofs.Format.{accepted-exactly, render-law}
+use Rattle.rules.proofs.LogLaws.{front, lines-split}
+use Rattle.rules.proofs.FieldLaws.{fields-plain, fields-fit, fits-allowed}
+use Rattle.fields.specs.Field.{textAt, endOf}
+use Rattle.places.specs.Places.{fieldStart, valueBy, contactAt, between, Describes, Holds}
+use Rattle.places.proofs.PlaceLaws.{text-by-end}
+use Rattle.places.proofs.FieldsHeld.{texts-held, starts-held}
+
+-- A record's line stands at a place, with its end, and more behind it.
+module _ (s : Text) (at : ℕ) (q : Qso) (rest : Text) (r : conjunction (fieldRules base q) ≡ true) (e : drop at s ≡ recordLine q ++ crlf ++ rest) where
+  stands : drop at s ≡ joined (fieldsOf q) ++ (crlf ++ rest)
+  unfolding recordLine
+  stands = e ∙ append-assoc (joined (fieldsOf q)) crlf rest
+
+  field-is : (k : ℕ) → suc k < 15 → textAt s (fieldStart s at k) ≡ getD (fieldsOf q) k []
+  unfolding fieldsOf
+  field-is k h = texts-held s at (fieldsOf q) (crlf ++ rest) (fields-plain base q r) stands k h
+
+  between-is : (k : ℕ) → suc k < 15 → between s (fieldStart s at k) (endOf s (fieldStart s at k)) ≡ getD (fieldsOf q) k []
+  between-is k h = sym (text-by-end s (fieldStart s at k) refl) ∙ field-is k h
+
+  points-number : numberOf 6 (q .points) ≡ true
+  unfolding pointsRule base
+  points-number =
+      let p = so (pointsRule base q) (points-ruled base q (holds r)) in
+      and-l (numberOf 6 (q .points)) (not (isError q) || same (q .points) (bytes "0")) p
+
+  worth-is : valueBy (numberOf 6) (textAt s (fieldStart s at 10)) ≡ value (q .points)
+  unfolding valueBy fieldsOf
+  worth-is = rw (field-is 10 (omega arith), points-number)
+
+  describes : Describes s (contactAt s at) q
+  unfolding contactAt fieldsOf isError claimsCountry
+  describes =
+      record {
+        callIs = between-is 2 (omega arith);
+        exchangeIs = between-is 8 (omega arith);
+        locatorIs = between-is 9 (omega arith);
+        pointsAre = between-is 10 (omega arith);
+        worthIs = worth-is;
+        errorIs = ap (λ (t : Text). same t errorCall) (field-is 2 (omega arith));
+        countryIs = ap (λ (t : Text). same t newMark) (field-is 13 (omega arith));
+      }
+
+  last-stands : drop (fieldStart s at 14) s ≡ q .duplicate ++ 13 ∷ 10 ∷ rest
+  unfolding fieldsOf joined crlf
+  last-stands =
+      starts-held s at (fieldsOf q) (crlf ++ rest) (fields-plain base q r) stands 14 (omega arith)
+
+  last-allowed : all allowed (q .duplicate) ≡ true
+  unfolding fieldsOf
+  last-allowed =
+      let f = fields-fit base q r in
+      fits-allowed (f .1 .1 .1 .1 .1 .1 .1 .1 .1 .1 .1 .1 .1 .1 .0)
+
+  next-is : (contactAt s at) .next ≡ fieldStart s at 14 + (length (q .duplicate) + 2)
+  unfolding contactAt
+  next-is =
+      let n : span allowed (drop (fieldStart s at 14) s) ≡ length (q .duplicate) = ap (span allowed) last-stands ∙ span-run allowed (q .duplicate) 13 (10 ∷ rest) last-allowed refl in
+      omega arith
+
+  -- The next line begins behind the end of this one, within the text.
+  next-stands : drop ((contactAt s at) .next) s ≡ rest
+  next-stands =
+      ap (λ (n : ℕ). drop n s) next-is
+      ∙ sym (drop-drop (length (q .duplicate) + 2) (fieldStart s at 14) s)
+      ∙ ap (drop (length (q .duplicate) + 2)) last-stands
+      ∙ drop-append-add (q .duplicate) (13 ∷ 10 ∷ rest) 2
+
+  next-within : (contactAt s at) .next + length rest ≡ length s
+  next-within =
+      let n : length s - fieldStart s at 14 ≡ length (q .duplicate ++ 13 ∷ 10 ∷ rest) = sym (length-drop (fieldStart s at 14) s) ∙ ap length last-stands in
+      omega (arith, length-append (q .duplicate) (13 ∷ 10 ∷ rest), next-is)
+
+-- Records stand at a place to the end of the text.
+module _ (s : Text) where
+  held : (qs : List Qso) (at : ℕ) → recordRules base qs ≡ true → drop at s ≡ ended (map recordLine qs) → at + length (ended (map recordLine qs)) ≡ length s → Holds s at qs
+  unfolding ended recordRules
+  held [] at r e n = omega arith
+  held (q ∷ qs) at r e n =
+      let rest = ended (map recordLine qs) in
+      let rules : conjunction (fieldRules base q) ≡ true = and-l (conjunction (fieldRules base q)) (recordRules base qs) r in (
+        describes s at q rest rules e,
+        held qs ((contactAt s at) .next) (and-r (conjunction (fieldRules base q)) (recordRules base qs) r) (next-stands s at q rest rules e) (next-within s at q rest rules e),
+      )
+
+-- Where the first record of a log that is written begins.
+abbrev pub recordsStart : Text → Log → ℕ
+recordsStart s log = length s - length (ended (map recordLine (log .records)))
+
+pub ended-append : (a b : List Text) → ended (a ++ b) ≡ ended a ++ ended b
+unfolding ended
+ended-append [] b = refl
+ended-append (l ∷ a) b =
+    ap (λ (t : Text). l ++ crlf ++ t) (ended-append a b) ∙ sym (append-assoc (l ++ crlf) (ended a) (ended b))
+
+module _ (s : Text) (log : Log) (w : read base s ≡ accepted log) where
+  abbrev records : List Text
+  records = map recordLine (log .records)
+
+  abbrev header : List Text
+  header = front log ++ (countLine (length (log .records)) ∷ [])
+
+  split : s ≡ ended header ++ ended records
+  split =
+      sym (accepted-exactly s log .0 w .1)
+      ∙ render-law log
+      ∙ ap ended (lines-split log ∙ sym (append-assoc (front log) (countLine (length (log .records)) ∷ []) records))
+      ∙ ended-append header records
+
+  starts : recordsStart s log ≡ length (ended header)
+  starts = omega (arith, ap length split, length-append (ended header) (ended records))
+
+  pub records-within : recordsStart s log ≤ length s
+  records-within = omega arith
+
+  pub records-held : Holds s (recordsStart s log) (log .records)
+  records-held =
+      held s (log .records) (recordsStart s log)
+      (so (recordRules base (log .records)) (records-valid base log (accepted-exactly s log .0 w .0)))
+      (ap (drop (recordsStart s log)) split ∙ drop-at (ended header) (ended records) (recordsStart s log) (sym starts))
+      (omega (arith, starts, ap length split, length-append (ended header) (ended records)))
