@@ -3,19 +3,21 @@
 use Prim.Native.Nat.{ℕ, zero, suc, _+_, _-_, _≤_, _<_, min}
 use native.Mathlib.Omega.{arith}
 use native.Mathlib.Numerals.{add-one}
+use native.Mathlib.Nat.{add-zero, zero-add}
 use mathlib.Core.Path.{_≡_, refl, sym, ap, _∙_}
-use mathlib.Core.Bool.{Bool, true, false, cond, _||_}
+use mathlib.Core.Bool.{Bool, true, false, cond, not, _||_, or-false, or-assoc, or-comm}
 use mathlib.Core.List.{List, [], _∷_}
 use lib.Dec.{leb}
 use lib.ListN.{length, take, drop, getD, set, length-take, length-drop, length-set}
 use lib.Seq.{take-all, take-take, getD-set-same, getD-set-other}
-use borrow.Author.Tests.{le-leb, lt-leb, leb-true, leb-false}
+use borrow.Author.Tests.{le-leb, lt-leb, leb-true, leb-false, not-true, not-false}
 use Rattle.rules.specs.Text.{Text, same}
 use Rattle.rules.specs.Arguments.{among}
 use Rattle.places.specs.Places.{between}
 use Rattle.judge.specs.declared.Found.{Found}
 use Rattle.judge.specs.declared.Found.the-variants.{At, Nothing}
 use Rattle.judge.specs.Parts.{squareEnd, keptAt, seek, isAt, keptTexts}
+use Rattle.judge.specs.Memory.{Keeps}
 
 pub part-size : (s : Text) (a e : ℕ) → length (between s a e) ≡ min (e - a) (length s - a)
 part-size s a e = rw (length-take, length-drop)
@@ -86,3 +88,63 @@ module _ (s : Text) (starts ends : List ℕ) (t : Text) where
       i < m → same (keptAt s starts ends i) t ≡ false → seek s starts ends t (m - i) i ≡ seek s starts ends t (m - (i + 1)) (i + 1)
   unfolding seek
   seek-later m i h e = let z : m - i ≡ suc (m - (i + 1)) = omega arith in rw (z, seek, e)
+
+  -- What is looked for is found where it is among the texts that are kept.
+  found-or : (b : Bool) (i : ℕ) (f : Found) → isAt (cond b (At i) f) ≡ (b || isAt f)
+  found-or true i f = refl
+  found-or false i f = refl
+
+  seek-last : (n i : ℕ) →
+      isAt (seek s starts ends t (suc n) i) ≡ (isAt (seek s starts ends t n i) || same (keptAt s starts ends (i + n)) t)
+  unfolding seek
+  seek-last zero i =
+      found-or (same (keptAt s starts ends i) t) i Nothing
+      ∙ or-false (same (keptAt s starts ends i) t)
+      ∙ ap (λ (k : ℕ). same (keptAt s starts ends k) t) (sym (add-zero i))
+  seek-last (suc n) i =
+      let here = same (keptAt s starts ends i) t in
+      let k : i + 1 + n ≡ i + suc n = omega arith in
+      found-or here i (seek s starts ends t (suc n) (i + 1))
+      ∙ ap (λ (b : Bool). here || b) (seek-last n (i + 1))
+      ∙ sym (or-assoc here (isAt (seek s starts ends t n (i + 1))) (same (keptAt s starts ends (i + 1 + n)) t))
+      ∙ ap (λ (b : Bool). b || same (keptAt s starts ends (i + 1 + n)) t) (sym (found-or here i (seek s starts ends t n (i + 1))))
+      ∙ ap (λ (j : ℕ). isAt (seek s starts ends t (suc n) i) || same (keptAt s starts ends j) t) k
+
+  seek-among : (m : ℕ) → isAt (seek s starts ends t m 0) ≡ among (keptTexts s starts ends m) t
+  unfolding seek keptTexts among
+  seek-among zero = refl
+  seek-among (suc m) =
+      seek-last m 0
+      ∙ ap (λ (j : ℕ). isAt (seek s starts ends t m 0) || same (keptAt s starts ends j) t) (zero-add m)
+      ∙ or-comm (isAt (seek s starts ends t m 0)) (same (keptAt s starts ends m) t)
+      ∙ ap (λ (b : Bool). same (keptAt s starts ends m) t || b) (seek-among m)
+
+  pub kept-found : (m : ℕ) {i : ℕ} → seek s starts ends t m 0 ≡ At i → true ≡ among (keptTexts s starts ends m) t
+  kept-found m e = sym (ap isAt e) ∙ seek-among m
+
+  pub kept-none : (m : ℕ) → seek s starts ends t m 0 ≡ Nothing → false ≡ among (keptTexts s starts ends m) t
+  kept-none m e = sym (ap isAt e) ∙ seek-among m
+
+-- # One part more
+
+-- What is written behind the first so many parts leaves them as they are.
+kept-below : (s : Text) (starts ends : List ℕ) (m a e n : ℕ) → n ≤ m → keptTexts s (set starts m a) (set ends m e) n ≡ keptTexts s starts ends n
+unfolding keptTexts
+kept-below s starts ends m a e zero h = refl
+kept-below s starts ends m a e (suc n) h =
+    let d : n ≡ m → ⊥ = omega arith in
+    rw (getD-set-other starts m n a 0 d, getD-set-other ends m n e 0 d, kept-below s starts ends m a e n (omega arith))
+
+module _ (starts ends : List ℕ) (m a e : ℕ) {yes : Bool} where
+  pub keeps-none : not yes ≡ true → Keeps starts ends m a e yes starts ends m
+  keeps-none n = let f : yes ≡ false = not-true yes n in rw f (record { texts = λ s. refl; more = omega arith })
+
+  pub keeps-one : not yes ≡ false → m < length starts → m < length ends → Keeps starts ends m a e yes (set starts m a) (set ends m e) (m + 1)
+  unfolding keptTexts
+  keeps-one n h k =
+      let f : yes ≡ true = not-false yes n in
+      rw (f, add-one m)
+      (record {
+        texts = λ s. rw (getD-set-same starts m a 0 h, getD-set-same ends m e 0 k, kept-below s starts ends m a e m (omega arith));
+        more = omega arith;
+      })

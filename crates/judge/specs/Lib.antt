@@ -1,3 +1,4 @@
 -- What the judge keeps of the records before, and what it adds up, in the words of document 01's definitions.
 pub mod Parts
+pub mod Memory
 pub mod Count

@@ -7,7 +7,9 @@ ghost use lib.ListN.{length};
 ghost use Rattle.rules.specs.Text.{same, empty};
 ghost use Rattle.rules.specs.Judging.{classNumber, verdictNumber};
 ghost use Rattle.places.specs.Places.{between};
-ghost use Rattle.judge.specs.Parts.{squareEnd, seek};
+ghost use Rattle.rules.specs.Arguments.{among};
+ghost use Rattle.judge.specs.Parts.{squareEnd, seek, keptTexts};
+ghost use Rattle.judge.specs.Memory.{unseen, classBy, verdictBy, memory, Room, Keeps, Steps};
 ghost use Rattle.judge.specs.Count.{worthIf, addRecord, closing, Countable, Closable};
 use places::Contact;
 use places::Declared;
@@ -85,6 +87,71 @@ fn find(s: &[u8], starts: &[usize], ends: &[usize], m: usize, a: usize, e: usize
         return Found::At(at);
     }
     Found::Nothing
+}
+
+// The part is the same as one of the m parts kept.
+fn is_kept(s: &[u8], starts: &[usize], ends: &[usize], m: usize, a: usize, e: usize) -> bool
+    requires { ⌜ (m ≤ length (now starts)) × (m ≤ length (now ends)) ⌝ }
+    ensures { λ r. ⌜ r ≡ among (keptTexts (now (s .entry)) (now (starts .entry)) (now (ends .entry)) m) (between (now (s .entry)) a e) ⌝ }
+{
+    match find(s, starts, ends, m, a, e) {
+        Found::At(_) => true,
+        Found::Nothing => false,
+    }
+}
+
+// The part is not empty, and is the same as none of the m parts kept.
+fn is_unseen(s: &[u8], starts: &[usize], ends: &[usize], m: usize, a: usize, e: usize) -> bool
+    requires { ⌜ (m ≤ length (now starts)) × (m ≤ length (now ends)) ⌝ }
+    ensures { λ r. ⌜ r ≡ unseen (keptTexts (now (s .entry)) (now (starts .entry)) (now (ends .entry)) m) (between (now (s .entry)) a e) ⌝ }
+{
+    if part_length(s, a, e) == 0 {
+        return false;
+    }
+    !is_kept(s, starts, ends, m, a, e)
+}
+
+// The part is kept behind the first m, if it is to be; how many are kept then.
+fn keep(starts: &mut [usize], ends: &mut [usize], m: usize, a: usize, e: usize, yes: bool) -> usize
+    requires { ⌜ (m < length (now starts)) × (m < length (now ends)) ⌝ }
+    ensures { λ r. ⌜ Keeps (now (starts .entry)) (now (ends .entry)) m a e yes (now (starts .exit)) (now (ends .exit)) r ⌝ }
+{
+    if !yes {
+        return m;
+    }
+    starts[m] = a;
+    ends[m] = e;
+    m + 1
+}
+
+// How many calls, squares and exchanges are kept.
+struct Kept {
+    calls: usize,
+    squares: usize,
+    exchanges: usize,
+}
+
+// What is said of a record, and what is kept after it.
+struct Step {
+    verdict: Verdict,
+    kept: Kept,
+}
+
+// The class of a record after those whose calls are kept.
+fn class_of(s: &[u8], c: Contact, starts: &[usize], ends: &[usize], m: usize) -> Class
+    requires { ⌜ (m ≤ length (now starts)) × (m ≤ length (now ends)) ⌝ }
+    ensures { λ r. ⌜ r ≡ classBy (keptTexts (now (s .entry)) (now (starts .entry)) (now (ends .entry)) m) (now (s .entry)) c ⌝ }
+{
+    if c.error {
+        return Class::Error;
+    }
+    if is_kept(s, starts, ends, m, c.call, c.callend) {
+        return Class::Duplicate;
+    }
+    if c.worth == 0 {
+        return Class::Void;
+    }
+    Class::Credited
 }
 
 fn class_number(class: Class) -> u8
@@ -171,5 +238,101 @@ fn closed(t: Totals, d: Declared) -> Totals
         exchangebonus: exchanges,
         countrybonus: countries,
         total: (t.points + squares + exchanges + countries) * multipliers,
+    }
+}
+
+// What is said of a record by what is kept. Only a credited record is looked at for what is new.
+fn verdict_of(
+    s: &[u8],
+    c: Contact,
+    kept: Kept,
+    callstarts: &[usize],
+    callends: &[usize],
+    squarestarts: &[usize],
+    squareends: &[usize],
+    exchangestarts: &[usize],
+    exchangeends: &[usize],
+) -> Verdict
+    requires { ⌜ Room kept (now callstarts) (now callends) (now squarestarts) (now squareends) (now exchangestarts) (now exchangeends) ⌝ }
+    ensures { λ r. ⌜ r ≡ verdictBy (memory (now (s .entry)) kept (now (callstarts .entry)) (now (callends .entry)) (now (squarestarts .entry)) (now (squareends .entry)) (now (exchangestarts .entry)) (now (exchangeends .entry))) (now (s .entry)) c ⌝ }
+{
+    let class = class_of(s, c, callstarts, callends, kept.calls);
+    if class_number(class) != 0 {
+        return Verdict {
+            class,
+            exchange: false,
+            square: false,
+            country: false,
+        };
+    }
+    let end = square_end(c.locator, c.locatorend);
+    Verdict {
+        class,
+        exchange: is_unseen(
+            s,
+            exchangestarts,
+            exchangeends,
+            kept.exchanges,
+            c.exchange,
+            c.exchangeend,
+        ),
+        square: is_unseen(s, squarestarts, squareends, kept.squares, c.locator, end),
+        country: c.country,
+    }
+}
+
+// One record is judged, and what is to be kept of it is kept.
+fn judge_next(
+    s: &[u8],
+    c: Contact,
+    kept: Kept,
+    callstarts: &mut [usize],
+    callends: &mut [usize],
+    squarestarts: &mut [usize],
+    squareends: &mut [usize],
+    exchangestarts: &mut [usize],
+    exchangeends: &mut [usize],
+) -> Step
+    requires { ⌜ Room kept (now callstarts) (now callends) (now squarestarts) (now squareends) (now exchangestarts) (now exchangeends) ⌝ }
+    ensures { λ r. ⌜ Steps (now (s .entry)) c kept (memory (now (s .entry)) kept (now (callstarts .entry)) (now (callends .entry)) (now (squarestarts .entry)) (now (squareends .entry)) (now (exchangestarts .entry)) (now (exchangeends .entry))) r (memory (now (s .entry)) (r .kept) (now (callstarts .exit)) (now (callends .exit)) (now (squarestarts .exit)) (now (squareends .exit)) (now (exchangestarts .exit)) (now (exchangeends .exit))) ⌝ }
+{
+    let v = verdict_of(
+        s,
+        c,
+        kept,
+        callstarts,
+        callends,
+        squarestarts,
+        squareends,
+        exchangestarts,
+        exchangeends,
+    );
+    let class = v.class;
+    let n = class_number(class);
+    let end = square_end(c.locator, c.locatorend);
+    let calls = keep(callstarts, callends, kept.calls, c.call, c.callend, 0 == n);
+    let squares = keep(
+        squarestarts,
+        squareends,
+        kept.squares,
+        c.locator,
+        end,
+        v.square,
+    );
+    let exchanges = keep(
+        exchangestarts,
+        exchangeends,
+        kept.exchanges,
+        c.exchange,
+        c.exchangeend,
+        v.exchange,
+    );
+    Step {
+        verdict: v,
+        kept: Kept {
+            calls,
+            squares,
+            exchanges,
+        },
     }
 }
