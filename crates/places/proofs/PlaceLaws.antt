@@ -1,15 +1,16 @@
 -- Laws of places: of a field by where it ends, of the fields behind one another, and of what is told of a record.
 -- Assumes nothing.
-use Prim.Native.Nat.{ℕ, zero, suc, _+_, _-_, _≤_, _<_, max}
+use Prim.Native.Nat.{ℕ, zero, suc, _+_, _-_, _≤_, _<_, max, min}
 use native.Mathlib.Omega.{arith}
 use native.Mathlib.Nat.{add-zero, add-suc}
 use native.Mathlib.Numerals.{add-one}
+use mathlib.Core.List.{List, [], _∷_}
 use mathlib.Core.Path.{_≡_, sym, ap, _∙_}
 use mathlib.Core.Bool.{Bool, false, and-true}
 use lib.Dec.{eqb}
 use lib.ListN.{length, take, drop, getD, length-drop}
 use Rattle.rules.specs.Text.{Text, allowed, span, same, numberOf}
-use Rattle.rules.specs.Fields.{errorCall, newMark}
+use Rattle.rules.specs.Fields.{Qso, errorCall, newMark}
 use Rattle.fields.specs.Field.{inField, textAt, endOf}
 use Rattle.fields.proofs.FieldLaws.{at}
 use Rattle.figures.specs.declared.NumberRead.{NumberRead}
@@ -20,7 +21,7 @@ use Rattle.header.proofs.WordLaws.{same-apart}
 use Rattle.reader.proofs.LineLaws.{span-short}
 use Rattle.reader.proofs.PartLaws.{end-by-span, end-within}
 use Rattle.places.specs.declared.Contact.{Contact}
-use Rattle.places.specs.Places.{fieldStart, valueBy, contactAt}
+use Rattle.places.specs.Places.{fieldStart, valueBy, contactAt, Holds}
 
 module _ (s : Text) where
   -- A run ends within the text, or where it begins.
@@ -133,3 +134,23 @@ module _ (s : Text) where
       (contactAt s at)
   unfolding contactAt fieldStart
   told at c ce x xe le pe n ne er nw w nx = rw (nx, w, nw, er, c, ce, x, xe, le, pe, n, ne)
+
+  -- The next record begins behind this one.
+  starts-rise : (at k : ℕ) → at ≤ fieldStart s at k
+  unfolding fieldStart
+  starts-rise at zero = omega arith
+  starts-rise at (suc k) = omega (arith, starts-rise at k, end-by-span s (fieldStart s at k))
+
+  pub next-behind : (at : ℕ) → at ≤ (contactAt s at) .next
+  unfolding contactAt
+  next-behind at = omega (arith, starts-rise at 14)
+
+  -- So where a text holds records, they begin within it, and what is told there is told of that very place.
+  pub held-within : (qs : List Qso) (at : ℕ) → Holds s at qs → at ≤ length s
+  held-within [] at h = omega arith
+  held-within (q ∷ qs) at h = omega (arith, next-behind at, held-within qs ((contactAt s at) .next) (h .1))
+
+  pub told-inside : (at : ℕ) → at ≤ length s → contactAt s (min at (length s)) ≡ contactAt s at
+  told-inside at h =
+      let n : min at (length s) ≡ at = omega arith in
+      ap (contactAt s) n

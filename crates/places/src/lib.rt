@@ -2,12 +2,16 @@
 
 ghost use mathlib.Core.Path.{_≡_};
 ghost use Prim.Native.Nat.{_+_, _≤_, min};
-ghost use lib.ListN.{length};
-ghost use Rattle.rules.specs.Text.{same, numberOf};
+ghost use lib.ListN.{length, drop};
+ghost use Rattle.rules.specs.Text.{allowed, span, same, numberOf};
+ghost use Rattle.rules.specs.Rules.{base};
 ghost use Rattle.rules.specs.Fields.{errorCall, newMark};
+ghost use Rattle.rules.specs.Arguments.{part, bonus, multiplier};
 ghost use Rattle.fields.specs.Field.{textAt, endOf};
-ghost use Rattle.places.specs.Places.{lineStart, fieldStart, valueBy, contactAt, declaredAt};
+ghost use Rattle.places.specs.Places.{lineTextAt, lineStart, fieldStart, valueBy, contactAt, declaredAt};
 use figures::NumberRead;
+use figures::bonus_of;
+use figures::multiplier_of;
 use figures::points;
 use header::same_text;
 use reader::allowed_run;
@@ -129,4 +133,100 @@ pub fn contact_at(s: &[u8], at: usize) -> Contact
         return contact_within(s, s.len());
     }
     contact_within(s, at)
+}
+
+// The place of the line behind the one that begins here, or the log's end where there is none.
+fn next_line(s: &[u8], at: usize) -> usize
+    ensures { λ r. ⌜ r ≡ min (at + span allowed (drop at (now (s .entry))) + 2) (length (now (s .entry))) ⌝ }
+{
+    let end = allowed_run(s, at);
+    if s.len() <= end {
+        return s.len();
+    }
+    if s.len() - end <= 2 {
+        return s.len();
+    }
+    end + 2
+}
+
+// The place of the line behind so many lines, or the log's end where there are not so many.
+pub fn line_start(s: &[u8], i: usize) -> usize
+    ensures { λ r. ⌜ r ≡ min (lineStart (now (s .entry)) i) (length (now (s .entry))) ⌝ }
+{
+    let mut at = 0;
+    let mut k = 0;
+    while k < i {
+        if at == s.len() {
+            return at;
+        }
+        at = next_line(s, at);
+        k += 1;
+    }
+    at
+}
+
+// The bonus and the multiplier of one of the three arguments that have them.
+struct Rates {
+    bonus: u64,
+    multiplier: u64,
+}
+
+fn bonus_at(line: &[u8], at: usize) -> u64
+    ensures { λ r. ⌜ r ≡ valueBy (bonus base) (textAt (now (line .entry)) at) ⌝ }
+{
+    let NumberRead::Number(value, _) = bonus_of(line, at) else {
+        return 0;
+    };
+    value
+}
+
+fn multiplier_at(line: &[u8], at: usize) -> u64
+    ensures { λ r. ⌜ r ≡ valueBy (multiplier base) (textAt (now (line .entry)) at) ⌝ }
+{
+    let NumberRead::Number(value, _) = multiplier_of(line, at) else {
+        return 0;
+    };
+    value
+}
+
+// The argument begins behind the six characters of its keyword and `=`; its first part, a count, is passed over.
+fn rates_of(line: &[u8]) -> Rates
+    ensures bonus { λ r. ⌜ r .bonus ≡ valueBy (bonus base) (part 1 (drop 6 (now (line .entry)))) ⌝ }
+    ensures multiplier { λ r. ⌜ r .multiplier ≡ valueBy (multiplier base) (part 2 (drop 6 (now (line .entry)))) ⌝ }
+{
+    let second = field_end(line, 6) + 1;
+    let third = field_end(line, second) + 1;
+    Rates {
+        bonus: bonus_at(line, second),
+        multiplier: multiplier_at(line, third),
+    }
+}
+
+fn rates_at(s: &[u8], at: usize) -> Rates
+    requires { ⌜ at ≤ length (now s) ⌝ }
+    ensures bonus { λ r. ⌜ r .bonus ≡ valueBy (bonus base) (part 1 (drop 6 (lineTextAt (now (s .entry)) at))) ⌝ }
+    ensures multiplier { λ r. ⌜ r .multiplier ≡ valueBy (multiplier base) (part 2 (drop 6 (lineTextAt (now (s .entry)) at))) ⌝ }
+{
+    let end = allowed_run(s, at);
+    rates_of(&s[at..end])
+}
+
+// The bonuses and multipliers of CWWLs, CExcs and CDXCs, which stand two lines apart: the lines are walked once.
+pub fn declared_at(s: &[u8]) -> Declared
+    ensures { λ r. ⌜ r ≡ declaredAt (now (s .entry)) ⌝ }
+{
+    let squares = line_start(s, 29);
+    let exchanges = next_line(s, next_line(s, squares));
+    let countries = next_line(s, next_line(s, exchanges));
+    let forsquares = rates_at(s, squares);
+    let forexchanges = rates_at(s, exchanges);
+    let forcountries = rates_at(s, countries);
+    Declared {
+        squarebonus: forsquares.bonus,
+        squaremultiplier: forsquares.multiplier,
+        exchangebonus: forexchanges.bonus,
+        exchangemultiplier: forexchanges.multiplier,
+        countrybonus: forcountries.bonus,
+        countrymultiplier: forcountries.multiplier,
+    }
 }

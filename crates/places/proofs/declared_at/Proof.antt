@@ -1,0 +1,54 @@
+use mathlib.Core.Path.{_∙_}
+use denote.Ref.{now}
+use Rattle.places.proofs.LineStarts.{line-on, declared-told}
+use borrow.Author.Needs.{needs}
+use Rattle.places.proofs.declared_at.Statement.{statement}
+use Rattle.places.proofs.declared_at.Tie as tie
+
+line-start-requires : tie.Need-line-start-requires
+line-start-requires c κs = search needs
+
+next-line-requires : tie.Need-next-line-requires
+next-line-requires c κs = search needs
+
+next-line-requires-2 : tie.Need-next-line-requires-2
+next-line-requires-2 c κs = search needs
+
+next-line-requires-3 : tie.Need-next-line-requires-3
+next-line-requires-3 c κs = search needs
+
+next-line-requires-4 : tie.Need-next-line-requires-4
+next-line-requires-4 c κs = search needs
+
+rates-at-requires : tie.Need-rates-at-requires
+rates-at-requires c κs = search needs
+
+rates-at-requires-2 : tie.Need-rates-at-requires-2
+rates-at-requires-2 c κs = search needs
+
+rates-at-requires-3 : tie.Need-rates-at-requires-3
+rates-at-requires-3 c κs = search needs
+
+returns : tie.Need-returns
+returns c =
+    let s = now (c .before .before .before .before .before .before .before .before .before .args .s) in
+    let squares = c .before .before .before .before .before .before .before .line-start .ensures in
+    let between = c .before .before .before .before .before .before .next-line .ensures ∙ line-on s 29 squares in
+    let exchanges = c .before .before .before .before .before .next-line2 .ensures ∙ line-on s 30 between in
+    let behind = c .before .before .before .before .next-line3 .ensures ∙ line-on s 31 exchanges in
+    let countries = c .before .before .before .next-line4 .ensures ∙ line-on s 32 behind in
+    declared-told s squares exchanges countries (c .before .before .rates-at .ensures) (c .before .rates-at2 .ensures) (c .rates-at3 .ensures)
+
+pub declared-at-spec : {M : Type 1} → statement M
+declared-at-spec =
+    tie.close
+    (tie.spec
+    line-start-requires
+    next-line-requires
+    next-line-requires-2
+    next-line-requires-3
+    next-line-requires-4
+    rates-at-requires
+    rates-at-requires-2
+    rates-at-requires-3
+    returns)
