@@ -1,3 +1,5 @@
 pub mod PartLaws
 pub mod MemoryLaws
+pub mod RememberLaws
 pub mod CountLaws
+pub mod WeighLaws

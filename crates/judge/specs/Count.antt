@@ -10,6 +10,7 @@ use Rattle.rules.specs.declared.Totals.{Totals}
 use Rattle.rules.specs.Text.{value}
 use Rattle.rules.specs.Fields.{Qso}
 use Rattle.rules.specs.Judging.{is}
+use Rattle.rules.specs.Judging.{Declared as DeclaredRates}
 use Rattle.places.specs.declared.Declared.{Declared}
 
 -- What a test adds, if it holds.
@@ -60,6 +61,18 @@ closing t d =
       total =
           (t .points + t .squares * d .squarebonus + t .exchanges * d .exchangebonus + t .countries * d .countrybonus)
           * (d .squaremultiplier * d .exchangemultiplier * d .countrymultiplier);
+    }
+
+-- What a log declares, in the words of document 01's definitions.
+unfoldable pub asDeclared : Declared → DeclaredRates
+asDeclared d =
+    record {
+      squareBonus = d .squarebonus;
+      squareMultiplier = d .squaremultiplier;
+      exchangeBonus = d .exchangebonus;
+      exchangeMultiplier = d .exchangemultiplier;
+      countryBonus = d .countrybonus;
+      countryMultiplier = d .countrymultiplier;
     }
 
 -- # What keeps the sums small

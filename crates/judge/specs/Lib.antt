@@ -2,3 +2,4 @@
 pub mod Parts
 pub mod Memory
 pub mod Count
+pub mod Weigh

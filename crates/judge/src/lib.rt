@@ -5,11 +5,12 @@ ghost use mathlib.Core.Path.{_≡_};
 ghost use Prim.Native.Nat.{_+_, _*_, _<_, _≤_};
 ghost use lib.ListN.{length};
 ghost use Rattle.rules.specs.Text.{same, empty};
-ghost use Rattle.rules.specs.Judging.{classNumber, verdictNumber};
+ghost use Rattle.rules.specs.Judging.{classNumber, verdictNumber, zeroTotals};
 ghost use Rattle.places.specs.Places.{between};
 ghost use Rattle.rules.specs.Arguments.{among};
 ghost use Rattle.judge.specs.Parts.{squareEnd, seek, keptTexts};
 ghost use Rattle.judge.specs.Memory.{unseen, classBy, verdictBy, memory, Room, Keeps, Steps};
+ghost use Rattle.judge.specs.Weigh.{Weighable, Weighs};
 ghost use Rattle.judge.specs.Count.{worthIf, addRecord, closing, Countable, Closable};
 use places::Contact;
 use places::Declared;
@@ -335,4 +336,66 @@ fn judge_next(
             exchanges,
         },
     }
+}
+
+fn no_totals() -> Totals
+    ensures { λ r. ⌜ r ≡ zeroTotals ⌝ }
+{
+    Totals {
+        credited: 0,
+        voids: 0,
+        duplicates: 0,
+        errors: 0,
+        points: 0,
+        squares: 0,
+        exchanges: 0,
+        countries: 0,
+        squarebonus: 0,
+        exchangebonus: 0,
+        countrybonus: 0,
+        total: 0,
+    }
+}
+
+// The n records from a place on are judged, each in one step, and their verdicts written. Of the credited ones only places are kept, so that no
+// record is read twice.
+fn weigh_records(log: &[u8], first: usize, n: usize, verdicts: &mut [u8]) -> Totals
+    requires { ⌜ Weighable (now log) first n (now verdicts) ⌝ }
+    ensures { λ r. ⌜ Weighs (now (log .entry)) (now (verdicts .entry)) r (now (verdicts .exit)) ⌝ }
+{
+    let mut callstarts = [0usize; 999];
+    let mut callends = [0usize; 999];
+    let mut squarestarts = [0usize; 999];
+    let mut squareends = [0usize; 999];
+    let mut exchangestarts = [0usize; 999];
+    let mut exchangeends = [0usize; 999];
+    let mut kept = Kept {
+        calls: 0,
+        squares: 0,
+        exchanges: 0,
+    };
+    let mut totals = no_totals();
+    let mut at = first;
+    let mut i = 0;
+    while i < n {
+        let c = places::contact_at(log, at);
+        let step = judge_next(
+            log,
+            c,
+            kept,
+            &mut callstarts,
+            &mut callends,
+            &mut squarestarts,
+            &mut squareends,
+            &mut exchangestarts,
+            &mut exchangeends,
+        );
+        let v = step.verdict;
+        kept = step.kept;
+        totals = counted(totals, c.worth, v);
+        verdicts[i] = verdict_number(v);
+        at = c.next;
+        i += 1;
+    }
+    totals
 }
