@@ -5,11 +5,11 @@ use native.Mathlib.Omega.{arith}
 use native.Mathlib.Numerals.{add-one}
 use mathlib.Core.Path.{_≡_, refl, sym, ap, _∙_}
 use mathlib.Core.Bool.{Bool, true, false, cond, not, _&&_, true≢false}
-use mathlib.Core.List.{List, [], _∷_}
+use mathlib.Core.List.{[], _∷_}
 use lib.Dec.{leb, eqb}
 use lib.ListN.{length, take, drop, getD, drop-of-length-le}
 use lib.Seq.{drop-cons, drop-drop}
-use borrow.Author.Tests.{le-leb, lt-leb, eqb-true}
+use borrow.Author.Tests.{le-leb, lt-leb, eqb-true, not-true, not-false}
 use Rattle.rules.specs.Text.{Text, span, all, empty}
 use Rattle.fields.specs.Field.{inField, textAt, endsAt, endOf}
 
@@ -20,22 +20,29 @@ range-below least most b h = rw (lt-leb least b h)
 pub range-from : (least most b : ℕ) → least ≤ b → leb b most ≡ (leb least b && leb b most)
 range-from least most b h = rw (le-leb least b h)
 
-pub at : (s : Text) (i : ℕ) → i < length s → drop i s ≡ getD s i 0 ∷ drop (i + 1) s
-at s i h = rw (add-one, drop-cons s i 0)
+pub next : (s : Text) (i : ℕ) → i < length s → drop i s ≡ getD s i 0 ∷ drop (i + 1) s
+next s i h = rw (add-one, drop-cons s i 0)
 
--- The end of a run, by one character more, and where it stops.
-module _ (f : ℕ → Bool) (s : Text) (i : ℕ) where
-  pub run-more : i < length s → f (getD s i 0) ≡ true → i + span f (drop i s) ≡ i + 1 + span f (drop (i + 1) s)
-  unfolding span
-  run-more h e = rw (at s i h, e) (omega arith)
+-- A loop over a run: the run from the first place on ends where the run from the present place on does.
+pub record Within (f : ℕ → Bool) (s : Text) (at i : ℕ) : Type 0 where
+  pub ending : at + span f (drop at s) ≡ i + span f (drop i s)
 
-  pub run-stops : i < length s → f (getD s i 0) ≡ false → i ≡ i + span f (drop i s)
-  unfolding span
-  run-stops h e = rw (at s i h, e) (omega arith)
+pub run-starts : (f : ℕ → Bool) (s : Text) (at : ℕ) → Within f s at at
+run-starts f s at = record { ending = refl }
 
-  pub run-ends : length s ≤ i → i ≡ i + span f (drop i s)
+module _ {f : ℕ → Bool} {s : Text} {at i : ℕ} (r : Within f s at i) where
+  pub run-ends : length s ≤ i → i ≡ at + span f (drop at s)
   unfolding span
-  run-ends h = rw (drop-of-length-le s h) (omega arith)
+  run-ends h = rw (r .ending, drop-of-length-le s h) (omega arith)
+
+  module _ (h : i < length s) {b : Bool} (l : b ≡ f (getD s i 0)) where
+    pub run-more : not b ≡ false → Within f s at (i + 1)
+    unfolding span
+    run-more e = record { ending = r .ending ∙ rw (next s i h, sym l ∙ not-false b e) (omega arith) }
+
+    pub run-stops : not b ≡ true → i ≡ at + span f (drop at s)
+    unfolding span
+    run-stops e = rw (r .ending, next s i h, sym l ∙ not-true b e) (omega arith)
 
 -- A field ends at the end of the line, and at a semicolon.
 pub ends-with-line : (s : Text) (i : ℕ) → length s ≤ i → true ≡ endsAt s i
@@ -44,7 +51,7 @@ ends-with-line s i h = rw (drop-of-length-le s h)
 
 pub ends-at-semicolon : (s : Text) (i : ℕ) → i < length s → eqb (getD s i 0) 59 ≡ endsAt s i
 unfolding endsAt textAt span
-ends-at-semicolon s i h = rw (at s i h) (by (eqb (getD s i 0) 59))
+ends-at-semicolon s i h = rw (next s i h) (by (eqb (getD s i 0) 59))
   where
     by : (b : Bool) → b ≡ empty (take (cond (not b) (suc (span inField (drop (i + 1) s))) 0) (getD s i 0 ∷ drop (i + 1) s))
     by true = refl

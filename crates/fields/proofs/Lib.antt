@@ -1,1 +1,4 @@
 pub mod FieldLaws
+pub mod RunLaws
+pub mod ShapeLaws
+pub mod Picked

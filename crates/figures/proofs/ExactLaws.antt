@@ -1,6 +1,6 @@
 -- Fields of a known length.
 -- Assumes nothing.
-use Prim.Native.Nat.{ℕ, zero, suc, _+_, _-_, _≤_, _<_}
+use Prim.Native.Nat.{ℕ, zero, suc, _+_, _≤_, _<_}
 use native.Mathlib.Omega.{arith}
 use mathlib.Core.Path.{_≡_, refl, sym, ap, _∙_}
 use mathlib.Core.Bool.{Bool, true, false, _&&_}
@@ -10,9 +10,10 @@ use lib.ListN.{length, take, drop, getD}
 use lib.Seq.{drop-drop}
 use Rattle.rules.specs.Text.{Text, digit, span, all, empty}
 use Rattle.fields.specs.Field.{inField, textAt, endsAt}
-use Rattle.fields.proofs.FieldLaws.{at as at-place}
+use Rattle.fields.proofs.FieldLaws.{next as at-place}
 use Rattle.figures.specs.Figure.{digitsWithin}
-use Rattle.figures.proofs.NumberLaws.{both-first, both-second, field, span-length, whole}
+use Rattle.figures.proofs.Choices.{both-first, both-second}
+use Rattle.figures.proofs.NumberLaws.{field, span-length, whole}
 
 -- A field ends behind its text.
 field-ends : (s : Text) → empty (field (drop (span inField s) s)) ≡ true

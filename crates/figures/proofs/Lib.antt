@@ -1,5 +1,9 @@
+-- Laws, from those of choices to those that callers go by.
+pub mod Choices
 pub mod NumberLaws
-pub mod Picked
-pub mod BoundLaws
 pub mod ExactLaws
 pub mod TimeLaws
+pub mod CalendarLaws
+pub mod DateLaws
+pub mod Picked
+pub mod BoundLaws

@@ -12,20 +12,12 @@ use lib.Seq.{drop-drop, getD-drop}
 use borrow.Author.Tests.{leb-true, leb-false, le-leb, lt-leb, eqb-true, eqb-false, ne-eqb, not-true}
 use Rattle.rules.specs.Text.{Text, bytes, digit, span, all, same, begins, empty, value, valueAfter, number, numberOf}
 use Rattle.fields.specs.Field.{inField, textAt, endsAt, endOf}
-use Rattle.fields.proofs.FieldLaws.{at as at-place}
+use Rattle.fields.proofs.FieldLaws.{next as at-place}
 use Rattle.figures.specs.declared.DigitsRead.{DigitsRead}
 use Rattle.figures.specs.declared.NumberRead.{NumberRead}
 use Rattle.figures.specs.declared.NumberRead.the-variants as NumberRead
 use Rattle.figures.specs.Figure.{digitsWithin, digitsFrom, digitsAt, numberAt}
-
--- Both sides of a conjunction.
-pub both-first : (a b : Bool) → (a && b) ≡ true → a ≡ true
-both-first true b e = refl
-both-first false b e = absurd (true≢false (sym e))
-
-pub both-second : (a b : Bool) → (a && b) ≡ true → b ≡ true
-both-second true b e = e
-both-second false b e = absurd (true≢false (sym e))
+use Rattle.figures.proofs.Choices.{both-first, both-second}
 
 pub digit-least : (b : ℕ) → digit b ≡ true → 48 ≤ b
 digit-least b e = leb-true 48 b (both-first (leb 48 b) (leb b 57) e)

@@ -2,26 +2,29 @@
 -- Assumes nothing.
 use Prim.Native.Nat.{ℕ, _^_, _≤_, _<_}
 use native.Mathlib.Omega.{arith}
-use mathlib.Core.Path.{_≡_, refl, sym}
-use mathlib.Core.Bool.{Bool, true, false, cond}
+use mathlib.Core.Path.{_≡_, sym, ap}
+use mathlib.Core.Bool.{Bool, true, false, cond, _&&_}
 use lib.Dec.{leb}
 use lib.ListN.{length}
 use borrow.Author.Tests.{leb-true}
-use Rattle.rules.specs.Text.{Text, value, number, numberOf}
+use Rattle.rules.specs.Text.{Text, empty, value, number, numberOf, numberFrom}
+use Rattle.rules.specs.Rules.{base}
+use Rattle.rules.specs.Fields.{shortDate, longDate, timeOfDay}
+use Rattle.rules.specs.Arguments.{count, bonus, multiplier}
 use Rattle.fields.specs.Field.{textAt, endOf}
+use Rattle.figures.specs.declared.TimeOfDay.{TimeOfDay}
+use Rattle.figures.specs.declared.DateRead.{DateRead}
+use Rattle.figures.specs.declared.DateRead.the-variants as DateRead
+use Rattle.figures.specs.declared.LongDateRead.{LongDateRead}
+use Rattle.figures.specs.declared.LongDateRead.the-variants as LongDateRead
+use Rattle.figures.specs.declared.TimeRead.{TimeRead}
+use Rattle.figures.specs.declared.TimeRead.the-variants as TimeRead
 use Rattle.figures.specs.declared.NumberRead.{NumberRead}
 use Rattle.figures.specs.declared.NumberRead.the-variants as NumberRead
-use Rattle.figures.specs.Figure.{numberAt}
-use Rattle.figures.proofs.NumberLaws.{both-first, both-second, number-digits, value-below, below-power}
-
--- One of two answers that differ: which test gave it.
-pub picked : {A : Type 0} (b : Bool) {x y z : A} → cond b x z ≡ y → (z ≡ y → ⊥) → (b ≡ true) × (x ≡ y)
-picked true e n = (refl, e)
-picked false e n = absurd (n e)
-
-pub passed : {A : Type 0} (b : Bool) {x y z : A} → cond b x z ≡ y → (x ≡ y → ⊥) → (b ≡ false) × (z ≡ y)
-passed true e n = absurd (n e)
-passed false e n = (refl, e)
+use Rattle.figures.specs.Figure.{numberAt, dateAt, longDateAt, timeAt, minutesOf}
+use Rattle.figures.proofs.Choices.{both-first, both-second, picked, passed}
+use Rattle.figures.proofs.TimeLaws.{time-last, minutes-last}
+use Rattle.figures.proofs.NumberLaws.{number-digits, value-below, below-power}
 
 no-number : {v e : ℕ} → NumberRead.Bad ≡ NumberRead.Number v e → ⊥
 no-number p = let z : _≡_ {A = ℕ} 0 1 = cc in omega arith
@@ -46,3 +49,99 @@ number-below most s at p =
     let n : number (textAt s at) ≡ true = both-first (number (textAt s at)) (leb (length (textAt s at)) most) (q .0) in
     let l : length (textAt s at) ≤ most = leb-true (length (textAt s at)) most (both-second (number (textAt s at)) (leb (length (textAt s at)) most) (q .0)) in
     omega (arith, q .1, below-power (length (textAt s at)) most l (value-below (textAt s at) (number-digits (textAt s at) n)))
+
+-- A number from a least to a most is between them.
+pub number-between : (least most : ℕ) (s : Text) (at : ℕ) {v e : ℕ} → numberAt (numberFrom least most) s at ≡ NumberRead.Number v e
+    → (least ≤ v) × (v ≤ most)
+unfolding numberFrom
+number-between least most s at p =
+    let t = textAt s at in
+    let q = number-picked (numberFrom least most) s at p in
+    let n : (number t && leb least (value t)) ≡ true = both-first (number t && leb least (value t)) (leb (value t) most) (q .0) in
+    let l : least ≤ value t = leb-true least (value t) (both-second (number t) (leb least (value t)) n) in
+    let m : value t ≤ most = leb-true (value t) most (both-second (number t && leb least (value t)) (leb (value t) most) (q .0)) in
+    (omega (arith, q .1), omega (arith, q .1))
+
+module _ (s : Text) (at : ℕ) {v e : ℕ} where
+  pub count-below : numberAt (count base) s at ≡ NumberRead.Number v e → v ≤ 9999
+  unfolding count base
+  count-below p = number-between 0 9999 s at p .1
+
+  pub bonus-below : numberAt (bonus base) s at ≡ NumberRead.Number v e → v ≤ 9999
+  unfolding bonus base
+  bonus-below p = number-between 0 9999 s at p .1
+
+  pub multiplier-between : numberAt (multiplier base) s at ≡ NumberRead.Number v e → (1 ≤ v) × (v ≤ 99)
+  unfolding multiplier base
+  multiplier-between p = number-between 1 99 s at p
+
+no-date : {e : ℕ} → DateRead.Bad ≡ DateRead.Date e → ⊥
+no-date p = let z : _≡_ {A = ℕ} 0 1 = cc in omega arith
+
+empty-no-date : {e : ℕ} → DateRead.Empty ≡ DateRead.Date e → ⊥
+empty-no-date p = let z : _≡_ {A = ℕ} 0 1 = cc in omega arith
+
+bad-not-empty : DateRead.Bad ≡ DateRead.Empty → ⊥
+bad-not-empty p = let z : _≡_ {A = ℕ} 0 1 = cc in omega arith
+
+neither : {e : ℕ} (b : Bool) → cond b DateRead.Empty DateRead.Bad ≡ DateRead.Date e → ⊥
+neither true p = empty-no-date p
+neither false p = no-date p
+
+module _ (s : Text) (at : ℕ) where
+  pub date-picked : {e : ℕ} → dateAt s at ≡ DateRead.Date e → (shortDate (textAt s at) ≡ true) × (e ≡ endOf s at)
+  unfolding dateAt
+  date-picked {e} p =
+      let q : (shortDate (textAt s at) ≡ true) × (DateRead.Date (endOf s at) ≡ DateRead.Date e) = picked (shortDate (textAt s at)) p (neither (empty (textAt s at))) in
+      (q .0, cc)
+
+  pub date-is-empty : dateAt s at ≡ DateRead.Empty → (shortDate (textAt s at) ≡ false) × (empty (textAt s at) ≡ true)
+  unfolding dateAt
+  date-is-empty p =
+      let q = passed (shortDate (textAt s at)) p (λ r. empty-no-date (sym r)) in
+      (q .0, picked (empty (textAt s at)) (q .1) bad-not-empty .0)
+
+  pub date-refused : dateAt s at ≡ DateRead.Bad → (shortDate (textAt s at) ≡ false) × (empty (textAt s at) ≡ false)
+  unfolding dateAt
+  date-refused p =
+      let q = passed (shortDate (textAt s at)) p (λ r. no-date (sym r)) in
+      (q .0, passed (empty (textAt s at)) (q .1) (λ r. bad-not-empty (sym r)) .0)
+
+no-long-date : {v e : ℕ} → LongDateRead.Bad ≡ LongDateRead.Date v e → ⊥
+no-long-date p = let z : _≡_ {A = ℕ} 0 1 = cc in omega arith
+
+module _ (s : Text) (at : ℕ) where
+  pub long-date-picked : {v e : ℕ} → longDateAt s at ≡ LongDateRead.Date v e
+      → (longDate (textAt s at) ≡ true) × (v ≡ value (textAt s at)) × (e ≡ endOf s at)
+  unfolding longDateAt
+  long-date-picked {v} {e} p =
+      let q : (longDate (textAt s at) ≡ true) × (LongDateRead.Date (value (textAt s at)) (endOf s at) ≡ LongDateRead.Date v e) = picked (longDate (textAt s at)) p no-long-date in
+      (q .0, cc, cc)
+
+  pub long-date-refused : longDateAt s at ≡ LongDateRead.Bad → longDate (textAt s at) ≡ false
+  unfolding longDateAt
+  long-date-refused p = passed (longDate (textAt s at)) p (λ q. no-long-date (sym q)) .0
+
+no-time : {t : TimeOfDay} {e : ℕ} → TimeRead.Bad ≡ TimeRead.Time t e → ⊥
+no-time p = let z : _≡_ {A = ℕ} 0 1 = cc in omega arith
+
+module _ (s : Text) (at : ℕ) where
+  pub time-picked : {t : TimeOfDay} {e : ℕ} → timeAt s at ≡ TimeRead.Time t e
+      → (timeOfDay (textAt s at) ≡ true) × (t .digits ≡ value (textAt s at)) × (e ≡ endOf s at)
+  unfolding timeAt
+  time-picked {t} {e} p =
+      let q : (timeOfDay (textAt s at) ≡ true) × (TimeRead.Time (record { digits = value (textAt s at) }) (endOf s at) ≡ TimeRead.Time t e) = picked (timeOfDay (textAt s at)) p no-time in
+      let r : record { digits = value (textAt s at) } ≡ t = cc in
+      (q .0, ap (λ (t : TimeOfDay). t .digits) (sym r), cc)
+
+  pub time-refused : timeAt s at ≡ TimeRead.Bad → timeOfDay (textAt s at) ≡ false
+  unfolding timeAt
+  time-refused p = passed (timeOfDay (textAt s at)) p (λ q. no-time (sym q)) .0
+
+  -- No time is later than the last.
+  pub time-within : {t : TimeOfDay} {e : ℕ} → timeAt s at ≡ TimeRead.Time t e → t .digits ≤ 2359
+  time-within p = omega (arith, time-picked p .1, time-last (textAt s at) (time-picked p .0))
+
+  pub minutes-within : {t : TimeOfDay} {e : ℕ} → timeAt s at ≡ TimeRead.Time t e → minutesOf t ≤ 1439
+  unfolding minutesOf
+  minutes-within p = omega (arith, time-picked p .1, minutes-last (textAt s at) (time-picked p .0))

@@ -1,6 +1,6 @@
 -- Laws of times of day.
 -- Assumes nothing.
-use Prim.Native.Nat.{ℕ, _+_, _*_, _-_, _≤_, _<_}
+use Prim.Native.Nat.{ℕ, _+_, _*_, _-_, _/_, _%_, _≤_, _<_}
 use native.Mathlib.Omega.{arith}
 use mathlib.Core.Path.{_≡_, refl, sym, ap, _∙_}
 use mathlib.Core.Bool.{Bool, true, false, not, _&&_, true≢false}
@@ -17,9 +17,9 @@ use Rattle.figures.specs.declared.TimeMade.the-variants as TimeMade
 use Rattle.figures.specs.declared.TimeRead.{TimeRead}
 use Rattle.figures.specs.declared.TimeRead.the-variants as TimeRead
 use Rattle.figures.specs.Figure.{timeMade, timeAt}
-use Rattle.figures.proofs.NumberLaws.{value-split, both-first, both-second, text-within, end-is-length}
+use Rattle.figures.proofs.Choices.{both-first, both-second, passed, picked}
+use Rattle.figures.proofs.NumberLaws.{value-split, text-within, end-is-length}
 use Rattle.figures.proofs.ExactLaws.{exact-text, exact-ends, digits-exact, four-characters}
-use Rattle.figures.proofs.Picked.{picked, passed}
 
 -- The number that two digits write.
 pub two-digits : (a b : ℕ) → 10 * (a - 48) + (b - 48) ≡ value (a ∷ b ∷ [])
@@ -89,17 +89,31 @@ time-long : (t : Text) → (length t ≡ 4 → ⊥) → timeOfDay t ≡ false
 unfolding timeOfDay
 time-long t h = rw (ne-eqb (length t) 4 h)
 
--- The last time of a day is 2359.
-pub time-last : (t : Text) → timeOfDay t ≡ true → value t ≤ 2359
+-- The hours and the minutes of a time, in the number that it writes; so the last time of a day is 2359, 1439 minutes from the first.
+time-parts : (t : Text) → timeOfDay t ≡ true
+    → (value t ≡ value (take 2 t) * 100 + value (drop 2 t)) × (value (take 2 t) ≤ 23) × (value (drop 2 t) ≤ 59)
 unfolding timeOfDay
-time-last t h =
-    let four : length t ≡ 4 = eqb-true (length t) 4 (both-first (eqb (length t) 4) (all digit t) (both-first (eqb (length t) 4 && all digit t) (leb (value (take 2 t)) 23) hours)) in
-    let two : length (drop 2 t) ≡ 2 = omega (arith, length-drop 2 t) in
-    let whole : value t ≡ value (take 2 t) * 100 + value (drop 2 t) = rw two at (value-split 2 t) in
-    omega (arith, leb-true (value (take 2 t)) 23 (both-second (eqb (length t) 4 && all digit t) (leb (value (take 2 t)) 23) hours), leb-true (value (drop 2 t)) 59 (both-second (eqb (length t) 4 && all digit t && leb (value (take 2 t)) 23) (leb (value (drop 2 t)) 59) h))
-  where
-    hours : (eqb (length t) 4 && all digit t && leb (value (take 2 t)) 23) ≡ true
-    hours = both-first (eqb (length t) 4 && all digit t && leb (value (take 2 t)) 23) (leb (value (drop 2 t)) 59) h
+time-parts t h =
+    let long = eqb (length t) 4 in
+    let hours = leb (value (take 2 t)) 23 in
+    let minutes = leb (value (drop 2 t)) 59 in
+    let before : (long && all digit t && hours) ≡ true = both-first (long && all digit t && hours) minutes h in
+    let four : length t ≡ 4 = eqb-true (length t) 4 (both-first long (all digit t) (both-first (long && all digit t) hours before)) in
+    let two : length (drop 2 t) ≡ 2 = omega (arith, length-drop 2 t) in (
+      rw two at (value-split 2 t),
+      leb-true (value (take 2 t)) 23 (both-second (long && all digit t) hours before),
+      leb-true (value (drop 2 t)) 59 (both-second (long && all digit t && hours) minutes h),
+    )
+
+pub time-last : (t : Text) → timeOfDay t ≡ true → value t ≤ 2359
+time-last t h = omega (arith, time-parts t h)
+
+pub minutes-last : (t : Text) → timeOfDay t ≡ true → 60 * (value t / 100) + value t % 100 ≤ 1439
+minutes-last t h = omega (arith, time-parts t h)
+
+pub made-within : (a b c d : ℕ) {t : TimeOfDay} → timeMade a b c d ≡ TimeMade.Time t → t .digits ≤ 2359
+made-within a b c d p =
+    omega (arith, made-picked a b c d p .1, time-last (a ∷ b ∷ c ∷ d ∷ []) (made-picked a b c d p .0))
 
 time-digits : (t : Text) → timeOfDay t ≡ true → all digit t ≡ true
 unfolding timeOfDay

@@ -2,7 +2,7 @@
 // says, or that it is bad. A byte is looked at once, and once more only where a number begins or ends; none is copied.
 
 ghost use mathlib.Core.Path.{_≡_};
-ghost use Prim.Native.Nat.{_+_, _*_, _≤_, _<_};
+ghost use Prim.Native.Nat.{_≤_, _<_};
 ghost use mathlib.Core.Bool.{true};
 ghost use mathlib.Core.List.{[], _∷_};
 ghost use Rattle.rules.specs.Text.{digit, value, numberOf, numberFrom};
@@ -132,6 +132,7 @@ fn number(s: &[u8], at: usize, most: usize) -> NumberRead
     if s[at] != 48 {
         return NumberRead::Number(value, end);
     }
+    // a zero leads no number but itself
     if end - at != 1 {
         return NumberRead::Bad;
     }
@@ -214,6 +215,7 @@ fn two_digits(a: u8, b: u8) -> u32
 pub fn time(s: &[u8], at: usize) -> TimeRead
     ensures { λ r. ⌜ r ≡ timeAt (now (s .entry)) at ⌝ }
 {
+    // taken from the length, since no sum with `at` need fit
     if s.len() < 4 {
         return TimeRead::Bad;
     }
@@ -227,4 +229,114 @@ pub fn time(s: &[u8], at: usize) -> TimeRead
         return TimeRead::Bad;
     };
     TimeRead::Time(t, at + 4)
+}
+
+// The days of each month, but for the leap day.
+const MONTHS: [u8; 12] = [31, 28, 31, 30, 31, 30, 31, 31, 30, 31, 30, 31];
+
+fn is_leap(year: u32) -> bool
+    ensures { λ r. ⌜ r ≡ leap year ⌝ }
+{
+    if year % 400 == 0 {
+        return true;
+    }
+    if year % 100 == 0 {
+        return false;
+    }
+    year % 4 == 0
+}
+
+// The days of a month. There is no month 0: as in the definition, it counts as the first.
+pub fn month_length(year: u32, month: u32) -> u32
+    ensures { λ r. ⌜ r ≡ monthLength year month ⌝ }
+{
+    if 12 < month {
+        return 0;
+    }
+    if month == 0 {
+        return MONTHS[0] as u32;
+    }
+    let i = (month - 1) as usize;
+    let days = MONTHS[i] as u32;
+    if month != 2 {
+        return days;
+    }
+    if !is_leap(year) {
+        return days;
+    }
+    days + 1
+}
+
+pub fn day_exists(year: u32, month: u32, day: u32) -> bool
+    ensures { λ r. ⌜ r ≡ dayExists year month day ⌝ }
+{
+    if month < 1 {
+        return false;
+    }
+    if 12 < month {
+        return false;
+    }
+    if day < 1 {
+        return false;
+    }
+    day <= month_length(year, month)
+}
+
+// Of a year's last two digits: 90 to 99 are the 1990s, and the rest the 2000s.
+fn full_year(yy: u32) -> u32
+    requires { ⌜ yy < 100 ⌝ }
+    ensures { λ r. ⌜ r ≡ fullYear yy ⌝ }
+{
+    if 90 <= yy {
+        return 1900 + yy;
+    }
+    2000 + yy
+}
+
+// An empty date is told apart, since a record of the call `ERROR` may have one.
+pub fn date(s: &[u8], at: usize) -> DateRead
+    ensures { λ r. ⌜ r ≡ dateAt (now (s .entry)) at ⌝ }
+{
+    let run = read_digits(s, at, 6);
+    let end = run.end;
+    if !ends(s, end) {
+        return DateRead::Bad;
+    }
+    if end == at {
+        return DateRead::Empty;
+    }
+    if end - at != 6 {
+        return DateRead::Bad;
+    }
+    let value = run.value as u32;
+    if !day_exists(full_year(value / 10000), value / 100 % 100, value % 100) {
+        return DateRead::Bad;
+    }
+    DateRead::Date(end)
+}
+
+// The years run from 1990 to 2089, so that a long date's last six digits are a short one.
+pub fn long_date(s: &[u8], at: usize) -> LongDateRead
+    ensures { λ r. ⌜ r ≡ longDateAt (now (s .entry)) at ⌝ }
+{
+    let run = read_digits(s, at, 8);
+    let end = run.end;
+    if !ends(s, end) {
+        return LongDateRead::Bad;
+    }
+    if end - at != 8 {
+        return LongDateRead::Bad;
+    }
+    let value = run.value as u32;
+    let year = value / 10000;
+    if year < 1990 {
+        return LongDateRead::Bad;
+    }
+    if 2089 < year {
+        return LongDateRead::Bad;
+    }
+    if !day_exists(year, value / 100 % 100, value % 100) {
+        return LongDateRead::Bad;
+    }
+    LongDateRead::Date(value, end)
 }

@@ -12,6 +12,7 @@ use lib.Seq.{drop-cons}
 use Rattle.rules.specs.Text.{Text, bytes, same}
 use Rattle.rules.specs.Rules.{base, bandNames}
 use Rattle.rules.specs.Arguments.{among, meets, aBand}
+use Rattle.figures.proofs.Choices.{picked, passed}
 use Rattle.header.specs.declared.BandRead.{BandRead}
 use Rattle.header.specs.declared.BandRead.the-variants as BandRead
 use Rattle.header.specs.Header.{bandOf}
@@ -85,3 +86,15 @@ no-band t k h = rw (drop-of-length-le bandNames {i = k} h)
 pub band-told : (t : Text) (b : Bool) → among bandNames t ≡ b → cond b BandRead.Listed BandRead.Differs ≡ bandOf t
 unfolding bandOf meets base
 band-told t b e = ap (λ (x : Bool). cond x BandRead.Listed BandRead.Differs) (sym e)
+
+-- The answer says whether the argument is a band.
+listed-apart : BandRead.Listed ≡ BandRead.Differs → ⊥
+listed-apart p = let z : _≡_ {A = ℕ} 0 1 = cc in omega arith
+
+pub band-listed : (t : Text) → bandOf t ≡ BandRead.Listed → true ≡ meets base aBand t
+unfolding bandOf
+band-listed t e = sym (picked (meets base aBand t) e (λ p. listed-apart (sym p)) .0)
+
+pub band-differs : (t : Text) → bandOf t ≡ BandRead.Differs → false ≡ meets base aBand t
+unfolding bandOf
+band-differs t e = sym (passed (meets base aBand t) e listed-apart .0)

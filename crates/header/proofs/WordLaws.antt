@@ -10,7 +10,7 @@ use lib.Dec.{eqb}
 use lib.ListN.{length, drop, getD, drop-of-length-le}
 use borrow.Author.Tests.{eq-eqb, ne-eqb}
 use Rattle.rules.specs.Text.{Text, same, begins}
-use Rattle.fields.proofs.FieldLaws.{at}
+use Rattle.fields.proofs.FieldLaws.{next}
 
 module _ (w s : Text) (i : ℕ) where
   pub begins-more :
@@ -19,12 +19,12 @@ module _ (w s : Text) (i : ℕ) where
       getD w i 0 ≡ getD s i 0 →
       begins (drop i w) (drop i s) ≡ begins (drop (i + 1) w) (drop (i + 1) s)
   unfolding begins
-  begins-more h k e = rw (at w i h, at s i k, eq-eqb (getD w i 0) (getD s i 0) e)
+  begins-more h k e = rw (next w i h, next s i k, eq-eqb (getD w i 0) (getD s i 0) e)
 
   pub begins-differs :
       i < length w → i < length s → (getD w i 0 ≡ getD s i 0 → ⊥) → begins (drop i w) (drop i s) ≡ false
   unfolding begins
-  begins-differs h k e = rw (at w i h, at s i k, ne-eqb (getD w i 0) (getD s i 0) e)
+  begins-differs h k e = rw (next w i h, next s i k, ne-eqb (getD w i 0) (getD s i 0) e)
 
   pub begins-done : length w ≤ i → begins (drop i w) (drop i s) ≡ true
   unfolding begins

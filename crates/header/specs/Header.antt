@@ -8,6 +8,8 @@ use Rattle.rules.specs.Text.{Text, begins}
 use Rattle.rules.specs.Rules.{base}
 use Rattle.rules.specs.Arguments.{Entry, entries, aBand, meets}
 use Rattle.rules.specs.Log.{keywordStart}
+use Rattle.header.specs.declared.ArgumentRead.{ArgumentRead}
+use Rattle.header.specs.declared.ArgumentRead.the-variants as ArgumentRead
 use Rattle.header.specs.declared.BandRead.{BandRead}
 use Rattle.header.specs.declared.BandRead.the-variants as BandRead
 use Rattle.header.specs.declared.KeywordRead.{KeywordRead}
@@ -27,3 +29,13 @@ keywordAt k line = firstKeyword (drop k entries) line
 unfoldable pub bandOf : Text → BandRead
 unfolding meets base
 bandOf t = cond (meets base aBand t) BandRead.Listed BandRead.Differs
+
+-- Whether the argument behind the first of the keywords that are left keeps its rule.
+unfoldable pub firstArgument : List Entry → Text → ArgumentRead
+unfolding meets base
+firstArgument [] t = ArgumentRead.Broken
+firstArgument (e ∷ es) t = cond (meets base (e .rule) t) ArgumentRead.Kept ArgumentRead.Broken
+
+unfoldable pub argumentOf : ℕ → Text → ArgumentRead
+unfolding firstArgument entries
+argumentOf k t = firstArgument (drop k entries) t

@@ -5,8 +5,14 @@ ghost use Rattle.rules.specs.Text.{same, begins};
 ghost use Prim.Native.Nat.{_<_};
 ghost use mathlib.Core.List.{[]};
 ghost use lib.ListN.{getD};
-ghost use Rattle.rules.specs.Rules.{bandNames};
+ghost use Rattle.rules.specs.Rules.{base, bandNames};
+ghost use Rattle.rules.specs.Arguments.{meets, twoDates, aCall, emptyOrCall, emptyOrCalls, aLocator, anExchange, aBand, countAndMultiplier, countBonusMultiplier, claimedPoints, claimedBonus, claimedTotal, bestContact};
 ghost use Rattle.header.specs.Header.{keywordAt, bandOf};
+use fields::CallRead;
+use fields::ExchangeRead;
+use fields::LocatorRead;
+use figures::LongDateRead;
+use figures::NumberRead;
 
 const KEYWORDS: [[u8; 6]; 36] = [
     *b"TName=",
@@ -141,4 +147,168 @@ pub fn band(t: &[u8]) -> BandRead
         k += 1;
     }
     BandRead::Differs
+}
+
+// Whether the argument of a keyword keeps its rule.
+pub enum ArgumentRead {
+    Kept,
+    Broken,
+}
+
+// The rules of the arguments. A reader stops before a semicolon, so it has read a whole argument where it ends with the text.
+
+fn is_call(t: &[u8]) -> bool
+    ensures { λ r. ⌜ r ≡ meets base aCall (now (t .entry)) ⌝ }
+{
+    let CallRead::Call { end, error: _ } = fields::call(t, 0) else {
+        return false;
+    };
+    end == t.len()
+}
+
+fn is_empty_or_call(t: &[u8]) -> bool
+    ensures { λ r. ⌜ r ≡ meets base emptyOrCall (now (t .entry)) ⌝ }
+{
+    let CallRead::Call { end, error: _ } = fields::call_or_empty(t, 0) else {
+        return false;
+    };
+    end == t.len()
+}
+
+fn is_locator(t: &[u8]) -> bool
+    ensures { λ r. ⌜ r ≡ meets base aLocator (now (t .entry)) ⌝ }
+{
+    let LocatorRead::Locator(end) = fields::locator(t, 0) else {
+        return false;
+    };
+    end == t.len()
+}
+
+fn is_exchange(t: &[u8]) -> bool
+    ensures { λ r. ⌜ r ≡ meets base anExchange (now (t .entry)) ⌝ }
+{
+    let ExchangeRead::Exchange(end) = fields::exchange(t, 0) else {
+        return false;
+    };
+    end == t.len()
+}
+
+fn is_band_name(t: &[u8]) -> bool
+    ensures { λ r. ⌜ r ≡ meets base aBand (now (t .entry)) ⌝ }
+{
+    let BandRead::Listed = band(t) else {
+        return false;
+    };
+    true
+}
+
+fn is_claimed_points(t: &[u8]) -> bool
+    ensures { λ r. ⌜ r ≡ meets base claimedPoints (now (t .entry)) ⌝ }
+{
+    let NumberRead::Number(_, end) = figures::claimed_points(t, 0) else {
+        return false;
+    };
+    end == t.len()
+}
+
+fn is_claimed_bonus(t: &[u8]) -> bool
+    ensures { λ r. ⌜ r ≡ meets base claimedBonus (now (t .entry)) ⌝ }
+{
+    let NumberRead::Number(_, end) = figures::claimed_bonus(t, 0) else {
+        return false;
+    };
+    end == t.len()
+}
+
+fn is_claimed_total(t: &[u8]) -> bool
+    ensures { λ r. ⌜ r ≡ meets base claimedTotal (now (t .entry)) ⌝ }
+{
+    let NumberRead::Number(_, end) = figures::claimed_total(t, 0) else {
+        return false;
+    };
+    end == t.len()
+}
+
+// Where a semicolon is missing, the next part is looked for beyond the end, and the last does not end with the text.
+
+fn is_count_and_multiplier(t: &[u8]) -> bool
+    ensures { λ r. ⌜ r ≡ meets base countAndMultiplier (now (t .entry)) ⌝ }
+{
+    let NumberRead::Number(_, count) = figures::counted(t, 0) else {
+        return false;
+    };
+    let NumberRead::Number(_, end) = figures::multiplier_of(t, count + 1) else {
+        return false;
+    };
+    end == t.len()
+}
+
+fn is_count_bonus_multiplier(t: &[u8]) -> bool
+    ensures { λ r. ⌜ r ≡ meets base countBonusMultiplier (now (t .entry)) ⌝ }
+{
+    let NumberRead::Number(_, count) = figures::counted(t, 0) else {
+        return false;
+    };
+    let NumberRead::Number(_, bonus) = figures::bonus_of(t, count + 1) else {
+        return false;
+    };
+    let NumberRead::Number(_, end) = figures::multiplier_of(t, bonus + 1) else {
+        return false;
+    };
+    end == t.len()
+}
+
+fn is_best_contact(t: &[u8]) -> bool
+    ensures { λ r. ⌜ r ≡ meets base bestContact (now (t .entry)) ⌝ }
+{
+    let CallRead::Call {
+        end: call,
+        error: _,
+    } = fields::call_or_empty(t, 0)
+    else {
+        return false;
+    };
+    let LocatorRead::Locator(locator) = fields::locator_or_empty(t, call + 1) else {
+        return false;
+    };
+    let NumberRead::Number(_, end) = figures::distance(t, locator + 1) else {
+        return false;
+    };
+    end == t.len()
+}
+
+// The last day may be the first, and is not before it.
+fn is_two_dates(t: &[u8]) -> bool
+    ensures { λ r. ⌜ r ≡ meets base twoDates (now (t .entry)) ⌝ }
+{
+    let LongDateRead::Date(first, between) = figures::long_date(t, 0) else {
+        return false;
+    };
+    let LongDateRead::Date(last, end) = figures::long_date(t, between + 1) else {
+        return false;
+    };
+    if end != t.len() {
+        return false;
+    }
+    first <= last
+}
+
+// Nothing at all, or calls: an empty text has no call, and one that ends with a semicolon has an empty last part.
+fn is_empty_or_calls(t: &[u8]) -> bool
+    ensures { λ r. ⌜ r ≡ meets base emptyOrCalls (now (t .entry)) ⌝ }
+{
+    if t.len() == 0 {
+        return true;
+    }
+    let mut at = 0;
+    while at < t.len() {
+        let CallRead::Call { end, error: _ } = fields::call(t, at) else {
+            return false;
+        };
+        if end == t.len() {
+            return true;
+        }
+        at = end + 1;
+    }
+    false
 }

@@ -3,3 +3,5 @@ pub mod LineStarts
 pub mod FieldsHeld
 pub mod RecordsHeld
 pub mod LinesHeld
+pub mod HeaderHeld
+pub mod ToldBounds

@@ -1,2 +1,4 @@
 pub mod LineLaws
-pub mod PartLaws
+pub mod CountLaws
+pub mod RecordLaws
+pub mod FirstLaws

@@ -1,6 +1,6 @@
 -- Laws of a line: it stands at a place exactly where a short run of allowed characters is followed by CR LF.
 -- Assumes nothing.
-use Prim.Native.Nat.{ℕ, suc, _+_, _-_, _≤_, _<_}
+use Prim.Native.Nat.{ℕ, _+_, _-_, _≤_, _<_}
 use native.Mathlib.Omega.{arith}
 use mathlib.Core.Path.{_≡_, refl, sym, ap, ap₂, _∙_}
 use mathlib.Core.Bool.{Bool, true, false, cond, _&&_, and-false}
@@ -13,6 +13,7 @@ use Rattle.rules.specs.Text.{Text, allowed, span, begins}
 use Rattle.rules.specs.Rules.{base}
 use Rattle.rules.specs.Log.{crlf}
 use Rattle.rules.specs.Reading.{aLine, noLine, firstLine}
+use Rattle.header.proofs.PartLaws.{span-short}
 use Rattle.reader.specs.declared.LineRead.{LineRead}
 use Rattle.reader.specs.declared.LineRead.the-variants as LineRead
 use Rattle.reader.specs.Line.{lineFrom, lineAt}
@@ -27,15 +28,6 @@ begins-crlf (c ∷ d ∷ t) = ap (λ (b : Bool). eqb 13 c && b) (sym (with-true 
     with-true : (b : Bool) → b ≡ (b && true)
     with-true true = refl
     with-true false = refl
-
-pub span-short : (f : ℕ → Bool) (s : Text) → span f s ≤ length s
-unfolding span
-span-short f [] = omega arith
-span-short f (c ∷ s) = by (f c) (span-short f s)
-  where
-    by : (b : Bool) → span f s ≤ length s → cond b (suc (span f s)) 0 ≤ suc (length s)
-    by true h = omega arith
-    by false h = omega arith
 
 zero-is-not : (n : ℕ) → 0 ≡ n → 0 < n → ⊥
 zero-is-not n e h = omega arith

@@ -7,7 +7,21 @@ ghost use Rattle.rules.specs.Text.{allowed, span};
 ghost use Rattle.rules.specs.Text.{parts};
 ghost use Rattle.fields.specs.Field.{inField};
 ghost use Rattle.reader.specs.Line.{lineAt};
-ghost use Rattle.reader.specs.Record.{brokenAt};
+ghost use Rattle.rules.specs.Text.{same};
+ghost use Rattle.rules.specs.Fields.{errorCall};
+ghost use mathlib.Core.List.{[]};
+ghost use lib.ListN.{getD};
+ghost use Rattle.reader.specs.Record.{brokenAt, datedOf, scoredAt, recordOf};
+use fields::CallRead;
+use fields::ExchangeRead;
+use fields::LocatorRead;
+use fields::MarkRead;
+use fields::ModeRead;
+use fields::ReportRead;
+use fields::SerialRead;
+use figures::DateRead;
+use figures::NumberRead;
+use figures::TimeRead;
 
 pub fn is_allowed(b: u8) -> bool
     ensures { λ r. ⌜ r ≡ allowed b ⌝ }
@@ -102,6 +116,132 @@ pub fn broken(line: &[u8], field: u32) -> RecordRead
 {
     if semicolons(line) == 14 {
         return RecordRead::Broken(field);
+    }
+    RecordRead::Broken(0)
+}
+
+// The call of the line's third field is ERROR, whatever stands before it.
+fn third_is_error(line: &[u8]) -> bool
+    ensures { λ r. ⌜ r ≡ same (getD (parts (now (line .entry))) 2 []) errorCall ⌝ }
+{
+    let first = field_end(line, 0);
+    let second = field_end(line, first + 1);
+    let CallRead::Call { end: _, error } = fields::call(line, second + 1) else {
+        return false;
+    };
+    error
+}
+
+// Where the date of a record ends, if it may stand there: only an ERROR record may leave it empty.
+pub enum DatedRead {
+    Dated(usize),
+    Bad,
+}
+
+fn dated(line: &[u8]) -> DatedRead
+    ensures { λ r. ⌜ r ≡ datedOf (now (line .entry)) ⌝ }
+{
+    let read = figures::date(line, 0);
+    match read {
+        DateRead::Date(end) => DatedRead::Dated(end),
+        DateRead::Bad => DatedRead::Bad,
+        DateRead::Empty => {
+            if third_is_error(line) {
+                return DatedRead::Dated(0);
+            }
+            DatedRead::Bad
+        }
+    }
+}
+
+// Where the points of a record end, if they may stand there: an ERROR record has none.
+pub enum PointsRead {
+    Points(usize),
+    Bad,
+}
+
+fn scored(line: &[u8], at: usize, error: bool) -> PointsRead
+    ensures { λ r. ⌜ r ≡ scoredAt error (now (line .entry)) at ⌝ }
+{
+    let NumberRead::Number(worth, end) = figures::points(line, at) else {
+        return PointsRead::Bad;
+    };
+    if !error {
+        return PointsRead::Points(end);
+    }
+    if worth == 0 {
+        return PointsRead::Points(end);
+    }
+    PointsRead::Bad
+}
+
+// The fifteen fields, each taken where the one before it ends: a field that cannot be read stops the line there.
+pub fn record(line: &[u8]) -> RecordRead
+    ensures { λ r. ⌜ r ≡ recordOf (now (line .entry)) ⌝ }
+{
+    let DatedRead::Dated(date) = dated(line) else {
+        return broken(line, 1);
+    };
+    let TimeRead::Time(_, time) = figures::time(line, date + 1) else {
+        return broken(line, 2);
+    };
+    let CallRead::Call { end: call, error } = fields::call(line, time + 1) else {
+        return broken(line, 3);
+    };
+    let ModeRead::Mode(mode) = fields::mode(line, call + 1) else {
+        return broken(line, 4);
+    };
+    let ReportRead::Report(sent) = fields::report(line, mode + 1) else {
+        return broken(line, 5);
+    };
+    let SerialRead::Serial(sentnumber) = fields::serial(line, sent + 1) else {
+        return broken(line, 6);
+    };
+    let ReportRead::Report(received) = fields::report(line, sentnumber + 1) else {
+        return broken(line, 7);
+    };
+    let SerialRead::Serial(receivednumber) = fields::serial(line, received + 1) else {
+        return broken(line, 8);
+    };
+    let ExchangeRead::Exchange(exchange) = fields::exchange(line, receivednumber + 1) else {
+        return broken(line, 9);
+    };
+    let LocatorRead::Locator(locator) = fields::locator_or_empty(line, exchange + 1) else {
+        return broken(line, 10);
+    };
+    let PointsRead::Points(points) = scored(line, locator + 1, error) else {
+        return broken(line, 11);
+    };
+    let MarkRead::Mark {
+        set: _,
+        end: newexchange,
+    } = fields::mark(line, points + 1, 78)
+    else {
+        return broken(line, 12);
+    };
+    let MarkRead::Mark {
+        set: _,
+        end: newsquare,
+    } = fields::mark(line, newexchange + 1, 78)
+    else {
+        return broken(line, 13);
+    };
+    let MarkRead::Mark {
+        set: _,
+        end: newcountry,
+    } = fields::mark(line, newsquare + 1, 78)
+    else {
+        return broken(line, 14);
+    };
+    let MarkRead::Mark {
+        set: _,
+        end: duplicate,
+    } = fields::mark(line, newcountry + 1, 68)
+    else {
+        return broken(line, 15);
+    };
+    if duplicate == line.len() {
+        return RecordRead::Kept;
     }
     RecordRead::Broken(0)
 }

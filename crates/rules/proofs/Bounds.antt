@@ -103,7 +103,7 @@ ruleIn [] keyword = anything
 ruleIn (e ∷ es) keyword = cond (same (e .keyword) keyword) (e .rule) (ruleIn es keyword)
 
 -- A text at a place keeps the rule at that place.
-each-at : (rules : List (Text → Bool)) (ts : List Text) (n : ℕ) → T (each rules ts) → T ((getD rules n (λ t. true)) (getD ts n []))
+pub each-at : (rules : List (Text → Bool)) (ts : List Text) (n : ℕ) → T (each rules ts) → T ((getD rules n (λ t. true)) (getD ts n []))
 unfolding each
 each-at [] [] n t = tt
 each-at (rule ∷ rules) (u ∷ ts) zero t = first (rule u) (each rules ts) t

@@ -1,5 +1,4 @@
 use mathlib.Core.Path.{sym, _∙_}
-use Prim.Native.Nat.{_-_}
 use Rattle.figures.proofs.BoundLaws.{multiplies-none, multiplies-zero, multiplies}
 use borrow.Author.Needs.{needs}
 use Rattle.figures.proofs.multiplier_of.Statement.{statement}

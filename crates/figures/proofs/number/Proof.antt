@@ -1,12 +1,17 @@
+use Rattle.fields.specs.Field.{endsAt}
+use denote.Ref.{now}
 use native.Mathlib.Omega.{arith}
-use mathlib.Core.Path.{sym, ap, _∙_}
-use mathlib.Core.Bool.{not}
-use Prim.Native.Nat.{_-_}
+use mathlib.Core.Path.{_≡_, sym, ap, _∙_}
+use mathlib.Core.Bool.{true, not}
 use borrow.Author.Tests.{not-false}
 use Rattle.figures.proofs.NumberLaws.{reads-no-end, reads-none, reads-plain, reads-zeros, reads-zero, starts-within, end-here}
 use borrow.Author.Needs.{needs}
 use Rattle.figures.proofs.number.Statement.{statement}
 use Rattle.figures.proofs.number.Tie as tie
+
+-- The field ends behind the digits that were read.
+ended : (c : tie.Else1) → endsAt (now (c .before .before .before .before .args .s)) (c .before .before .read-digits .result .end) ≡ true
+ended c = sym (c .before .ends .ensures) ∙ not-false _ (c .if1 .left)
 
 read-digits-requires : tie.Need-read-digits-requires
 read-digits-requires c κs = search needs
@@ -18,22 +23,22 @@ returns : tie.Need-returns
 returns c = reads-no-end _ _ _ _ (c .before .before .read-digits .ensures) (ap not (sym (c .before .ends .ensures)) ∙ c .if1 .taken)
 
 returns-2 : tie.Need-returns-2
-returns-2 c = reads-none _ _ _ _ (c .before .before .before .read-digits .ensures) (sym (c .before .before .ends .ensures) ∙ not-false _ (c .before .if1 .left)) (c .if2 .taken)
+returns-2 c = reads-none _ _ _ _ (c .before .before .before .read-digits .ensures) (ended (c .before)) (c .if2 .taken)
 
 shared-slice-read-if3 : tie.Need-shared-slice-read-if3
-shared-slice-read-if3 c = starts-within _ _ _ _ (c .before .before .before .before .read-digits .ensures) (sym (c .before .before .before .ends .ensures) ∙ not-false _ (c .before .before .if1 .left)) (c .before .if2 .left)
+shared-slice-read-if3 c = starts-within _ _ _ _ (c .before .before .before .before .read-digits .ensures) (ended (c .before .before)) (c .before .if2 .left)
 
 returns-3 : tie.Need-returns-3
-returns-3 c = reads-plain _ _ _ _ (c .before .before .before .before .before .read-digits .ensures) (sym (c .before .before .before .before .ends .ensures) ∙ not-false _ (c .before .before .before .if1 .left)) (c .before .before .if2 .left) (c .if3 .taken)
+returns-3 c = reads-plain _ _ _ _ (c .before .before .before .before .before .read-digits .ensures) (ended (c .before .before .before)) (c .before .before .if2 .left) (omega arith)
 
 sub-if4 : tie.Need-sub-if4
-sub-if4 c = omega (arith, end-here _ _ _ _ (c .before .before .before .before .before .read-digits .ensures) (sym (c .before .before .before .before .ends .ensures) ∙ not-false _ (c .before .before .before .if1 .left)))
+sub-if4 c = omega (arith, end-here _ _ _ _ (c .before .before .before .before .before .read-digits .ensures) (ended (c .before .before .before)))
 
 returns-4 : tie.Need-returns-4
-returns-4 c = reads-zeros _ _ _ _ (c .before .before .before .before .before .before .read-digits .ensures) (sym (c .before .before .before .before .before .ends .ensures) ∙ not-false _ (c .before .before .before .before .if1 .left)) (c .before .before .before .if2 .left) (c .before .if3 .left) (c .if4 .taken)
+returns-4 c = reads-zeros _ _ _ _ (c .before .before .before .before .before .before .read-digits .ensures) (ended (c .before .before .before .before)) (c .before .before .before .if2 .left) (omega arith) (c .if4 .taken)
 
 returns-5 : tie.Need-returns-5
-returns-5 c = reads-zero _ _ _ _ (c .before .before .before .before .before .before .read-digits .ensures) (sym (c .before .before .before .before .before .ends .ensures) ∙ not-false _ (c .before .before .before .before .if1 .left)) (c .before .before .before .if2 .left) (c .before .if3 .left) (c .if4 .left)
+returns-5 c = reads-zero _ _ _ _ (c .before .before .before .before .before .before .read-digits .ensures) (ended (c .before .before .before .before)) (c .before .before .before .if2 .left) (omega arith) (c .if4 .left)
 
 pub number-spec : {M : Type 1} → statement M
 number-spec =

@@ -1,7 +1,6 @@
 use native.Mathlib.Omega.{arith}
 use mathlib.Core.Path.{sym, ap, _∙_}
 use mathlib.Core.Bool.{not}
-use Prim.Native.Nat.{_-_}
 use borrow.Author.Tests.{not-false}
 use Rattle.figures.proofs.TimeLaws.{time-short, time-unended, time-none, time-some}
 use borrow.Author.Needs.{needs}

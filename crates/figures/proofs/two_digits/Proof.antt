@@ -1,4 +1,3 @@
-use Prim.Native.Nat.{_-_}
 use Rattle.figures.proofs.NumberLaws.{digit-least}
 use Rattle.figures.proofs.TimeLaws.{two-digits}
 use borrow.Author.Needs.{needs}

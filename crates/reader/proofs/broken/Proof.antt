@@ -3,7 +3,7 @@ use mathlib.Core.Path.{_≡_, refl, sym, ap, _∙_}
 use mathlib.Core.Bool.{true, false}
 use Prim.Native.Nat.{ℕ, _+_, _-_, _*_, _≤_, _<_}
 use lib.ListN.{length, drop, take, getD, set}
-use Rattle.reader.proofs.PartLaws.{right-count, wrong-count}
+use Rattle.reader.proofs.CountLaws.{right-count, wrong-count}
 use borrow.Author.Needs.{needs}
 use Rattle.reader.proofs.broken.Statement.{statement}
 use Rattle.reader.proofs.broken.Tie as tie

@@ -9,21 +9,21 @@ use borrow.Author.Tests.{eq-eqb, ne-eqb}
 use mathlib.Core.Bool.{Bool, not}
 use Rattle.rules.specs.Text.{span}
 use Rattle.fields.specs.Field.{inField}
-use Rattle.fields.proofs.FieldLaws.{run-more, run-stops, run-ends}
+use Rattle.fields.proofs.FieldLaws.{Within, run-starts, run-more, run-stops, run-ends}
 use Rattle.reader.proofs.field_end.Statement.{statement}
 use Rattle.reader.proofs.field_end.Tie as tie
 use Rattle.reader.proofs.field_end.Reads as reads
 use Rattle.reader.proofs.field_end.Lts as lts
 
 abbrev Inv-loop : tie.InvT-loop
-Inv-loop s at i₀ i = at + span inField (drop at s) ≡ i + span inField (drop i s)
+Inv-loop s at i₀ i = Within inField s at i
 
 abbrev μ-loop : tie.MeasureT-loop
 μ-loop s at i₀ i = length s - i
 
 -- src/lib.rt:69:5
 loop-holds : tie.Need-loop-holds Inv-loop μ-loop
-loop-holds c = search needs
+loop-holds c = run-starts inField _ _
 
 -- src/lib.rt:70:12
 shared-slice-read-if1 : tie.Need-shared-slice-read-if1 Inv-loop μ-loop
@@ -32,8 +32,7 @@ shared-slice-read-if1 c = search needs
 -- src/lib.rt:71:13
 returns : tie.Need-returns Inv-loop μ-loop
 returns c =
-    run-stops inField (now (c .before .before .before .before .args .s)) (c .before .before .before .loop .i) (search needs) (ap not (eq-eqb _ _ (c .if1 .taken)))
-    ∙ sym (c .before .before .before .loop .inv)
+    run-stops (c .before .before .before .loop .inv) (c .before .before .loop-test .taken) refl (ap (λ (b : Bool). not (not b)) (eq-eqb _ _ (c .if1 .taken)))
 
 -- src/lib.rt:73:9
 add-i : tie.Need-add-i Inv-loop μ-loop
@@ -46,13 +45,12 @@ loop-less c = search needs
 -- src/lib.rt:69:5
 loop-again : tie.Need-loop-again Inv-loop μ-loop
 loop-again c =
-    c .before .before .before .loop .inv
-    ∙ run-more inField (now (c .before .before .before .before .args .s)) (c .before .before .before .loop .i) (search needs) (ap not (ne-eqb _ _ (c .if1 .left)))
+    run-more (c .before .before .before .loop .inv) (c .before .before .loop-test .taken) refl (ap (λ (b : Bool). not (not b)) (ne-eqb _ _ (c .if1 .left)))
 
 -- src/lib.rt:65:1
 returns-2 : tie.Need-returns-2 Inv-loop μ-loop
 returns-2 c =
-    run-ends inField (now (c .before .before .args .s)) (c .before .loop .i) (search needs) ∙ sym (c .before .loop .inv)
+    run-ends (c .before .loop .inv) (c .loop-test .left)
 
 pub field-end-spec : {M : Type 1} → statement M
 field-end-spec =

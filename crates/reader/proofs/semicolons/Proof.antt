@@ -7,7 +7,7 @@ use lib.ListN.{length, drop, take, getD, set}
 use denote.Ref.{now}
 use mathlib.Core.Logic.{⊎-elim}
 use Rattle.rules.specs.Text.{parts}
-use Rattle.reader.proofs.PartLaws.{count-semicolon, count-other, count-end}
+use Rattle.header.proofs.PartLaws.{count-semicolon, count-other, count-end}
 use Rattle.reader.proofs.semicolons.Statement.{statement}
 use Rattle.reader.proofs.semicolons.Tie as tie
 use Rattle.reader.proofs.semicolons.Reads as reads

@@ -1,6 +1,5 @@
 use mathlib.Core.Path.{_≡_, sym, ap, _∙_}
 use mathlib.Core.Bool.{true, not}
-use Prim.Native.Nat.{_-_}
 use borrow.Author.Tests.{not-false}
 use Rattle.rules.specs.Text.{digit}
 use Rattle.figures.proofs.TimeLaws.{Four, made-first, made-second, made-third, made-fourth, made-hours, made-minutes, made-time}
@@ -59,13 +58,15 @@ two-digits-requires : tie.Need-two-digits-requires
 two-digits-requires c κs = (four-here c .first, four-here c .second)
 
 returns-5 : tie.Need-returns-5
-returns-5 c = made-hours _ _ _ _ (four-here (c .before .before)) (c .before .two-digits .ensures) (c .if5 .taken)
+returns-5 c = made-hours _ _ _ _ (four-here (c .before .before)) (c .before .two-digits .ensures) (search needs)
 
 two-digits-requires-2 : tie.Need-two-digits-requires-2
 two-digits-requires-2 c κs = (four-here (c .before .before) .third, four-here (c .before .before) .fourth)
 
 returns-6 : tie.Need-returns-6
-returns-6 c = made-minutes _ _ _ _ (four-here (c .before .before .before .before)) (c .before .before .before .two-digits .ensures) (c .before .before .if5 .left) (c .before .two-digits2 .ensures) (c .if6 .taken)
+returns-6 c =
+    made-minutes _ _ _ _ (four-here (c .before .before .before .before)) (c .before .before .before .two-digits .ensures) (search needs)
+    (c .before .two-digits2 .ensures) (search needs)
 
 mul-t9 : tie.Need-mul-t9
 mul-t9 c = search needs
@@ -74,7 +75,9 @@ add-t10 : tie.Need-add-t10
 add-t10 c = search needs
 
 returns-7 : tie.Need-returns-7
-returns-7 c = made-time _ _ _ _ (four-here (c .before .before .before .before)) (c .before .before .before .two-digits .ensures) (c .before .before .if5 .left) (c .before .two-digits2 .ensures) (c .if6 .left)
+returns-7 c =
+    made-time _ _ _ _ (four-here (c .before .before .before .before)) (c .before .before .before .two-digits .ensures) (search needs)
+    (c .before .two-digits2 .ensures) (search needs)
 
 pub from-digits-spec : {M : Type 1} → statement M
 from-digits-spec =

@@ -1,5 +1,4 @@
 use mathlib.Core.Path.{refl}
-use Prim.Native.Nat.{_-_}
 use Rattle.figures.specs.Figure.{minutesOf}
 use borrow.Author.Needs.{needs}
 use Rattle.figures.proofs.TimeOfDay.minutes.Statement.{statement}

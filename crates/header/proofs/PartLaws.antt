@@ -1,6 +1,6 @@
--- Laws of the parts of a line: where each begins, what it is, and how many there are.
+-- Laws of the parts of a text: where each begins, what it is, and how many there are.
 -- Assumes nothing.
-use Prim.Native.Nat.{ℕ, zero, suc, _+_, _-_, _≤_, _<_, max}
+use Prim.Native.Nat.{ℕ, zero, suc, _+_, _≤_, _<_, max}
 use native.Mathlib.Omega.{arith}
 use native.Mathlib.Nat.{add-zero, suc-add, add-suc}
 use native.Mathlib.Decide.{decLt, decLe}
@@ -14,18 +14,24 @@ use borrow.Author.Tests.{eq-eqb, ne-eqb}
 use native.Mathlib.Numerals.{add-one}
 use Rattle.rules.specs.Text.{Text, semicolon, span, parts, before}
 use Rattle.fields.specs.Field.{inField, textAt, endOf}
-use Rattle.fields.proofs.FieldLaws.{at}
-use Rattle.reader.specs.declared.RecordRead.{RecordRead}
-use Rattle.reader.specs.declared.RecordRead.the-variants as RecordRead
-use Rattle.reader.specs.Record.{brokenAt}
-use Rattle.reader.proofs.LineLaws.{span-short}
+use Rattle.fields.proofs.FieldLaws.{next}
+
+-- A run lies within its text.
+pub span-short : (f : ℕ → Bool) (s : Text) → span f s ≤ length s
+unfolding span
+span-short f [] = omega arith
+span-short f (c ∷ s) = by (f c) (span-short f s)
+  where
+    by : (b : Bool) → span f s ≤ length s → cond b (suc (span f s)) 0 ≤ suc (length s)
+    by true h = omega arith
+    by false h = omega arith
 
 -- What stands behind the semicolon at the front, if one does.
 abbrev rest : Text → List Text
 rest [] = []
 rest (c ∷ s) = parts s
 
-parts-split : (s : Text) → parts s ≡ take (span inField s) s ∷ rest (drop (span inField s) s)
+pub parts-split : (s : Text) → parts s ≡ take (span inField s) s ∷ rest (drop (span inField s) s)
 unfolding parts before span
 parts-split [] = refl
 parts-split (c ∷ s) = by (eqb c 59) (parts-split s)
@@ -48,7 +54,7 @@ module _ (l : Text) where
   end-within a =
       omega (arith, end-by-span a, span-short inField (drop a l), length-drop a l)
 
-  at-end : (a : ℕ) → parts (drop a l) ≡ textAt l a ∷ rest (drop (endOf l a) l)
+  pub at-end : (a : ℕ) → parts (drop a l) ≡ textAt l a ∷ rest (drop (endOf l a) l)
   unfolding textAt
   at-end a =
       parts-split (drop a l)
@@ -56,11 +62,11 @@ module _ (l : Text) where
       (drop-drop (span inField (drop a l)) a l ∙ ap (λ (n : ℕ). drop n l) (sym (end-by-span a)))
 
   -- The field at a place is the last part of the line, or another follows behind its semicolon.
-  parts-last : (a : ℕ) → length l ≤ endOf l a → parts (drop a l) ≡ textAt l a ∷ []
+  pub parts-last : (a : ℕ) → length l ≤ endOf l a → parts (drop a l) ≡ textAt l a ∷ []
   parts-last a h = at-end a ∙ ap (λ (t : Text). textAt l a ∷ rest t) (drop-of-length-le l h)
 
-  parts-more : (a : ℕ) → endOf l a < length l → parts (drop a l) ≡ textAt l a ∷ parts (drop (endOf l a + 1) l)
-  parts-more a h = at-end a ∙ ap (λ (t : Text). textAt l a ∷ rest t) (at l (endOf l a) h)
+  pub parts-more : (a : ℕ) → endOf l a < length l → parts (drop a l) ≡ textAt l a ∷ parts (drop (endOf l a + 1) l)
+  parts-more a h = at-end a ∙ ap (λ (t : Text). textAt l a ∷ rest t) (next l (endOf l a) h)
 
   -- The part of number k begins at a, and so on from there.
   abbrev pub Reaches : ℕ → ℕ → Type 0
@@ -130,11 +136,11 @@ module _ (l : Text) where
   -- Counting semicolons from a place on.
   pub count-semicolon : (i : ℕ) → i < length l → getD l i 0 ≡ 59 → length (parts (drop i l)) ≡ length (parts (drop (i + 1) l)) + 1
   unfolding parts
-  count-semicolon i h e = rw (at l i h, eq-eqb (getD l i 0) 59 e) (sym (add-one _))
+  count-semicolon i h e = rw (next l i h, eq-eqb (getD l i 0) 59 e) (sym (add-one _))
 
   pub count-other : (i : ℕ) → i < length l → (getD l i 0 ≡ 59 → ⊥) → length (parts (drop i l)) ≡ length (parts (drop (i + 1) l))
   unfolding parts before
-  count-other i h e = rw (at l i h, ne-eqb (getD l i 0) 59 e) (kept (parts-split (drop (i + 1) l)))
+  count-other i h e = rw (next l i h, ne-eqb (getD l i 0) 59 e) (kept (parts-split (drop (i + 1) l)))
     where
       kept : {t : Text} {ts : List Text} → parts (drop (i + 1) l) ≡ t ∷ ts → length (before (getD l i 0) (parts (drop (i + 1) l))) ≡ length (parts (drop (i + 1) l))
       kept p = rw p
@@ -142,12 +148,3 @@ module _ (l : Text) where
   pub count-end : (i : ℕ) → length l ≤ i → length (parts (drop i l)) ≡ 1
   unfolding parts
   count-end i h = rw (drop-of-length-le l h)
-
--- What is told of a line where a field is bad, by its semicolons.
-pub right-count : (l : Text) (n field : ℕ) → n + 1 ≡ length (parts l) → n ≡ 14 → RecordRead.Broken field ≡ brokenAt l field
-unfolding brokenAt
-right-count l n field e h = rw (eq-eqb (length (parts l)) 15 (omega arith))
-
-pub wrong-count : (l : Text) (n field : ℕ) → n + 1 ≡ length (parts l) → (n ≡ 14 → ⊥) → RecordRead.Broken 0 ≡ brokenAt l field
-unfolding brokenAt
-wrong-count l n field e h = rw (ne-eqb (length (parts l)) 15 (λ k. h (omega arith)))

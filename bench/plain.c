@@ -1,0 +1,655 @@
+/* The functions of sumpquince.h in plain C, written from the rules of the contest paper alone: the yardstick for the speed of the proved library,
+ * and a second opinion on its answers. It defines the same symbols, so a program links either the one or the other. */
+#include "sumpquince.h"
+
+#include <stdbool.h>
+#include <string.h>
+
+enum {
+    LONGEST_LOG = 65535,
+    LONGEST_LINE = 75,
+    MOST_RECORDS = 999,
+    KEYWORDS = 36,
+    KEYWORD_LENGTH = 5, /* of every one of them */
+    FIELDS = 15,
+    SQUARE_LENGTH = 4
+};
+
+/* Places of keywords and of fields, counted from 0. */
+enum { CQSOS = 26, CQSOP, CWWLS, CWWLB, CEXCS, CEXCB, CDXCS, CDXCB, CTOSC };
+enum { DATE, TIME, CALL, MODE, SENT_REPORT, SENT_NUMBER, GOT_REPORT, GOT_NUMBER, EXCHANGE, LOCATOR, POINTS, NEW_EXCHANGE, NEW_SQUARE, NEW_COUNTRY,
+       DUPLICATE };
+
+/* A part of a log. */
+typedef struct {
+    const uint8_t *at;
+    size_t length;
+} Text;
+
+/* What judging and writing need of a record, with positions in the log, which all fit 16 bits. */
+typedef struct {
+    uint32_t points;
+    uint16_t call, exchange, locator;
+    uint16_t tail; /* where the points begin: all that writing back changes lies from here to the line's end */
+    uint16_t end;  /* where the line's CR stands */
+    uint8_t call_length, exchange_length, locator_length;
+    bool error, new_country;
+} Record;
+
+typedef struct {
+    uint16_t argument[KEYWORDS];
+    uint16_t argument_length[KEYWORDS];
+    size_t count;
+    Record records[MOST_RECORDS];
+} Log;
+
+/* How far reading has come. */
+typedef struct {
+    const uint8_t *log;
+    size_t length, at;
+    uint32_t line;
+} Reader;
+
+static const SumpquinceRefusal ACCEPTED = {0, 0, 0};
+
+static SumpquinceRefusal refuse(uint32_t number, uint32_t line, uint32_t field) {
+    SumpquinceRefusal refusal = {number, line, field};
+    return refusal;
+}
+
+/* ---- Values ---- */
+
+static bool is_digit(uint8_t c) { return c >= '0' && c <= '9'; }
+static bool is_capital(uint8_t c) { return c >= 'A' && c <= 'Z'; }
+static bool is_between(uint8_t c, uint8_t first, uint8_t last) { return c >= first && c <= last; }
+
+static bool is_text(Text text, const char *wanted, size_t length) { return text.length == length && memcmp(text.at, wanted, length) == 0; }
+
+static bool is_error_call(Text text) { return is_text(text, "ERROR", 5); }
+
+static bool all_digits(Text text) {
+    for (size_t i = 0; i < text.length; i++) {
+        if (!is_digit(text.at[i])) return false;
+    }
+    return true;
+}
+
+/* A number of 1 to `most` digits, no leading zero but `0` itself. No number here has more than 15 digits, so 64 bits hold each. */
+static bool is_number(Text text, size_t most, uint64_t *value) {
+    if (text.length < 1 || text.length > most) return false;
+    if (text.at[0] == '0' && text.length > 1) return false;
+    uint64_t sum = 0;
+    for (size_t i = 0; i < text.length; i++) {
+        if (!is_digit(text.at[i])) return false;
+        sum = sum * 10 + (uint64_t)(text.at[i] - '0');
+    }
+    *value = sum;
+    return true;
+}
+
+static bool is_multiplier(Text text) {
+    uint64_t value;
+    return is_number(text, 2, &value) && value >= 1;
+}
+
+static unsigned two_digits(const uint8_t *at) { return (unsigned)(at[0] - '0') * 10 + (unsigned)(at[1] - '0'); }
+
+/* Every fourth year of 1990 to 2089 is a leap year: 2000 is one, and no other century falls among them. */
+static bool is_day(unsigned year, unsigned month, unsigned day) {
+    static const uint8_t days[12] = {31, 28, 31, 30, 31, 30, 31, 31, 30, 31, 30, 31};
+    if (month < 1 || month > 12 || day < 1) return false;
+    return day <= days[month - 1] || (month == 2 && day == 29 && year % 4 == 0);
+}
+
+/* YYMMDD; the century is known from the year, and both centuries divide by four. */
+static bool is_short_date(Text text) {
+    if (text.length != 6 || !all_digits(text)) return false;
+    return is_day(two_digits(text.at), two_digits(text.at + 2), two_digits(text.at + 4));
+}
+
+static bool is_long_date(const uint8_t *at) {
+    Text text = {at, 8};
+    if (!all_digits(text)) return false;
+    unsigned year = two_digits(at) * 100 + two_digits(at + 2);
+    return year >= 1990 && year <= 2089 && is_day(year, two_digits(at + 4), two_digits(at + 6));
+}
+
+/* Dates of equal length are in the order of their characters. */
+static bool is_two_dates(Text text) {
+    if (text.length != 17 || text.at[8] != ';') return false;
+    return is_long_date(text.at) && is_long_date(text.at + 9) && memcmp(text.at, text.at + 9, 8) <= 0;
+}
+
+static bool is_time(Text text) { return text.length == 4 && all_digits(text) && two_digits(text.at) <= 23 && two_digits(text.at + 2) <= 59; }
+
+static bool is_call(Text text) {
+    if (text.length < 3 || text.length > 14) return false;
+    for (size_t i = 0; i < text.length; i++) {
+        uint8_t c = text.at[i];
+        if (!is_capital(c) && !is_digit(c) && c != '/') return false;
+    }
+    return true;
+}
+
+static bool is_locator(Text text) {
+    if (text.length != 4 && text.length != 6) return false;
+    const uint8_t *at = text.at;
+    if (!is_between(at[0], 'A', 'R') || !is_between(at[1], 'A', 'R') || !is_digit(at[2]) || !is_digit(at[3])) return false;
+    return text.length == 4 || (is_between(at[4], 'A', 'X') && is_between(at[5], 'A', 'X'));
+}
+
+static bool is_exchange(Text text) {
+    if (text.length > 6) return false;
+    for (size_t i = 0; i < text.length; i++) {
+        if (text.at[i] == ';' || is_between(text.at[i], 'a', 'z')) return false;
+    }
+    return true;
+}
+
+static bool is_report(Text text) {
+    if (text.length == 0) return true;
+    if (text.length != 2 && text.length != 3) return false;
+    if (!is_digit(text.at[0]) || !is_digit(text.at[1])) return false;
+    return text.length == 2 || is_digit(text.at[2]) || is_capital(text.at[2]);
+}
+
+static bool is_contact_number(Text text) { return text.length == 0 || ((text.length == 3 || text.length == 4) && all_digits(text)); }
+
+static bool is_mark(Text text, uint8_t mark) { return text.length == 0 || (text.length == 1 && text.at[0] == mark); }
+
+/* ---- Arguments of the forced keywords ---- */
+
+/* Takes what stands before the first `;` of the rest, and the `;` if there is one; without one it takes all. */
+static Text next_part(Text *rest, bool *more) {
+    size_t i = 0;
+    while (i < rest->length && rest->at[i] != ';') i++;
+    Text part = {rest->at, i};
+    *more = i < rest->length;
+    size_t taken = *more ? i + 1 : i;
+    rest->at += taken;
+    rest->length -= taken;
+    return part;
+}
+
+static bool cut(Text text, Text *parts, size_t count) {
+    bool more = true;
+    for (size_t i = 0; i < count; i++) {
+        if (!more) return false;
+        parts[i] = next_part(&text, &more);
+    }
+    return !more;
+}
+
+static bool is_calls(Text text) {
+    if (text.length == 0) return true;
+    bool more = true;
+    while (more) {
+        if (!is_call(next_part(&text, &more))) return false;
+    }
+    return true;
+}
+
+static bool is_band(Text text) {
+    static const char *const bands[15] = {"50 MHz",  "70 MHz", "144 MHz", "432 MHz", "1,3 GHz", "2,3 GHz", "3,4 GHz", "5,7 GHz",
+                                          "10 GHz",  "24 GHz", "47 GHz",  "76 GHz",  "120 GHz", "144 GHz", "248 GHz"};
+    for (size_t i = 0; i < 15; i++) {
+        if (is_text(text, bands[i], strlen(bands[i]))) return true;
+    }
+    return false;
+}
+
+static bool is_up_to(Text text, size_t digits) {
+    uint64_t value;
+    return is_number(text, digits, &value);
+}
+
+static bool is_count_and_multiplier(Text text) {
+    Text parts[2];
+    return cut(text, parts, 2) && is_up_to(parts[0], 4) && is_multiplier(parts[1]);
+}
+
+static bool is_count_bonus_multiplier(Text text) {
+    Text parts[3];
+    return cut(text, parts, 3) && is_up_to(parts[0], 4) && is_up_to(parts[1], 4) && is_multiplier(parts[2]);
+}
+
+static bool is_best_contact(Text text) {
+    Text parts[3];
+    if (!cut(text, parts, 3)) return false;
+    if (parts[0].length != 0 && !is_call(parts[0])) return false;
+    if (parts[1].length != 0 && !is_locator(parts[1])) return false;
+    return is_up_to(parts[2], 6);
+}
+
+static bool is_call_or_empty(Text text) { return text.length == 0 || is_call(text); }
+static bool is_up_to_7(Text text) { return is_up_to(text, 7); }
+static bool is_up_to_9(Text text) { return is_up_to(text, 9); }
+static bool is_up_to_15(Text text) { return is_up_to(text, 15); }
+static bool is_free(Text text) {
+    (void)text;
+    return true;
+}
+
+static const struct {
+    char name[KEYWORD_LENGTH + 1];
+    bool (*holds)(Text);
+} KEYWORD[KEYWORDS] = {
+    {"TName", is_free},
+    {"TDate", is_two_dates},
+    {"PCall", is_call},
+    {"PWWLo", is_locator},
+    {"PExch", is_exchange},
+    {"PAdr1", is_free},
+    {"PAdr2", is_free},
+    {"PSect", is_free},
+    {"PBand", is_band},
+    {"PClub", is_call_or_empty},
+    {"RName", is_free},
+    {"RCall", is_call_or_empty},
+    {"RAdr1", is_free},
+    {"RAdr2", is_free},
+    {"RPoCo", is_free},
+    {"RCity", is_free},
+    {"RCoun", is_free},
+    {"RPhon", is_free},
+    {"RHBBS", is_free},
+    {"MOpe1", is_calls},
+    {"MOpe2", is_calls},
+    {"STXEq", is_free},
+    {"SPowe", is_free},
+    {"SRXEq", is_free},
+    {"SAnte", is_free},
+    {"SAntH", is_free},
+    {"CQSOs", is_count_and_multiplier},
+    {"CQSOP", is_up_to_9},
+    {"CWWLs", is_count_bonus_multiplier},
+    {"CWWLB", is_up_to_7},
+    {"CExcs", is_count_bonus_multiplier},
+    {"CExcB", is_up_to_7},
+    {"CDXCs", is_count_bonus_multiplier},
+    {"CDXCB", is_up_to_7},
+    {"CToSc", is_up_to_15},
+    {"CODXC", is_best_contact},
+};
+
+/* ---- Reading ---- */
+
+static SumpquinceRefusal refuse_line(const Reader *reader, uint32_t number) { return refuse(number, reader->line, 0); }
+
+/* Cuts out the line due, and leaves the reader after its CR LF. The line's number stays until the next is cut. */
+static bool next_line(Reader *reader, Text *line) {
+    const uint8_t *start = reader->log + reader->at;
+    size_t left = reader->length - reader->at;
+    size_t most = left < LONGEST_LINE ? left : LONGEST_LINE;
+    size_t i = 0;
+    reader->line++;
+    while (i < most && is_between(start[i], 32, 127)) i++;
+    if (left - i < 2 || start[i] != '\r' || start[i + 1] != '\n') return false;
+    line->at = start;
+    line->length = i;
+    reader->at += i + 2;
+    return true;
+}
+
+static SumpquinceRefusal read_exact_line(Reader *reader, const char *wanted) {
+    Text line;
+    if (!next_line(reader, &line)) return refuse_line(reader, 2);
+    if (!is_text(line, wanted, strlen(wanted))) return refuse_line(reader, 3);
+    return ACCEPTED;
+}
+
+static SumpquinceRefusal read_keyword(Reader *reader, size_t keyword, Log *out) {
+    Text line;
+    if (!next_line(reader, &line)) return refuse_line(reader, 2);
+    if (line.length < KEYWORD_LENGTH + 1 || memcmp(line.at, KEYWORD[keyword].name, KEYWORD_LENGTH) != 0 || line.at[KEYWORD_LENGTH] != '=') {
+        return refuse_line(reader, 3);
+    }
+    Text argument = {line.at + KEYWORD_LENGTH + 1, line.length - KEYWORD_LENGTH - 1};
+    if (!KEYWORD[keyword].holds(argument)) return refuse_line(reader, 4);
+    out->argument[keyword] = (uint16_t)(argument.at - reader->log);
+    out->argument_length[keyword] = (uint16_t)argument.length;
+    return ACCEPTED;
+}
+
+/* Passes over the remarks, and reads the number of the count line that ends them. */
+static SumpquinceRefusal read_count(Reader *reader, size_t *count) {
+    static const char start[] = "[QSORecords;";
+    const size_t start_length = sizeof start - 1;
+    Text line;
+    do {
+        if (!next_line(reader, &line)) return refuse_line(reader, 2);
+    } while (line.length < start_length || memcmp(line.at, start, start_length) != 0);
+    Text rest = {line.at + start_length, line.length - start_length};
+    if (rest.length == 0 || rest.at[rest.length - 1] != ']') return refuse_line(reader, 4);
+    rest.length--;
+    uint64_t number;
+    if (!is_number(rest, 3, &number)) return refuse_line(reader, 4);
+    *count = (size_t)number;
+    return ACCEPTED;
+}
+
+/* Cuts a record at its semicolons; says whether there are as many as there should be. */
+static bool cut_record(Text line, Text *fields) {
+    size_t start = 0, found = 0;
+    for (size_t i = 0; i < line.length; i++) {
+        if (line.at[i] != ';') continue;
+        if (found == FIELDS - 1) return false;
+        fields[found].at = line.at + start;
+        fields[found].length = i - start;
+        found++;
+        start = i + 1;
+    }
+    fields[found].at = line.at + start;
+    fields[found].length = line.length - start;
+    return found == FIELDS - 1;
+}
+
+/* The number of the first field that breaks its rule, from 1, or 0 if none does. */
+static uint32_t first_bad_field(const Text *fields, bool error, uint64_t *points) {
+    if (!is_short_date(fields[DATE]) && !(error && fields[DATE].length == 0)) return DATE + 1;
+    if (!is_time(fields[TIME])) return TIME + 1;
+    if (!is_call(fields[CALL])) return CALL + 1;
+    if (fields[MODE].length > 1 || !all_digits(fields[MODE])) return MODE + 1;
+    if (!is_report(fields[SENT_REPORT])) return SENT_REPORT + 1;
+    if (!is_contact_number(fields[SENT_NUMBER])) return SENT_NUMBER + 1;
+    if (!is_report(fields[GOT_REPORT])) return GOT_REPORT + 1;
+    if (!is_contact_number(fields[GOT_NUMBER])) return GOT_NUMBER + 1;
+    if (!is_exchange(fields[EXCHANGE])) return EXCHANGE + 1;
+    if (fields[LOCATOR].length != 0 && !is_locator(fields[LOCATOR])) return LOCATOR + 1;
+    if (!is_number(fields[POINTS], 6, points) || (error && *points != 0)) return POINTS + 1;
+    if (!is_mark(fields[NEW_EXCHANGE], 'N')) return NEW_EXCHANGE + 1;
+    if (!is_mark(fields[NEW_SQUARE], 'N')) return NEW_SQUARE + 1;
+    if (!is_mark(fields[NEW_COUNTRY], 'N')) return NEW_COUNTRY + 1;
+    if (!is_mark(fields[DUPLICATE], 'D')) return DUPLICATE + 1;
+    return 0;
+}
+
+static SumpquinceRefusal read_record(Reader *reader, Record *record) {
+    if (reader->at == reader->length) return refuse(6, reader->line + 1, 0);
+    Text line, fields[FIELDS];
+    if (!next_line(reader, &line)) return refuse_line(reader, 2);
+    if (!cut_record(line, fields)) return refuse(5, reader->line, 0);
+    uint64_t points = 0;
+    record->error = is_error_call(fields[CALL]);
+    uint32_t bad = first_bad_field(fields, record->error, &points);
+    if (bad != 0) return refuse(5, reader->line, bad);
+    record->points = (uint32_t)points;
+    record->call = (uint16_t)(fields[CALL].at - reader->log);
+    record->call_length = (uint8_t)fields[CALL].length;
+    record->exchange = (uint16_t)(fields[EXCHANGE].at - reader->log);
+    record->exchange_length = (uint8_t)fields[EXCHANGE].length;
+    record->locator = (uint16_t)(fields[LOCATOR].at - reader->log);
+    record->locator_length = (uint8_t)fields[LOCATOR].length;
+    record->tail = (uint16_t)(fields[POINTS].at - reader->log);
+    record->end = (uint16_t)(line.at + line.length - reader->log);
+    record->new_country = fields[NEW_COUNTRY].length != 0;
+    return ACCEPTED;
+}
+
+static SumpquinceRefusal read_log(const uint8_t *bytes, size_t length, Log *out) {
+    if (length > LONGEST_LOG) return refuse(1, 0, 0);
+    Reader reader = {bytes, length, 0, 0};
+    SumpquinceRefusal refusal = read_exact_line(&reader, "[REG1TEST;1]");
+    for (size_t k = 0; k < KEYWORDS && refusal.number == 0; k++) refusal = read_keyword(&reader, k, out);
+    if (refusal.number == 0) refusal = read_exact_line(&reader, "[Remarks]");
+    if (refusal.number == 0) refusal = read_count(&reader, &out->count);
+    if (refusal.number != 0) return refusal;
+    for (size_t i = 0; i < out->count; i++) {
+        refusal = read_record(&reader, &out->records[i]);
+        if (refusal.number != 0) return refusal;
+    }
+    if (reader.at != length) return refuse(6, reader.line + 1, 0);
+    return ACCEPTED;
+}
+
+/* ---- Judging ---- */
+
+/* Different texts of a log, by where they lie. */
+typedef struct {
+    size_t count;
+    uint16_t at[MOST_RECORDS];
+    uint8_t length[MOST_RECORDS];
+} Seen;
+
+/* A loop of our own: calls and exchanges are so short that a call of memcmp costs more than it saves. */
+static bool same(const uint8_t *a, const uint8_t *b, size_t length) {
+    for (size_t i = 0; i < length; i++) {
+        if (a[i] != b[i]) return false;
+    }
+    return true;
+}
+
+static bool has(const Seen *seen, const uint8_t *log, size_t at, size_t length) {
+    for (size_t i = 0; i < seen->count; i++) {
+        if (seen->length[i] == length && same(log + seen->at[i], log + at, length)) return true;
+    }
+    return false;
+}
+
+static void add(Seen *seen, size_t at, size_t length) {
+    seen->at[seen->count] = (uint16_t)at;
+    seen->length[seen->count] = (uint8_t)length;
+    seen->count++;
+}
+
+/* Adds a text unless it is empty or there already; says whether it is new. */
+static bool add_new(Seen *seen, const uint8_t *log, size_t at, size_t length) {
+    if (length == 0 || has(seen, log, at, length)) return false;
+    add(seen, at, length);
+    return true;
+}
+
+static uint8_t judge_credited(const uint8_t *bytes, const Record *record, Seen *squares, Seen *exchanges) {
+    uint8_t verdict = SUMPQUINCE_CREDITED;
+    size_t square_length = record->locator_length == 0 ? 0 : SQUARE_LENGTH;
+    if (add_new(exchanges, bytes, record->exchange, record->exchange_length)) verdict |= SUMPQUINCE_NEW_EXCHANGE;
+    if (add_new(squares, bytes, record->locator, square_length)) verdict |= SUMPQUINCE_NEW_SQUARE;
+    if (record->new_country) verdict |= SUMPQUINCE_NEW_COUNTRY;
+    return verdict;
+}
+
+/* The number of an argument's part, counted from 0; the argument is known to follow its rule. */
+static uint64_t declared(const uint8_t *bytes, const Log *log, size_t keyword, size_t part) {
+    Text parts[3];
+    Text text = {bytes + log->argument[keyword], log->argument_length[keyword]};
+    uint64_t value = 0;
+    if (cut(text, parts, 3)) is_number(parts[part], 4, &value);
+    return value;
+}
+
+static void sum_up(const uint8_t *bytes, const Log *log, SumpquinceJudgement *sums) {
+    sums->square_bonus = sums->squares * declared(bytes, log, CWWLS, 1);
+    sums->exchange_bonus = sums->exchanges * declared(bytes, log, CEXCS, 1);
+    sums->country_bonus = sums->countries * declared(bytes, log, CDXCS, 1);
+    sums->total = (sums->points + sums->square_bonus + sums->exchange_bonus + sums->country_bonus) * declared(bytes, log, CWWLS, 2) *
+                  declared(bytes, log, CEXCS, 2) * declared(bytes, log, CDXCS, 2);
+}
+
+static void judge_log(const uint8_t *bytes, const Log *log, uint8_t *verdicts, SumpquinceJudgement *sums) {
+    Seen calls, squares, exchanges;
+    calls.count = squares.count = exchanges.count = 0;
+    for (size_t i = 0; i < log->count; i++) {
+        const Record *record = &log->records[i];
+        if (record->error) {
+            verdicts[i] = SUMPQUINCE_ERROR;
+            sums->errors++;
+        } else if (has(&calls, bytes, record->call, record->call_length)) {
+            verdicts[i] = SUMPQUINCE_DUPLICATE;
+            sums->duplicates++;
+        } else if (record->points == 0) {
+            verdicts[i] = SUMPQUINCE_VOID;
+            sums->voids++;
+        } else {
+            add(&calls, record->call, record->call_length);
+            verdicts[i] = judge_credited(bytes, record, &squares, &exchanges);
+            sums->points += record->points;
+            sums->countries += record->new_country;
+        }
+    }
+    sums->credited = calls.count;
+    sums->squares = squares.count;
+    sums->exchanges = exchanges.count;
+    sum_up(bytes, log, sums);
+}
+
+/* ---- Writing back ---- */
+
+/* A claim that is written anew: the number at the start of a keyword's argument. */
+typedef struct {
+    size_t keyword;
+    uint64_t value;
+} Claim;
+
+enum { CLAIMS = 9 };
+
+/* In the order in which they stand in a log. */
+static void list_claims(const SumpquinceJudgement *sums, Claim *claims) {
+    const Claim list[CLAIMS] = {{CQSOS, sums->credited},  {CQSOP, sums->points},          {CWWLS, sums->squares},
+                                {CWWLB, sums->square_bonus}, {CEXCS, sums->exchanges},    {CEXCB, sums->exchange_bonus},
+                                {CDXCS, sums->countries}, {CDXCB, sums->country_bonus},   {CTOSC, sums->total}};
+    memcpy(claims, list, sizeof list);
+}
+
+static size_t digits_of(uint64_t value) {
+    size_t digits = 1;
+    for (; value >= 10; value /= 10) digits++;
+    return digits;
+}
+
+/* How many digits the argument begins with. Its line's CR ends them at the latest. */
+static size_t claimed_digits(const uint8_t *argument) {
+    size_t i = 0;
+    while (is_digit(argument[i])) i++;
+    return i;
+}
+
+static uint8_t class_of(uint8_t verdict) { return verdict & SUMPQUINCE_CLASS; }
+
+/* How many digits of points stand at the start of the tail that is written for a record. */
+static size_t points_length(const uint8_t *bytes, const Record *record, uint8_t verdict) {
+    return class_of(verdict) == SUMPQUINCE_DUPLICATE ? 1 : claimed_digits(bytes + record->tail);
+}
+
+static size_t marks_in(uint8_t verdict) {
+    return (size_t)((verdict & SUMPQUINCE_NEW_EXCHANGE) != 0) + (size_t)((verdict & SUMPQUINCE_NEW_SQUARE) != 0) +
+           (size_t)((verdict & SUMPQUINCE_NEW_COUNTRY) != 0) + (size_t)(class_of(verdict) == SUMPQUINCE_DUPLICATE);
+}
+
+static size_t measure(const uint8_t *bytes, size_t length, const Log *log, const uint8_t *verdicts, const Claim *claims) {
+    size_t result = length;
+    for (size_t i = 0; i < CLAIMS; i++) {
+        result -= claimed_digits(bytes + log->argument[claims[i].keyword]);
+        result += digits_of(claims[i].value);
+    }
+    for (size_t i = 0; i < log->count; i++) {
+        const Record *record = &log->records[i];
+        result -= (size_t)(record->end - record->tail);
+        result += points_length(bytes, record, verdicts[i]) + (FIELDS - 1 - POINTS) + marks_in(verdicts[i]);
+    }
+    return result;
+}
+
+static uint8_t *put_bytes(uint8_t *to, const uint8_t *from, size_t length) {
+    memcpy(to, from, length);
+    return to + length;
+}
+
+static uint8_t *put_number(uint8_t *to, uint64_t value) {
+    size_t digits = digits_of(value);
+    for (size_t i = digits; i > 0; i--) {
+        to[i - 1] = (uint8_t)('0' + value % 10);
+        value /= 10;
+    }
+    return to + digits;
+}
+
+static uint8_t *put_mark(uint8_t *to, bool marked, uint8_t mark) {
+    *to++ = ';';
+    if (marked) *to++ = mark;
+    return to;
+}
+
+/* From the points to the last field. */
+static uint8_t *put_tail(uint8_t *to, const uint8_t *bytes, const Record *record, uint8_t verdict) {
+    bool duplicate = class_of(verdict) == SUMPQUINCE_DUPLICATE;
+    if (duplicate) {
+        *to++ = '0';
+    } else {
+        to = put_bytes(to, bytes + record->tail, claimed_digits(bytes + record->tail));
+    }
+    to = put_mark(to, (verdict & SUMPQUINCE_NEW_EXCHANGE) != 0, 'N');
+    to = put_mark(to, (verdict & SUMPQUINCE_NEW_SQUARE) != 0, 'N');
+    to = put_mark(to, (verdict & SUMPQUINCE_NEW_COUNTRY) != 0, 'N');
+    return put_mark(to, duplicate, 'D');
+}
+
+static void write_log(const uint8_t *bytes, size_t length, const Log *log, const uint8_t *verdicts, const Claim *claims, uint8_t *to) {
+    size_t copied = 0; /* up to here the log has been dealt with */
+    for (size_t i = 0; i < CLAIMS; i++) {
+        size_t start = log->argument[claims[i].keyword];
+        to = put_bytes(to, bytes + copied, start - copied);
+        to = put_number(to, claims[i].value);
+        copied = start + claimed_digits(bytes + start);
+    }
+    for (size_t i = 0; i < log->count; i++) {
+        const Record *record = &log->records[i];
+        to = put_bytes(to, bytes + copied, record->tail - copied);
+        to = put_tail(to, bytes, record, verdicts[i]);
+        copied = record->end;
+    }
+    put_bytes(to, bytes + copied, length - copied);
+}
+
+/* ---- The face ---- */
+
+SumpquinceReading sumpquince_read(const uint8_t *log, size_t log_len) {
+    SumpquinceReading answer = {ACCEPTED, 0};
+    Log parts;
+    answer.refusal = read_log(log, log_len, &parts);
+    if (answer.refusal.number == 0) answer.records = parts.count;
+    return answer;
+}
+
+SumpquinceView sumpquince_view(const uint8_t *log, size_t log_len, size_t keyword) {
+    SumpquinceView answer = {ACCEPTED, 0, 0};
+    Log parts;
+    if (keyword < 1 || keyword > KEYWORDS) {
+        answer.refusal = refuse(9, 0, 0);
+        return answer;
+    }
+    answer.refusal = read_log(log, log_len, &parts);
+    if (answer.refusal.number == 0) {
+        answer.start = parts.argument[keyword - 1];
+        answer.length = parts.argument_length[keyword - 1];
+    }
+    return answer;
+}
+
+SumpquinceJudgement sumpquince_judge(const uint8_t *log, size_t log_len, uint8_t *verdicts, size_t verdicts_len) {
+    SumpquinceJudgement answer = {ACCEPTED, 0, 0, 0, 0, 0, 0, 0, 0, 0, 0, 0, 0};
+    Log parts;
+    answer.refusal = read_log(log, log_len, &parts);
+    if (answer.refusal.number == 0 && verdicts_len < parts.count) answer.refusal = refuse(7, 0, 0);
+    if (answer.refusal.number == 0) judge_log(log, &parts, verdicts, &answer);
+    return answer;
+}
+
+SumpquinceWritten sumpquince_write(const uint8_t *log, size_t log_len, uint8_t *out, size_t out_len) {
+    SumpquinceWritten answer = {ACCEPTED, 0};
+    SumpquinceJudgement sums = {ACCEPTED, 0, 0, 0, 0, 0, 0, 0, 0, 0, 0, 0, 0};
+    Log parts;
+    uint8_t verdicts[MOST_RECORDS];
+    Claim claims[CLAIMS];
+    answer.refusal = read_log(log, log_len, &parts);
+    if (answer.refusal.number != 0) return answer;
+    judge_log(log, &parts, verdicts, &sums);
+    list_claims(&sums, claims);
+    size_t length = measure(log, log_len, &parts, verdicts, claims);
+    if (length > LONGEST_LOG || length > out_len) {
+        answer.refusal = refuse(8, 0, 0);
+        return answer;
+    }
+    write_log(log, log_len, &parts, verdicts, claims, out);
+    answer.length = length;
+    return answer;
+}

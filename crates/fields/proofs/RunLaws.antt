@@ -1,0 +1,226 @@
+-- Laws of the fields that are a run of one kind of characters: how long the field is, and what its rule says of that.
+-- Assumes nothing.
+use Prim.Native.Nat.{ℕ, zero, suc, _+_, _-_, _≤_, _<_}
+use native.Mathlib.Omega.{arith}
+use native.Mathlib.Nat.{not-suc-le-zero}
+use mathlib.Core.Path.{_≡_, refl, sym, ap, _∙_}
+use mathlib.Core.Bool.{Bool, true, false, not, _&&_, and-true, and-false, true≢false}
+use mathlib.Core.List.{[], _∷_}
+use lib.Dec.{leb, ltb, eqb}
+use lib.ListN.{length, take, drop, getD, length-take, length-drop}
+use borrow.Author.Tests.{le-leb, lt-leb, le-ltb, lt-ltb, leb-true, leb-false, ne-eqb, not-true, not-false}
+use Rattle.rules.specs.Text.{digit, Text, span, all, same}
+use Rattle.rules.specs.Rules.{base}
+use Rattle.rules.specs.Fields.{exchange, exchangeCharacter, call, serial, callCharacter, errorCall}
+use Rattle.fields.specs.declared.CallRead.{CallRead}
+use Rattle.fields.specs.declared.CallRead.the-variants as CallRead
+use Rattle.fields.specs.declared.ExchangeRead.{ExchangeRead}
+use Rattle.fields.specs.declared.ExchangeRead.the-variants as ExchangeRead
+use Rattle.fields.specs.declared.SerialRead.{SerialRead}
+use Rattle.fields.specs.declared.SerialRead.the-variants as SerialRead
+use Rattle.fields.specs.Field.{exchangeAt, serialAt, inField, textAt, endsAt, endOf, callAt}
+use Rattle.fields.proofs.FieldLaws.{next, run-is-field, run-is-as-long}
+
+-- The run from a place on ended: the field is no run of the kind, or it is, and ends there.
+pub record Run (f : ℕ → Bool) (s : Text) (at end : ℕ) : Type 0 where
+  pub kind : all f (textAt s at) ≡ true
+  pub ending : endOf s at ≡ end
+  pub count : length (textAt s at) ≡ end - at
+
+module _ (f : ℕ → Bool) (apart : f 59 ≡ false) (s : Text) (at end : ℕ) (h : end ≡ at + span f (drop at s)) where
+  ended : endsAt s end ≡ all f (textAt s at)
+  ended = ap (endsAt s) h ∙ run-is-field f apart s at
+
+  pub no-run : {b : Bool} → b ≡ endsAt s end → not b ≡ true → all f (textAt s at) ≡ false
+  no-run q e = sym ended ∙ sym q ∙ not-true _ e
+
+  pub run : {b : Bool} → b ≡ endsAt s end → not b ≡ false → Run f s at end
+  unfolding endOf
+  run q e =
+      let k : all f (textAt s at) ≡ true = sym ended ∙ sym q ∙ not-false _ e in
+      let l : endOf s at ≡ end = run-is-as-long f apart s at k ∙ sym h in
+      record { kind = k; ending = l; count = omega arith }
+
+-- The call `ERROR`.
+same-step : {n m : ℕ} (b d : Bool) → (b && d) ≡ true → (d ≡ true → n ≡ m) → suc n ≡ suc m
+same-step true d e h = ap suc (h e)
+same-step false d e h = absurd (true≢false (sym e))
+
+same-length : (t u : Text) → same t u ≡ true → length t ≡ length u
+unfolding same
+same-length [] [] e = refl
+same-length [] (d ∷ u) e = absurd (true≢false (sym e))
+same-length (c ∷ t) [] e = absurd (true≢false (sym e))
+same-length (c ∷ t) (d ∷ u) e = same-step (eqb c d) (same t u) e (same-length t u)
+
+pub other-length : (t : Text) → (length t ≡ 5 → ⊥) → false ≡ same t errorCall
+unfolding errorCall
+other-length t h = by (same t errorCall) refl
+  where
+    by : (b : Bool) → same t errorCall ≡ b → false ≡ b
+    by true e = absurd (h (same-length t errorCall e))
+    by false e = refl
+
+take-own : (n : ℕ) (t : Text) → take n t ≡ take (length (take n t)) t
+take-own zero t = refl
+take-own (suc n) [] = refl
+take-own (suc n) (c ∷ t) = ap (λ (u : Text). c ∷ u) (take-own n t)
+
+pub text-of-length : (s : Text) (at n : ℕ) → length (textAt s at) ≡ n → textAt s at ≡ take n (drop at s)
+unfolding textAt
+text-of-length s at n e = take-own (span inField (drop at s)) (drop at s) ∙ ap (λ (k : ℕ). take k (drop at s)) e
+
+-- A field that is not empty lies within the line.
+pub text-within : (s : Text) (at : ℕ) → 0 < length (textAt s at) → at + length (textAt s at) ≤ length s
+unfolding textAt
+text-within s at h =
+    omega (arith, length-take (span inField (drop at s)) (drop at s), length-drop at s)
+
+next-at : (s : Text) (i j : ℕ) → i < length s → i + 1 ≡ j → drop i s ≡ getD s i 0 ∷ drop j s
+next-at s i j h e = next s i h ∙ ap (λ (k : ℕ). getD s i 0 ∷ drop k s) e
+
+pub five : (s : Text) (i : ℕ) → i + 5 ≤ length s
+    → take 5 (drop i s)
+    ≡ getD s i 0 ∷ getD s (i + 1) 0 ∷ getD s (i + 2) 0 ∷ getD s (i + 3) 0 ∷ getD s (i + 4) 0 ∷ []
+five s i h =
+    rw (
+      next-at s i (i + 1) (omega arith) refl,
+      next-at s (i + 1) (i + 2) (omega arith) (omega arith),
+      next-at s (i + 2) (i + 3) (omega arith) (omega arith),
+      next-at s (i + 3) (i + 4) (omega arith) (omega arith),
+      next-at s (i + 4) (i + 5) (omega arith) (omega arith),
+    )
+
+pub error-is : (s : Text) (i : ℕ) → i + 5 ≤ length s
+    → same (take 5 (drop i s)) errorCall
+    ≡ (eqb (getD s i 0) 69
+    && (eqb (getD s (i + 1) 0) 82 && (eqb (getD s (i + 2) 0) 82 && (eqb (getD s (i + 3) 0) 79 && eqb (getD s (i + 4) 0) 82))))
+unfolding same errorCall
+error-is s i h = rw (five s i h, and-true (eqb (getD s (i + 4) 0) 82))
+
+-- A call.
+pub call-kind : (s : Text) (at : ℕ) → all callCharacter (textAt s at) ≡ false → CallRead.Bad ≡ callAt s at
+unfolding callAt call
+call-kind s at e = rw (e, and-false (leb 3 (length (textAt s at)) && leb (length (textAt s at)) 14))
+
+module _ {s : Text} {at end : ℕ} (r : Run callCharacter s at end) where
+  pub call-short : end - at < 3 → CallRead.Bad ≡ callAt s at
+  unfolding callAt call
+  call-short h = rw (lt-leb 3 (length (textAt s at)) (omega arith))
+
+  pub call-long : 14 < end - at → CallRead.Bad ≡ callAt s at
+  unfolding callAt call
+  call-long h = rw (lt-leb (length (textAt s at)) 14 (omega arith), and-false (leb 3 (length (textAt s at))))
+
+  call-read : 3 ≤ end - at → end - at ≤ 14 → CallRead.Call end (same (textAt s at) errorCall) ≡ callAt s at
+  unfolding callAt call
+  call-read h l =
+      rw (
+        le-leb 3 (length (textAt s at)) (omega arith),
+        le-leb (length (textAt s at)) 14 (omega arith),
+        r .kind,
+        r .ending,
+      )
+
+  pub call-other : 3 ≤ end - at → end - at ≤ 14 → (end - at ≡ 5 → ⊥) → CallRead.Call end false ≡ callAt s at
+  call-other h l n =
+      ap (CallRead.Call end) (other-length (textAt s at) (λ e. n (sym (r .count) ∙ e))) ∙ call-read h l
+
+  pub call-five : {b : Bool} → end - at ≡ 5 → b ≡ same (take 5 (drop at s)) errorCall → CallRead.Call end b ≡ callAt s at
+  call-five e h =
+      ap (CallRead.Call end) (h ∙ ap (λ (t : Text). same t errorCall) (sym (text-of-length s at 5 (r .count ∙ e))))
+      ∙ call-read (omega arith) (omega arith)
+
+  pub five-within : end - at ≡ 5 → at + 5 ≤ length s
+  five-within e = omega (arith, text-within s at (omega arith))
+
+-- A serial number.
+serial-other : (t : Text) → all digit t ≡ false → serial t ≡ false
+unfolding serial all
+serial-other [] e = absurd (true≢false e)
+serial-other (c ∷ t) e = rw (e, and-false (leb 3 (suc (length t)) && leb (suc (length t)) 4))
+
+pub serial-kind : (s : Text) (at : ℕ) → all digit (textAt s at) ≡ false → SerialRead.Bad ≡ serialAt s at
+unfolding serialAt
+serial-kind s at e = rw (serial-other (textAt s at) e)
+
+serial-not : (t : Text) → 0 < length t → (leb 3 (length t) && leb (length t) 4) ≡ false → serial t ≡ false
+unfolding serial
+serial-not [] h e = absurd (not-suc-le-zero h)
+serial-not (c ∷ t) h e = rw e
+
+serial-kept : (t : Text) → 3 ≤ length t → length t ≤ 4 → all digit t ≡ true → serial t ≡ true
+unfolding serial
+serial-kept [] h l e = refl
+serial-kept (c ∷ t) h l e = rw (le-leb 3 (suc (length t)) h, le-leb (suc (length t)) 4 l, e)
+
+serial-none : (t : Text) → length t ≡ 0 → serial t ≡ true
+unfolding serial
+serial-none [] e = refl
+serial-none (c ∷ t) e = absurd (omega arith)
+
+module _ {s : Text} {at end : ℕ} (r : Run digit s at end) where
+  serial-bad : serial (textAt s at) ≡ false → SerialRead.Bad ≡ serialAt s at
+  unfolding serialAt
+  serial-bad e = rw e
+
+  serial-read : serial (textAt s at) ≡ true → SerialRead.Serial end ≡ serialAt s at
+  unfolding serialAt
+  serial-read e = rw (e, r .ending)
+
+  pub serial-empty : end - at ≡ 0 → SerialRead.Serial end ≡ serialAt s at
+  serial-empty h = serial-read (serial-none (textAt s at) (r .count ∙ h))
+
+  pub serial-short : (end - at ≡ 0 → ⊥) → end - at < 3 → SerialRead.Bad ≡ serialAt s at
+  serial-short n h =
+      serial-bad
+      (serial-not (textAt s at) (omega arith) (rw (lt-leb 3 (length (textAt s at)) (omega arith))))
+
+  pub serial-long : 4 < end - at → SerialRead.Bad ≡ serialAt s at
+  serial-long h =
+      serial-bad
+      (serial-not (textAt s at) (omega arith)
+      (rw (lt-leb (length (textAt s at)) 4 (omega arith), and-false (leb 3 (length (textAt s at))))))
+
+  pub serial-digits : 3 ≤ end - at → end - at ≤ 4 → SerialRead.Serial end ≡ serialAt s at
+  serial-digits h l = serial-read (serial-kept (textAt s at) (omega arith) (omega arith) (r .kind))
+
+-- An exchange.
+pub exchange-kind : (s : Text) (at : ℕ) → all exchangeCharacter (textAt s at) ≡ false → ExchangeRead.Bad ≡ exchangeAt s at
+unfolding exchangeAt exchange base
+exchange-kind s at e = rw (e, and-false (leb (length (textAt s at)) 6))
+
+module _ {s : Text} {at end : ℕ} (r : Run exchangeCharacter s at end) where
+  pub exchange-long : 6 < end - at → ExchangeRead.Bad ≡ exchangeAt s at
+  unfolding exchangeAt exchange base
+  exchange-long h = rw (lt-leb (length (textAt s at)) 6 (omega arith))
+
+  pub exchange-read : end - at ≤ 6 → ExchangeRead.Exchange end ≡ exchangeAt s at
+  unfolding exchangeAt exchange base
+  exchange-read h = rw (le-leb (length (textAt s at)) 6 (omega arith), r .kind, r .ending)
+
+-- An exchange's characters: the allowed ones, but for the semicolon and the small letters.
+module _ (b : ℕ) where
+  pub exchange-below : b < 32 → false ≡ exchangeCharacter b
+  exchange-below h = rw (lt-leb 32 b h)
+
+  pub exchange-above : 127 < b → false ≡ exchangeCharacter b
+  exchange-above h = rw (lt-leb b 127 h, and-false (leb 32 b))
+
+  pub exchange-semicolon : b ≡ 59 → false ≡ exchangeCharacter b
+  exchange-semicolon e = rw e
+
+  pub exchange-first : 32 ≤ b → b < 97 → (b ≡ 59 → ⊥) → true ≡ exchangeCharacter b
+  exchange-first h l n =
+      rw (le-leb 32 b h, le-leb b 127 (omega arith), ne-eqb b 59 n, lt-leb 97 b l)
+
+  above : ltb 122 b ≡ not (leb b 122)
+  above = by (leb b 122) refl
+    where
+      by : (x : Bool) → leb b 122 ≡ x → ltb 122 b ≡ not x
+      by true e = le-ltb 122 b (leb-true b 122 e)
+      by false e = lt-ltb 122 b (leb-false b 122 e)
+
+  pub exchange-last : b ≤ 127 → 97 ≤ b → ltb 122 b ≡ exchangeCharacter b
+  exchange-last h l =
+      above ∙ rw (le-leb 32 b (omega arith), le-leb b 127 h, ne-eqb b 59 (omega arith), le-leb 97 b l)

@@ -1,0 +1,216 @@
+-- Laws of dates.
+-- Assumes nothing.
+use Prim.Native.Nat.{ℕ, zero, suc, _+_, _*_, _-_, _/_, _%_, _≤_, _<_}
+use native.Mathlib.Omega.{arith}
+use mathlib.Core.Path.{_≡_, refl, sym, ap, _∙_}
+use mathlib.Core.Bool.{Bool, true, false, not, _&&_, true≢false}
+use mathlib.Core.List.{[], _∷_}
+use lib.Dec.{leb, eqb, leb·zero}
+use lib.ListN.{length, take, drop, length-drop}
+use lib.Seq.{drop-drop}
+use borrow.Author.Tests.{not-true, not-false, eq-eqb, ne-eqb, eqb-true, le-leb, lt-leb}
+use Rattle.rules.specs.Text.{Text, digit, all, empty, value}
+use Rattle.rules.specs.Fields.{dayExists, fullYear, shortDate, longDate}
+use Rattle.fields.specs.Field.{textAt, endsAt}
+use Rattle.figures.specs.declared.DigitsRead.{DigitsRead}
+use Rattle.figures.specs.declared.DateRead.{DateRead}
+use Rattle.figures.specs.declared.DateRead.the-variants as DateRead
+use Rattle.figures.specs.declared.LongDateRead.{LongDateRead}
+use Rattle.figures.specs.declared.LongDateRead.the-variants as LongDateRead
+use Rattle.figures.specs.Figure.{digitsAt, dateAt, longDateAt}
+use Rattle.figures.proofs.Choices.{both-second}
+use Rattle.figures.proofs.NumberLaws.{value-split, value-below, is-read, not-read, end-is-length}
+
+all-drop : (k : ℕ) (t : Text) → all digit t ≡ true → all digit (drop k t) ≡ true
+unfolding all
+all-drop zero t h = h
+all-drop (suc k) [] h = refl
+all-drop (suc k) (c ∷ t) h = all-drop k t (both-second (digit c) (all digit t) h)
+
+-- The year, the month and the day of a date's digits, from the number that they write.
+module _ (k : ℕ) (t : Text) (l : length t ≡ k + 4) (h : all digit t ≡ true) where
+  rest : length (drop k t) ≡ 4
+  rest = omega (arith, length-drop k t)
+
+  last : length (drop (k + 2) t) ≡ 2
+  last = omega (arith, length-drop (k + 2) t)
+
+  whole-is : value t ≡ value (take k t) * 10000 + value (drop k t)
+  whole-is = rw rest at (value-split k t)
+
+  rest-is : value (drop k t) ≡ value (take 2 (drop k t)) * 100 + value (drop (k + 2) t)
+  rest-is = rw (drop-drop, last) at (value-split 2 (drop k t))
+
+  rest-below : value (drop k t) < 10000
+  rest-below = rw rest at (value-below (drop k t) (all-drop k t h))
+
+  last-below : value (drop (k + 2) t) < 100
+  last-below = rw last at (value-below (drop (k + 2) t) (all-drop (k + 2) t h))
+
+  pub year-is : value (take k t) ≡ value t / 10000
+  year-is = omega (arith, whole-is, rest-below)
+
+  pub month-is : value (take 2 (drop k t)) ≡ value t / 100 % 100
+  month-is = omega (arith, whole-is, rest-is, rest-below, last-below)
+
+  pub day-is : value (drop (k + 2) t) ≡ value t % 100
+  day-is = omega (arith, whole-is, rest-is, last-below)
+
+-- A date of so many digits is bad where the field does not end behind so many, and where it has another length.
+unended : (n : ℕ) (t : Text) → (all digit t && leb (length t) n) ≡ false → (eqb (length t) n && all digit t) ≡ false
+unended n t h = by (eqb (length t) n) refl (all digit t) h
+  where
+    by : (b : Bool) → eqb (length t) n ≡ b → (d : Bool) → (d && leb (length t) n) ≡ false → (b && d) ≡ false
+    by true e true h = sym (le-leb (length t) n (omega (arith, eqb-true (length t) n e))) ∙ h
+    by true e false h = refl
+    by false e d h = refl
+
+short-unended : (t : Text) → (all digit t && leb (length t) 6) ≡ false → shortDate t ≡ false
+unfolding shortDate
+short-unended t h = rw (unended 6 t h)
+
+long-unended : (t : Text) → (all digit t && leb (length t) 8) ≡ false → longDate t ≡ false
+unfolding longDate
+long-unended t h = rw (unended 8 t h)
+
+short-other : (t : Text) → (length t ≡ 6 → ⊥) → shortDate t ≡ false
+unfolding shortDate
+short-other t h = rw (ne-eqb (length t) 6 h)
+
+long-other : (t : Text) → (length t ≡ 8 → ⊥) → longDate t ≡ false
+unfolding longDate
+long-other t h = rw (ne-eqb (length t) 8 h)
+
+-- A date of the right length is one exactly when its day exists, and its year is in the window.
+short-is : (t : Text) {year : ℕ} → length t ≡ 6 → all digit t ≡ true → year ≡ fullYear (value t / 10000)
+    → shortDate t ≡ dayExists year (value t / 100 % 100) (value t % 100)
+unfolding shortDate
+short-is t l h y = rw (eq-eqb (length t) 6 l, h, year-is 2 t l h, month-is 2 t l h, day-is 2 t l h, y)
+
+module _ (t : Text) (l : length t ≡ 8) (h : all digit t ≡ true) where
+  long-early : value t / 10000 < 1990 → longDate t ≡ false
+  unfolding longDate
+  long-early k = rw (eq-eqb (length t) 8 l, h, year-is 4 t l h, lt-leb 1990 (value t / 10000) k)
+
+  long-late : 1990 ≤ value t / 10000 → 2089 < value t / 10000 → longDate t ≡ false
+  unfolding longDate
+  long-late j k =
+      rw (eq-eqb (length t) 8 l, h, year-is 4 t l h, le-leb 1990 (value t / 10000) j, lt-leb (value t / 10000) 2089 k)
+
+  long-is : 1990 ≤ value t / 10000 → value t / 10000 ≤ 2089
+      → longDate t ≡ dayExists (value t / 10000) (value t / 100 % 100) (value t % 100)
+  unfolding longDate
+  long-is j k =
+      rw
+      (eq-eqb (length t) 8 l, h, year-is 4 t l h, le-leb 1990 (value t / 10000) j, le-leb (value t / 10000) 2089 k, month-is 4 t l h, day-is 4 t l h)
+
+not-empty : (t : Text) → (length t ≡ 0 → ⊥) → empty t ≡ false
+not-empty [] h = absurd (h refl)
+not-empty (c ∷ t) h = refl
+
+is-empty : (t : Text) → length t ≡ 0 → t ≡ []
+is-empty [] h = refl
+is-empty (c ∷ t) h = absurd (omega arith)
+
+unended-not-empty : (n : ℕ) (t : Text) → (all digit t && leb (length t) n) ≡ false → length t ≡ 0 → ⊥
+unfolding all
+unended-not-empty n [] h e = true≢false (sym (leb·zero n) ∙ h)
+unended-not-empty n (c ∷ t) h e = omega arith
+
+-- The answers of the readers of dates, one for each.
+module _ (s : Text) (at : ℕ) (r : DigitsRead) (e : r ≡ digitsAt 6 s at) where
+  date-bad : shortDate (textAt s at) ≡ false → (length (textAt s at) ≡ 0 → ⊥) → DateRead.Bad ≡ dateAt s at
+  unfolding dateAt
+  date-bad h n = rw (h, not-empty (textAt s at) n)
+
+  pub date-unended : not (endsAt s (r .end)) ≡ true → DateRead.Bad ≡ dateAt s at
+  date-unended h =
+      let g : (all digit (textAt s at) && leb (length (textAt s at)) 6) ≡ false = not-read 6 s at r e (not-true (endsAt s (r .end)) h) in
+      date-bad (short-unended (textAt s at) g) (unended-not-empty 6 (textAt s at) g)
+
+  module _ (h : endsAt s (r .end) ≡ true) where
+    pub date-end : r .end ≡ at + length (textAt s at)
+    date-end = is-read 6 s at r e h .end ∙ end-is-length s at
+
+    pub date-empty : r .end ≡ at → DateRead.Empty ≡ dateAt s at
+    unfolding dateAt shortDate
+    date-empty n = rw (is-empty (textAt s at) (omega (arith, date-end)))
+
+    pub date-other : (r .end ≡ at → ⊥) → (r .end - at ≡ 6 → ⊥) → DateRead.Bad ≡ dateAt s at
+    date-other n m =
+        date-bad (short-other (textAt s at) (λ k. m (omega (arith, date-end))))
+        (λ k. n (omega (arith, date-end)))
+
+    module _ (l : r .end - at ≡ 6) where
+      six : length (textAt s at) ≡ 6
+      six = omega (arith, date-end)
+
+      pub date-below : r .value < 1000000
+      date-below =
+          omega (arith, is-read 6 s at r e h .value, rw six at (value-below (textAt s at) (is-read 6 s at r e h .digits)))
+
+      date-is : {year : ℕ} → year ≡ fullYear (r .value / 10000)
+          → shortDate (textAt s at) ≡ dayExists year (r .value / 100 % 100) (r .value % 100)
+      date-is {year} y =
+          let same : r .value ≡ value (textAt s at) = is-read 6 s at r e h .value in
+          short-is (textAt s at) six (is-read 6 s at r e h .digits) (y ∙ ap (λ (v : ℕ). fullYear (v / 10000)) same)
+          ∙ ap (λ (v : ℕ). dayExists year (v / 100 % 100) (v % 100)) (sym same)
+
+      pub date-no-day : {year : ℕ} {b : Bool} → year ≡ fullYear (r .value / 10000)
+          → b ≡ dayExists year (r .value / 100 % 100) (r .value % 100) → not b ≡ true → DateRead.Bad ≡ dateAt s at
+      date-no-day {b = b} y d n = date-bad (date-is y ∙ sym d ∙ not-true b n) (λ k. omega (arith, six))
+
+      pub date-good : {year : ℕ} {b : Bool} → year ≡ fullYear (r .value / 10000)
+          → b ≡ dayExists year (r .value / 100 % 100) (r .value % 100) → not b ≡ false → DateRead.Date (r .end) ≡ dateAt s at
+      unfolding dateAt
+      date-good {b = b} y d n = rw (date-is y ∙ sym d ∙ not-false b n, is-read 6 s at r e h .end)
+
+module _ (s : Text) (at : ℕ) (r : DigitsRead) (e : r ≡ digitsAt 8 s at) where
+  long-bad : longDate (textAt s at) ≡ false → LongDateRead.Bad ≡ longDateAt s at
+  unfolding longDateAt
+  long-bad h = rw h
+
+  pub long-date-unended : not (endsAt s (r .end)) ≡ true → LongDateRead.Bad ≡ longDateAt s at
+  long-date-unended h = long-bad (long-unended (textAt s at) (not-read 8 s at r e (not-true (endsAt s (r .end)) h)))
+
+  module _ (h : endsAt s (r .end) ≡ true) where
+    pub long-date-end : r .end ≡ at + length (textAt s at)
+    long-date-end = is-read 8 s at r e h .end ∙ end-is-length s at
+
+    same : r .value ≡ value (textAt s at)
+    same = is-read 8 s at r e h .value
+
+    digits : all digit (textAt s at) ≡ true
+    digits = is-read 8 s at r e h .digits
+
+    pub long-date-other : (r .end - at ≡ 8 → ⊥) → LongDateRead.Bad ≡ longDateAt s at
+    long-date-other m = long-bad (long-other (textAt s at) (λ k. m (omega (arith, long-date-end))))
+
+    module _ (l : r .end - at ≡ 8) where
+      eight : length (textAt s at) ≡ 8
+      eight = omega (arith, long-date-end)
+
+      pub long-date-below : r .value < 100000000
+      long-date-below = omega (arith, same, rw eight at (value-below (textAt s at) digits))
+
+      pub long-date-early : r .value / 10000 < 1990 → LongDateRead.Bad ≡ longDateAt s at
+      long-date-early k = long-bad (long-early (textAt s at) eight digits (omega (arith, same)))
+
+      module _ (j : 1990 ≤ r .value / 10000) where
+        pub long-date-late : 2089 < r .value / 10000 → LongDateRead.Bad ≡ longDateAt s at
+        long-date-late k = long-bad (long-late (textAt s at) eight digits (omega (arith, same)) (omega (arith, same)))
+
+        module _ (k : r .value / 10000 ≤ 2089) {b : Bool}
+            (d : b ≡ dayExists (r .value / 10000) (r .value / 100 % 100) (r .value % 100)) where
+          long-date-is : longDate (textAt s at) ≡ b
+          long-date-is =
+              long-is (textAt s at) eight digits (omega (arith, same)) (omega (arith, same))
+              ∙ ap (λ (v : ℕ). dayExists (v / 10000) (v / 100 % 100) (v % 100)) (sym same)
+              ∙ sym d
+
+          pub long-date-no-day : not b ≡ true → LongDateRead.Bad ≡ longDateAt s at
+          long-date-no-day n = long-bad (long-date-is ∙ not-true b n)
+
+          pub long-date-good : not b ≡ false → LongDateRead.Date (r .value) (r .end) ≡ longDateAt s at
+          unfolding longDateAt
+          long-date-good n = rw (long-date-is ∙ not-false b n, same, is-read 8 s at r e h .end)

@@ -1,0 +1,45 @@
+-- Laws of an argument that is empty or holds calls: every part keeps one rule.
+-- Assumes nothing.
+use Prim.Native.Nat.{ℕ, _+_, _≤_, _<_}
+use native.Mathlib.Omega.{arith}
+use mathlib.Core.Path.{_≡_, refl, sym, ap, _∙_}
+use mathlib.Core.Bool.{Bool, true, false, _||_}
+use mathlib.Core.List.{[], _∷_}
+use lib.ListN.{length, drop, drop-of-length-le}
+use Rattle.rules.specs.Text.{Text, all, parts}
+use Rattle.rules.specs.Rules.{base}
+use Rattle.rules.specs.Fields.{call}
+use Rattle.rules.specs.Arguments.{every, meets, emptyOrCalls}
+use Rattle.fields.specs.Field.{textAt, endOf}
+use Rattle.fields.proofs.Picked.{Kept}
+use Rattle.header.proofs.PartLaws.{at-end, parts-last, parts-more}
+
+module _ (rule : Text → Bool) (t : Text) (at : ℕ) where
+  pub every-broken : rule (textAt t at) ≡ false → every rule (parts (drop at t)) ≡ false
+  unfolding every
+  every-broken e = rw (at-end t at, e)
+
+  pub every-last : {e : ℕ} → Kept rule t at e → e ≡ length t → every rule (parts (drop at t)) ≡ true
+  unfolding every
+  every-last k h = rw (parts-last t at (omega (arith, k .ending)), k .holds)
+
+  pub every-more : {e : ℕ} → Kept rule t at e → e < length t → every rule (parts (drop at t)) ≡ every rule (parts (drop (e + 1) t))
+  unfolding every
+  every-more k h =
+      rw (parts-more t at (omega (arith, k .ending)), k .holds)
+      (ap (λ (n : ℕ). every rule (parts (drop (n + 1) t))) (sym (k .ending)))
+
+-- Behind the last semicolon an empty part is left, which is no call.
+pub every-none : (t : Text) (at : ℕ) → length t ≤ at → every call (parts (drop at t)) ≡ false
+unfolding every parts call all
+every-none t at h = rw (drop-of-length-le t h)
+
+pub calls-none : (t : Text) → length t ≡ 0 → true ≡ meets base emptyOrCalls t
+unfolding meets
+calls-none [] h = refl
+calls-none (c ∷ t) h = absurd (omega arith)
+
+pub calls-told : (t : Text) (b : Bool) → (length t ≡ 0 → ⊥) → every call (parts t) ≡ b → b ≡ meets base emptyOrCalls t
+unfolding meets
+calls-told [] b n e = absurd (n refl)
+calls-told (c ∷ t) b n e = sym e

@@ -1,0 +1,197 @@
+-- The keywords of an accepted log: the line of each holds its argument, and so what the log declares is told of it.
+-- Assumes nothing.
+use Prim.Native.Nat.{ℕ, zero, suc, _+_, _-_, _≤_, _<_}
+use native.Mathlib.Omega.{arith}
+use mathlib.Core.Path.{_≡_, refl, sym, ap, _∙_}
+use mathlib.Core.Bool.{Bool, true, false, not, _&&_}
+use mathlib.Core.List.{List, [], _∷_, _++_, map, append-assoc}
+use lib.Dec.{T, eqb}
+use lib.ListN.{length, drop, getD, length-append, length-drop}
+use lib.Seq.{drop-at}
+use Rattle.rules.specs.Text.{Text, bytes, same, value, parts}
+use Rattle.rules.specs.Rules.{Rules, base}
+use Rattle.rules.specs.Arguments.{Entry, entries, meets, countBonusMultiplier, count, bonus, multiplier, part}
+use Rattle.rules.specs.Log.{Log, identifier, argumentIn, argument, remarksLine, countLine, recordLine, keywordStart, keywordLines, linesOf, render, argumentRules, valid}
+use Rattle.rules.specs.Reading.{read, accepted}
+use Rattle.rules.specs.Judging.{declared, Declared as Judged}
+use Rattle.rules.specs.Answers.{argumentStart}
+use Rattle.rules.proofs.Tests.{so, holds, never, and-l, and-r, not-true, eq-of-test}
+use Rattle.rules.proofs.TextLaws.{same-refl}
+use Rattle.rules.proofs.Bounds.{each-at}
+use Rattle.rules.proofs.Format.{of-valid, accepted-exactly}
+use Rattle.places.specs.declared.Declared.{Declared}
+use Rattle.places.specs.Places.{lineTextAt, lineStart, argumentAt, valueBy, declaredAt}
+use Rattle.places.proofs.LinesHeld.{start-of-line, text-of-line}
+
+-- Nothing stands behind the end of a table.
+none-left : {A : Type 0} (j : ℕ) (e : Entry) (rest : List Entry) → drop j [] ≡ e ∷ rest → A
+none-left zero e rest h = let z : _≡_ {A = ℕ} 0 1 = cc in absurd (omega arith)
+none-left (suc j) e rest h = let z : _≡_ {A = ℕ} 0 1 = cc in absurd (omega arith)
+
+-- What holds of every entry of a table holds of the one at a place.
+everyEntry : (Entry → Bool) → List Entry → Bool
+everyEntry f [] = true
+everyEntry f (e ∷ es) = f e && everyEntry f es
+
+of-entry : (f : Entry → Bool) (es : List Entry) (j : ℕ) (e : Entry) (rest : List Entry) → everyEntry f es ≡ true → drop j es ≡ e ∷ rest → f e ≡ true
+unfolding everyEntry
+of-entry f [] j e rest r h = none-left j e rest h
+of-entry f (d ∷ es) zero e rest r h = let g : d ≡ e = cc in rw g at (and-l (f d) (everyEntry f es) r)
+of-entry f (d ∷ es) (suc j) e rest r h = of-entry f es j e rest (and-r (f d) (everyEntry f es) r) h
+
+-- No keyword stands twice in a table.
+apart : List Entry → Bool
+apart [] = true
+apart (e ∷ es) = everyEntry (λ d. not (same (e .keyword) (d .keyword))) es && apart es
+
+-- A keyword is five characters, and no two are the same.
+five : everyEntry (λ e. eqb (length (e .keyword)) 5) entries ≡ true
+unfolding everyEntry entries
+five = refl
+
+all-apart : apart entries ≡ true
+unfolding apart everyEntry entries same
+all-apart = refl
+
+module _ (R : Rules) where
+  -- The line of the entry at a place, the rule that its argument keeps, and that it is the argument of its keyword.
+  keyword-line : (es : List Entry) (ts more : List Text) (j : ℕ) (e : Entry) (rest : List Entry) → argumentRules R es ts ≡ true → drop j es ≡ e ∷ rest → getD (keywordLines es ts ++ more) j [] ≡ keywordStart e ++ getD ts j []
+  unfolding argumentRules keywordLines
+  keyword-line [] ts more j e rest r h = none-left j e rest h
+  keyword-line (d ∷ es) [] more j e rest r h = never r
+  keyword-line (d ∷ es) (t ∷ ts) more zero e rest r h = let g : d ≡ e = cc in ap (λ (f : Entry). keywordStart f ++ t) g
+  keyword-line (d ∷ es) (t ∷ ts) more (suc j) e rest r h =
+      keyword-line es ts more j e rest (and-r (meets R (d .rule) t) (argumentRules R es ts) r) h
+
+  rule-kept : (es : List Entry) (ts : List Text) (j : ℕ) (e : Entry) (rest : List Entry) → argumentRules R es ts ≡ true → drop j es ≡ e ∷ rest → meets R (e .rule) (getD ts j []) ≡ true
+  unfolding argumentRules
+  rule-kept [] ts j e rest r h = none-left j e rest h
+  rule-kept (d ∷ es) [] j e rest r h = never r
+  rule-kept (d ∷ es) (t ∷ ts) zero e rest r h =
+      let g : d ≡ e = cc in
+      rw g at (and-l (meets R (d .rule) t) (argumentRules R es ts) r)
+  rule-kept (d ∷ es) (t ∷ ts) (suc j) e rest r h =
+      rule-kept es ts j e rest (and-r (meets R (d .rule) t) (argumentRules R es ts) r) h
+
+  argument-at : (es : List Entry) (ts : List Text) (j : ℕ) (e : Entry) (rest : List Entry) → apart es ≡ true → argumentRules R es ts ≡ true → drop j es ≡ e ∷ rest → argumentIn es ts (e .keyword) ≡ getD ts j []
+  unfolding apart argumentRules argumentIn
+  argument-at [] ts j e rest a r h = none-left j e rest h
+  argument-at (d ∷ es) [] j e rest a r h = never r
+  argument-at (d ∷ es) (t ∷ ts) zero e rest a r h =
+      let g : d ≡ e = cc in
+      let b : same (d .keyword) (e .keyword) ≡ true = rw g (same-refl (e .keyword)) in
+      rw b
+  argument-at (d ∷ es) (t ∷ ts) (suc j) e rest a r h =
+      let b : same (d .keyword) (e .keyword) ≡ false = not-true (same (d .keyword) (e .keyword)) (of-entry (λ f. not (same (d .keyword) (f .keyword))) es j e rest (and-l (everyEntry (λ f. not (same (d .keyword) (f .keyword))) es) (apart es) a) h) in
+      rw b
+      (argument-at es ts j e rest (and-r (everyEntry (λ f. not (same (d .keyword) (f .keyword))) es) (apart es) a) (and-r (meets R (d .rule) t) (argumentRules R es ts) r) h)
+
+  keyword-count : (es : List Entry) (ts : List Text) → argumentRules R es ts ≡ true → length (keywordLines es ts) ≡ length es
+  unfolding argumentRules keywordLines
+  keyword-count [] ts r = refl
+  keyword-count (d ∷ es) [] r = never r
+  keyword-count (d ∷ es) (t ∷ ts) r = ap suc (keyword-count es ts (and-r (meets R (d .rule) t) (argumentRules R es ts) r))
+
+-- The second of three arguments is a bonus, the third a multiplier.
+module _ (t : Text) (m : meets base countBonusMultiplier t ≡ true) where
+  bonus-kept : valueBy (bonus base) (part 1 t) ≡ value (part 1 t)
+  unfolding valueBy meets part
+  bonus-kept = rw (so (bonus base (part 1 t)) (each-at (count base ∷ bonus base ∷ multiplier base ∷ []) (parts t) 1 (holds m)))
+
+  multiplier-kept : valueBy (multiplier base) (part 2 t) ≡ value (part 2 t)
+  unfolding valueBy meets part
+  multiplier-kept = rw (so (multiplier base (part 2 t)) (each-at (count base ∷ bonus base ∷ multiplier base ∷ []) (parts t) 2 (holds m)))
+
+-- What is told of the declared bonuses and multipliers is true of these.
+pub record Declares (d : Declared) (of : Judged) : Type 0 where
+  pub squarebonus : d .squarebonus ≡ of .squareBonus
+  pub squaremultiplier : d .squaremultiplier ≡ of .squareMultiplier
+  pub exchangebonus : d .exchangebonus ≡ of .exchangeBonus
+  pub exchangemultiplier : d .exchangemultiplier ≡ of .exchangeMultiplier
+  pub countrybonus : d .countrybonus ≡ of .countryBonus
+  pub countrymultiplier : d .countrymultiplier ≡ of .countryMultiplier
+
+module _ (s : Text) (log : Log) (w : read base s ≡ accepted log) where
+  is-valid : T (valid base log)
+  is-valid = accepted-exactly s log .0 w .0
+
+  is-written : render log ≡ s
+  is-written = accepted-exactly s log .0 w .1
+
+  ruled : argumentRules base entries (log .arguments) ≡ true
+  ruled = (of-valid base log (so (valid base log) is-valid)) .rulesOfArguments
+
+  abbrev behind : List Text
+  behind = (remarksLine ∷ log .remarks) ++ (countLine (length (log .records)) ∷ map recordLine (log .records))
+
+  lines-from : linesOf log ≡ identifier ∷ (keywordLines entries (log .arguments) ++ behind)
+  unfolding linesOf
+  lines-from =
+      ap {B = List Text} (λ r. identifier ∷ r)
+      (append-assoc (keywordLines entries (log .arguments)) (remarksLine ∷ log .remarks) (countLine (length (log .records)) ∷ map recordLine (log .records)))
+
+  -- The keyword at a place of the table, and its line, one further on.
+  module _ (j : ℕ) (e : Entry) (rest : List Entry) (h : drop j entries ≡ e ∷ rest) where
+    line-there : suc j < length (linesOf log)
+    line-there =
+        let n : length entries - j ≡ suc (length rest) = sym (length-drop j entries) ∙ ap length h in
+        omega (arith, ap length lines-from, length-append (keywordLines entries (log .arguments)) behind, keyword-count base entries (log .arguments) ruled)
+
+    line-is : lineTextAt s (lineStart s (suc j)) ≡ keywordStart e ++ getD (log .arguments) j []
+    line-is =
+        text-of-line s log is-valid is-written (suc j) line-there
+        ∙ ap (λ (ls : List Text). getD ls (suc j) []) lines-from
+        ∙ keyword-line base entries (log .arguments) behind j e rest ruled h
+
+    six : length (keywordStart e) ≡ 6
+    unfolding keywordStart
+    six = omega (arith, length-append (e .keyword) (bytes "="), eq-of-test (length (e .keyword)) 5 (of-entry (λ d. eqb (length (d .keyword)) 5) entries j e rest five h))
+
+    argument-is : argument log (e .keyword) ≡ getD (log .arguments) j []
+    unfolding argument
+    argument-is = argument-at base entries (log .arguments) j e rest all-apart ruled h
+
+    held : argumentAt s (suc j) ≡ argument log (e .keyword)
+    unfolding argumentAt
+    held =
+        ap (drop 6) line-is ∙ drop-at (keywordStart e) (getD (log .arguments) j []) 6 six ∙ sym argument-is
+
+    starts : lineStart s (suc j) + 6 ≡ argumentStart log (suc j) e
+    unfolding argumentStart
+    starts = omega (arith, start-of-line s log is-valid is-written (suc j) (omega (arith, line-there)), six)
+
+    kept : meets base (e .rule) (argument log (e .keyword)) ≡ true
+    kept = rw argument-is (rule-kept base entries (log .arguments) j e rest ruled h)
+
+    three-held : e .rule ≡ countBonusMultiplier → (valueBy (bonus base) (part 1 (argumentAt s (suc j))) ≡ value (part 1 (argument log (e .keyword)))) × (valueBy (multiplier base) (part 2 (argumentAt s (suc j))) ≡ value (part 2 (argument log (e .keyword))))
+    three-held g =
+        let m : meets base countBonusMultiplier (argument log (e .keyword)) ≡ true = rw g at kept in (
+          ap (λ (t : Text). valueBy (bonus base) (part 1 t)) held ∙ bonus-kept (argument log (e .keyword)) m,
+          ap (λ (t : Text). valueBy (multiplier base) (part 2 t)) held ∙ multiplier-kept (argument log (e .keyword)) m,
+        )
+
+  -- "A view is the named argument's part of the log": keywords are numbered from 1.
+  module _ (k : ℕ) (e : Entry) (rest : List Entry) (p : 1 ≤ k) (h : drop (k - 1) entries ≡ e ∷ rest) where
+    counted : suc (k - 1) ≡ k
+    counted = omega arith
+
+    pub argument-held : argumentAt s k ≡ argument log (e .keyword)
+    argument-held = rw counted at (held (k - 1) e rest h)
+
+    pub argument-starts : lineStart s k + 6 ≡ argumentStart log k e
+    argument-starts = rw counted at (starts (k - 1) e rest h)
+
+  pub declared-held : Declares (declaredAt s) (declared log)
+  unfolding declaredAt declared entries
+  declared-held =
+      let squares = three-held 28 _ _ refl refl in
+      let exchanges = three-held 30 _ _ refl refl in
+      let countries = three-held 32 _ _ refl refl in
+      record {
+        squarebonus = squares .0;
+        squaremultiplier = squares .1;
+        exchangebonus = exchanges .0;
+        exchangemultiplier = exchanges .1;
+        countrybonus = countries .0;
+        countrymultiplier = countries .1;
+      }

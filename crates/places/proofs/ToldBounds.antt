@@ -1,0 +1,67 @@
+-- What is told is bounded for every text, so that sums of it can be shown to fit without asking whether the log was accepted.
+-- Assumes nothing.
+use Prim.Native.Nat.{ℕ, _^_, _≤_, _<_}
+use native.Mathlib.Omega.{arith}
+use mathlib.Core.Path.{_≡_, refl}
+use mathlib.Core.Bool.{Bool, true, false, cond}
+use lib.Dec.{leb}
+use lib.ListN.{length}
+use Rattle.rules.specs.Text.{Text, value, number, numberOf}
+use Rattle.rules.specs.Rules.{base}
+use Rattle.rules.specs.Arguments.{bonus, multiplier, part}
+use Rattle.rules.proofs.Tests.{and-l, and-r, le-of-test}
+use Rattle.rules.proofs.NumberLaws.{number-from}
+use Rattle.figures.proofs.NumberLaws.{number-digits, value-below, below-power}
+use Rattle.fields.specs.Field.{textAt}
+use Rattle.places.specs.declared.Declared.{Declared}
+use Rattle.places.specs.Places.{fieldStart, argumentAt, valueBy, contactAt, declaredAt}
+
+-- A number that keeps a rule is as small as the rule has it, and 0 is smaller still.
+kept-below : (rule : Text → Bool) (most : ℕ) (t : Text) → (rule t ≡ true → value t ≤ most) → valueBy rule t ≤ most
+unfolding valueBy
+kept-below rule most t f = by (rule t) f
+  where
+    by : (b : Bool) → (b ≡ true → value t ≤ most) → cond b (value t) 0 ≤ most
+    by true g = g refl
+    by false g = omega arith
+
+six-digits : (t : Text) → numberOf 6 t ≡ true → value t ≤ 999_999
+unfolding numberOf
+six-digits t e =
+    let short : length t ≤ 6 = le-of-test (length t) 6 (and-r (number t) (leb (length t) 6) e) in
+    let small : value t < 10 ^ 6 = below-power (length t) 6 short (value-below t (number-digits t (and-l (number t) (leb (length t) 6) e))) in
+    omega arith
+
+bonus-below : (t : Text) → valueBy (bonus base) t ≤ 9999
+unfolding bonus base
+bonus-below t = kept-below (bonus base) 9999 t (λ e. number-from 0 9999 t e .high)
+
+multiplier-below : (t : Text) → valueBy (multiplier base) t ≤ 99
+unfolding multiplier base
+multiplier-below t = kept-below (multiplier base) 99 t (λ e. number-from 1 99 t e .high)
+
+pub worth-below : (s : Text) (at : ℕ) → (contactAt s at) .worth ≤ 999_999
+unfolding contactAt
+worth-below s at =
+    let t = textAt s (fieldStart s at 10) in
+    kept-below (numberOf 6) 999_999 t (six-digits t)
+
+pub record DeclaredBelow (d : Declared) : Type 0 where
+  pub squarebonus : d .squarebonus ≤ 9999
+  pub squaremultiplier : d .squaremultiplier ≤ 99
+  pub exchangebonus : d .exchangebonus ≤ 9999
+  pub exchangemultiplier : d .exchangemultiplier ≤ 99
+  pub countrybonus : d .countrybonus ≤ 9999
+  pub countrymultiplier : d .countrymultiplier ≤ 99
+
+pub declared-below : (s : Text) → DeclaredBelow (declaredAt s)
+unfolding declaredAt
+declared-below s =
+    record {
+      squarebonus = bonus-below (part 1 (argumentAt s 29));
+      squaremultiplier = multiplier-below (part 2 (argumentAt s 29));
+      exchangebonus = bonus-below (part 1 (argumentAt s 31));
+      exchangemultiplier = multiplier-below (part 2 (argumentAt s 31));
+      countrybonus = bonus-below (part 1 (argumentAt s 33));
+      countrymultiplier = multiplier-below (part 2 (argumentAt s 33));
+    }

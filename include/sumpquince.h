@@ -1,0 +1,152 @@
+/* Sumpquince: a reader, judge and writer of REG1TEST version 1 contest logs.
+ *
+ * A log is a run of bytes: the line "[REG1TEST;1]", 36 keyword lines, "[Remarks]", any remark lines, "[QSORecords;N]" and N records, each line
+ * ended by CR LF. Four functions take such a log where it lies in memory:
+ *
+ *     sumpquince_read    does it follow the format, and how many records has it?
+ *     sumpquince_view    where in the log does the argument of one keyword lie?
+ *     sumpquince_judge   a verdict for each record, and the totals
+ *     sumpquince_write   the log again, with the right claims and marks in it
+ *
+ * Each either accepts or refuses. A refusal says why by a number, a line and a field; all other numbers of the answer are then 0, and no byte
+ * of the memory that was lent for results has been changed.
+ *
+ * Sizes: a log has at most 65,535 bytes and at most 999 records, and a log that is written has at most 65,535 bytes. A longer log may be handed
+ * over; it is refused with number 1.
+ *
+ * Memory: the functions allocate nothing and keep nothing between calls. They have no globals that change, so they are reentrant, and may run in
+ * several threads at once on memory of their own. They read the `log_len` bytes at `log` and no others, never write to them, and write nowhere
+ * but in the lent slice. The log and the lent slice must not overlap. A pointer must be valid for its length, and must not be NULL, not even
+ * where the length is 0.
+ *
+ * Stack: plan for about 64 KiB at most in sumpquince_judge and sumpquince_write, and less in the other two. This is a figure to plan with and not
+ * a proved bound: measure the stack of your own build, with your compiler and your linker, before you rely on it.
+ */
+#ifndef SUMPQUINCE_H
+#define SUMPQUINCE_H
+
+#include <stddef.h>
+#include <stdint.h>
+
+#ifdef __cplusplus
+extern "C" {
+#endif
+
+/* Whether the input was accepted, and if not, why not.
+ *
+ *     number   meaning                                                                       line   field
+ *     0        accepted                                                                      0      0
+ *     1        the log is longer than 65,535 bytes                                           0      0
+ *     2        the line has no CR LF after at most 75 characters of code 32 to 127           yes    0
+ *     3        the line is not the one due: not the identifier "[REG1TEST;1]", not the
+ *              keyword due with its "=", or not "[Remarks]"                                  yes    0
+ *     4        the argument of the keyword breaks its rule, or the number and "]" of the
+ *              line "[QSORecords;N]" do (N is 0 to 999)                                      yes    0
+ *     5        the record breaks a rule                                                      yes    yes
+ *     6        the log ends where a record is due, or goes on after the last record          yes    0
+ *     7        judging: the verdict slice is shorter than the number of records              0      0
+ *     8        writing: the result exceeds 65,535 bytes, or the output slice                 0      0
+ *     9        viewing: the keyword number is not 1 to 36                                    0      0
+ *
+ * The first thing wrong is the one reported: 9, then 1, then the lines from the first to the last, and 7 or 8 only of a log that follows the
+ * format. */
+typedef struct {
+    /* 0 for accepted, or 1 to 9 as in the table above. */
+    uint32_t number;
+    /* In 2 to 6 the line at fault; the first line of the log is 1. In 6 it is the line of the record that is missing, or of the first byte too
+     * many. Otherwise 0. */
+    uint32_t line;
+    /* In 5 the first field of the record that breaks its rule, 1 (date) to 15 (duplicate mark), or 0 if the record has not exactly 14 semicolons.
+     * Otherwise 0. */
+    uint32_t field;
+} SumpquinceRefusal;
+
+/* The answer of sumpquince_read. */
+typedef struct {
+    SumpquinceRefusal refusal;
+    /* The number of records, 0 to 999: the length that sumpquince_judge needs for its verdicts. 0 on refusal. */
+    uint64_t records;
+} SumpquinceReading;
+
+/* The answer of sumpquince_view: the argument is the `length` bytes from log[start] on. */
+typedef struct {
+    SumpquinceRefusal refusal;
+    /* The index in the log of the first byte after the keyword's "=". 0 on refusal. */
+    uint64_t start;
+    /* How many bytes the argument has, up to its line's CR and without it; 0 for an empty argument, and on refusal. Where a keyword has several
+     * arguments, they and the semicolons between them are all in the view. */
+    uint64_t length;
+} SumpquinceView;
+
+/* The answer of sumpquince_judge. Every number is 0 on refusal. */
+typedef struct {
+    SumpquinceRefusal refusal;
+    /* How many records are of each class: they add up to the number of records. */
+    uint64_t credited;   /* contacts that count */
+    uint64_t voids;      /* contacts claimed with 0 points */
+    uint64_t duplicates; /* contacts with a call that an earlier credited record has */
+    uint64_t errors;     /* records whose call is ERROR */
+    /* The sum of the points of the credited records. They include the band multiplier already. */
+    uint64_t points;
+    /* How many different ones there are among the credited records. */
+    uint64_t squares;   /* first four characters of the received locator */
+    uint64_t exchanges; /* received exchanges, empty ones left out */
+    uint64_t countries; /* the claimed New-DXCC marks */
+    /* Each of these three numbers times the bonus that the log declares for it. */
+    uint64_t square_bonus;
+    uint64_t exchange_bonus;
+    uint64_t country_bonus;
+    /* The points and the three bonuses, times the multipliers that CWWLs, CExcs and CDXCs declare. At most 998,404,684,715,196. */
+    uint64_t total;
+} SumpquinceJudgement;
+
+/* The answer of sumpquince_write. */
+typedef struct {
+    SumpquinceRefusal refusal;
+    /* How many bytes were written, from out[0] on. 0 on refusal. */
+    uint64_t length;
+} SumpquinceWritten;
+
+/* A verdict is one byte: one of the four classes, and on a credited record the marks that it earns, added. So 96 is a credited record with a new
+ * square and a new country. (verdict & SUMPQUINCE_CLASS) is the class. */
+#define SUMPQUINCE_CREDITED 0
+#define SUMPQUINCE_VOID 1
+#define SUMPQUINCE_DUPLICATE 2
+#define SUMPQUINCE_ERROR 3
+#define SUMPQUINCE_CLASS 15
+#define SUMPQUINCE_NEW_EXCHANGE 16
+#define SUMPQUINCE_NEW_SQUARE 32
+#define SUMPQUINCE_NEW_COUNTRY 64
+
+/* Reads the log of `log_len` bytes at `log`, and says whether it follows the format, and how many records it has. Claims need not be true.
+ * Refusals: 1 to 6. */
+SumpquinceReading sumpquince_read(const uint8_t *log, size_t log_len);
+
+/* Says where in the log the argument of a keyword lies. `keyword` is 1 to 36, in the order in which the keyword lines stand:
+ *
+ *     1 TName   2 TDate   3 PCall   4 PWWLo   5 PExch   6 PAdr1   7 PAdr2   8 PSect   9 PBand  10 PClub  11 RName  12 RCall
+ *    13 RAdr1  14 RAdr2  15 RPoCo  16 RCity  17 RCoun  18 RPhon  19 RHBBS  20 MOpe1  21 MOpe2  22 STXEq  23 SPowe  24 SRXEq
+ *    25 SAnte  26 SAntH  27 CQSOs  28 CQSOP  29 CWWLs  30 CWWLB  31 CExcs  32 CExcB  33 CDXCs  34 CDXCB  35 CToSc  36 CODXC
+ *
+ * The whole log is read first, and a view is given only of a log that follows the format. Refusals: 9, then 1 to 6. */
+SumpquinceView sumpquince_view(const uint8_t *log, size_t log_len, size_t keyword);
+
+/* Judges the log. On acceptance the verdict of record i, counted from 0, is in verdicts[i], and the bytes of the slice behind the last verdict
+ * are as they were. `verdicts_len` is the length of the slice at `verdicts`: 999 is enough for every log. Refusals: 1 to 6, then 7; no byte of the
+ * slice is then changed. */
+SumpquinceJudgement sumpquince_judge(const uint8_t *log, size_t log_len, uint8_t *verdicts, size_t verdicts_len);
+
+/* Writes the log back with the right claims. Every byte is copied but these: the counts in CQSOs, CWWLs, CExcs and CDXCs, and CQSOP, CWWLB, CExcB,
+ * CDXCB and CToSc, become the recomputed ones; in each record New-Exchange and New-WWL become the marks as judged, New-DXCC is kept on credited
+ * records and emptied elsewhere, the last field is D exactly on duplicates, and the points of a duplicate become 0. So the result can be longer
+ * than the log.
+ *
+ * `out_len` is the length of the slice at `out`: 65,535 is enough for every log that can be written. The bytes of the slice behind the result are
+ * as they were. Refusals: 1 to 6, then 8; no byte of the slice is then changed. */
+SumpquinceWritten sumpquince_write(const uint8_t *log, size_t log_len, uint8_t *out, size_t out_len);
+
+#ifdef __cplusplus
+}
+#endif
+
+#endif

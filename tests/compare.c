@@ -1,0 +1,249 @@
+/* Compares the functions of sumpquince.h with the reference: reads the reference's stream of trials (tests/reference/src/main.rs says how it is
+ * laid out) from standard input, calls the four functions on each log, and holds every answer, every byte written, and every byte that must stay
+ * as it was to what the reference says.
+ *
+ *     compare [FOLDER] < TRIALS
+ *
+ * A difference is told in a line, 20 of them at most, and each log that such a line is about is saved to FOLDER as trial-INDEX.edi. The status is 0
+ * where there is no difference, 1 where there is one, and 2 where the stream is broken. */
+#include "sumpquince.h"
+
+#include <stdbool.h>
+#include <stdio.h>
+#include <stdlib.h>
+#include <string.h>
+
+enum { MOST_LINES = 20, FENCE = 64, TOTALS = 12 };
+
+/* No part of a stream is longer: a larger length means that the stream is broken, and asking for so much memory would hide that. */
+#define LONGEST_PART (1u << 26)
+
+typedef struct {
+    uint8_t *at;
+    uint32_t length;
+} Bytes;
+
+/* A trial and the reference's answers to it. */
+typedef struct {
+    uint32_t index;
+    Bytes tag, log;
+    uint64_t keyword;
+    uint32_t verdicts_len, output_len;
+    SumpquinceRefusal read, view, judge, write;
+    uint32_t records, view_start, view_length;
+    uint64_t totals[TOTALS];
+    Bytes verdicts, result;
+} Trial;
+
+/* A slice to lend, with fences around it that no function may touch. */
+typedef struct {
+    uint8_t *block;
+    size_t length;
+} Lent;
+
+static struct {
+    const char *folder;
+    unsigned long long logs, differences;
+} run;
+
+static _Noreturn void stop(const char *why) {
+    fprintf(stderr, "compare: %s\n", why);
+    exit(2);
+}
+
+static void *allocate(size_t size) {
+    void *block = malloc(size == 0 ? 1 : size);
+    if (block == NULL) stop("out of memory");
+    return block;
+}
+
+/* ---- The stream ---- */
+
+static void take(void *to, size_t length) {
+    if (fread(to, 1, length, stdin) != length) stop("the stream of trials ends too soon");
+}
+
+static uint32_t take_u32(void) {
+    uint8_t b[4];
+    take(b, sizeof b);
+    return (uint32_t)b[0] | (uint32_t)b[1] << 8 | (uint32_t)b[2] << 16 | (uint32_t)b[3] << 24;
+}
+
+static uint64_t take_u64(void) {
+    uint64_t low = take_u32();
+    return low | (uint64_t)take_u32() << 32;
+}
+
+static Bytes take_bytes(void) {
+    Bytes bytes;
+    bytes.length = take_u32();
+    if (bytes.length > LONGEST_PART) stop("the stream of trials is broken");
+    bytes.at = allocate(bytes.length);
+    take(bytes.at, bytes.length);
+    return bytes;
+}
+
+static SumpquinceRefusal take_answer(void) {
+    SumpquinceRefusal refusal;
+    refusal.number = take_u32();
+    refusal.line = take_u32();
+    refusal.field = take_u32();
+    return refusal;
+}
+
+static void take_trial(Trial *trial) {
+    trial->index = take_u32();
+    trial->tag = take_bytes();
+    trial->log = take_bytes();
+    trial->keyword = take_u64();
+    trial->verdicts_len = take_u32();
+    trial->output_len = take_u32();
+    trial->read = take_answer();
+    trial->records = take_u32();
+    trial->view = take_answer();
+    trial->view_start = take_u32();
+    trial->view_length = take_u32();
+    trial->judge = take_answer();
+    for (int i = 0; i < TOTALS; i++) trial->totals[i] = take_u64();
+    trial->verdicts = take_bytes();
+    trial->write = take_answer();
+    trial->result = take_bytes();
+}
+
+static void free_trial(Trial *trial) {
+    free(trial->tag.at);
+    free(trial->log.at);
+    free(trial->verdicts.at);
+    free(trial->result.at);
+}
+
+/* ---- Differences ---- */
+
+static void save_log(const Trial *trial) {
+    char path[4096];
+    if (run.folder == NULL) return;
+    int length = snprintf(path, sizeof path, "%s/trial-%u.edi", run.folder, trial->index);
+    FILE *file = length > 0 && (size_t)length < sizeof path ? fopen(path, "wb") : NULL;
+    if (file == NULL || fwrite(trial->log.at, 1, trial->log.length, file) != trial->log.length || fclose(file) != 0) stop("cannot save a log");
+}
+
+static void differ(const Trial *trial, const char *function, const char *what, uint64_t got, uint64_t wanted) {
+    run.differences++;
+    if (run.differences > MOST_LINES) return;
+    printf("trial %u (%.*s), %s: %s is %llu and should be %llu\n", trial->index, (int)trial->tag.length, (const char *)trial->tag.at, function,
+           what, (unsigned long long)got, (unsigned long long)wanted);
+}
+
+static void hold(const Trial *trial, const char *function, const char *what, uint64_t got, uint64_t wanted) {
+    if (got != wanted) differ(trial, function, what, got, wanted);
+}
+
+static void hold_refusal(const Trial *trial, const char *function, SumpquinceRefusal got, SumpquinceRefusal wanted) {
+    hold(trial, function, "the refusal's number", got.number, wanted.number);
+    hold(trial, function, "the refusal's line", got.line, wanted.line);
+    hold(trial, function, "the refusal's field", got.field, wanted.field);
+}
+
+/* ---- Lent memory ---- */
+
+/* What lent memory is filled with. It changes from byte to byte, so that bytes moved within the slice are noticed too. */
+static uint8_t filling(size_t i) { return (uint8_t)(0xA5 ^ (i * 29)); }
+
+static Lent lend(size_t length) {
+    Lent lent = {allocate(length + 2 * FENCE), length};
+    for (size_t i = 0; i < length + 2 * FENCE; i++) lent.block[i] = filling(i);
+    return lent;
+}
+
+static uint8_t *slice_of(Lent lent) { return lent.block + FENCE; }
+
+/* Holds the slice to begin with what should have been written and to be untouched behind it, and the fences to be untouched. One line tells of the
+ * first wrong byte: the others mostly follow from it. */
+static void hold_slice(const Trial *trial, const char *function, Lent lent, Bytes written) {
+    for (size_t i = 0; i < lent.length + 2 * FENCE; i++) {
+        bool within = i >= FENCE && i - FENCE < lent.length;
+        bool result = within && i - FENCE < written.length;
+        uint8_t wanted = result ? written.at[i - FENCE] : filling(i);
+        if (lent.block[i] == wanted) continue;
+        char what[64];
+        if (within) {
+            snprintf(what, sizeof what, "byte %llu of the slice%s", (unsigned long long)(i - FENCE), result ? "" : ", to be left alone,");
+        } else {
+            snprintf(what, sizeof what, "a byte %s the slice", i < FENCE ? "before" : "after");
+        }
+        differ(trial, function, what, lent.block[i], wanted);
+        return;
+    }
+}
+
+/* ---- The four functions ---- */
+
+static void try_read(const Trial *trial) {
+    SumpquinceReading got = sumpquince_read(trial->log.at, trial->log.length);
+    hold_refusal(trial, "read", got.refusal, trial->read);
+    hold(trial, "read", "the number of records", got.records, trial->records);
+}
+
+static void try_view(const Trial *trial) {
+    SumpquinceView got = sumpquince_view(trial->log.at, trial->log.length, (size_t)trial->keyword);
+    hold_refusal(trial, "view", got.refusal, trial->view);
+    hold(trial, "view", "start", got.start, trial->view_start);
+    hold(trial, "view", "length", got.length, trial->view_length);
+}
+
+static void hold_totals(const Trial *trial, const SumpquinceJudgement *got) {
+    static const char *const names[TOTALS] = {"credited", "voids", "duplicates", "errors", "points", "squares", "exchanges", "countries",
+                                              "square_bonus", "exchange_bonus", "country_bonus", "total"};
+    const uint64_t totals[TOTALS] = {got->credited, got->voids, got->duplicates, got->errors, got->points, got->squares, got->exchanges,
+                                     got->countries, got->square_bonus, got->exchange_bonus, got->country_bonus, got->total};
+    for (int i = 0; i < TOTALS; i++) hold(trial, "judge", names[i], totals[i], trial->totals[i]);
+}
+
+static void try_judge(const Trial *trial) {
+    Lent lent = lend(trial->verdicts_len);
+    SumpquinceJudgement got = sumpquince_judge(trial->log.at, trial->log.length, slice_of(lent), lent.length);
+    hold_refusal(trial, "judge", got.refusal, trial->judge);
+    hold_totals(trial, &got);
+    hold_slice(trial, "judge", lent, trial->verdicts);
+    free(lent.block);
+}
+
+static void try_write(const Trial *trial) {
+    Lent lent = lend(trial->output_len);
+    SumpquinceWritten got = sumpquince_write(trial->log.at, trial->log.length, slice_of(lent), lent.length);
+    hold_refusal(trial, "write", got.refusal, trial->write);
+    hold(trial, "write", "length", got.length, trial->result.length);
+    hold_slice(trial, "write", lent, trial->result);
+    free(lent.block);
+}
+
+static void try_trial(const Trial *trial) {
+    unsigned long long before = run.differences;
+    uint8_t *copy = allocate(trial->log.length);
+    memcpy(copy, trial->log.at, trial->log.length);
+    try_read(trial);
+    try_view(trial);
+    try_judge(trial);
+    try_write(trial);
+    hold(trial, "all", "whether the log itself was changed", memcmp(copy, trial->log.at, trial->log.length) != 0, 0);
+    free(copy);
+    if (run.differences != before && before < MOST_LINES) save_log(trial);
+}
+
+int main(int count, char **words) {
+    uint8_t name[8];
+    run.folder = count > 1 ? words[1] : NULL;
+    take(name, sizeof name);
+    if (memcmp(name, "SQTRIAL1", sizeof name) != 0) stop("standard input is no stream of trials");
+    take_u64(); /* the seed, which whoever asked for the trials knows */
+    for (uint32_t left = take_u32(); left > 0; left--) {
+        Trial trial;
+        take_trial(&trial);
+        try_trial(&trial);
+        free_trial(&trial);
+        run.logs++;
+    }
+    if (fread(name, 1, 1, stdin) != 0) stop("the stream of trials goes on after the last");
+    printf("%llu logs, %llu differences\n", run.logs, run.differences);
+    return run.differences == 0 ? 0 : 1;
+}
