@@ -12,14 +12,14 @@ use lib.ListN.{length, take, drop, getD, length-drop}
 use Rattle.rules.specs.Text.{Text, allowed, span, same, numberOf}
 use Rattle.rules.specs.Fields.{Qso, errorCall, newMark}
 use Rattle.fields.specs.Field.{inField, textAt, endOf}
-use Rattle.fields.proofs.FieldLaws.{at}
+use Rattle.fields.proofs.FieldLaws.{next}
 use Rattle.figures.specs.declared.NumberRead.{NumberRead}
 use Rattle.figures.specs.declared.NumberRead.the-variants as NumberRead
 use Rattle.figures.specs.Figure.{numberAt}
 use Rattle.figures.proofs.Picked.{number-picked, number-refused}
 use Rattle.header.proofs.WordLaws.{same-apart}
-use Rattle.reader.proofs.LineLaws.{span-short}
-use Rattle.reader.proofs.PartLaws.{end-by-span, end-within}
+use Rattle.header.proofs.PartLaws.{span-short}
+use Rattle.header.proofs.PartLaws.{end-by-span, end-within}
 use Rattle.places.specs.declared.Contact.{Contact}
 use Rattle.places.specs.Places.{fieldStart, valueBy, contactAt, Holds}
 
@@ -84,7 +84,7 @@ module _ (s : Text) where
     pub new-by-byte : e - a ≡ 1 → eqb (getD s a 0) 78 ≡ same (textAt s a) newMark
     unfolding newMark same
     new-by-byte n =
-        rw (text-by-end a h, n, at s a (omega (arith, ends-inside a h (omega arith)))) (sym (and-true (eqb (getD s a 0) 78)))
+        rw (text-by-end a h, n, next s a (omega (arith, ends-inside a h (omega arith)))) (sym (and-true (eqb (getD s a 0) 78)))
 
   -- One field after the other, from a place on.
   module _ (at k : ℕ) where

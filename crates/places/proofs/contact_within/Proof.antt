@@ -4,7 +4,7 @@ use Prim.Native.Nat.{_+_}
 use denote.Ref.{now}
 use Rattle.rules.specs.Text.{allowed}
 use Rattle.fields.specs.Field.{endOf}
-use Rattle.reader.proofs.PartLaws.{end-by-span}
+use Rattle.header.proofs.PartLaws.{end-by-span}
 use Rattle.places.specs.Places.{fieldStart}
 use Rattle.places.proofs.PlaceLaws.{field-ends, next-start, fields-on, ends-near, run-within, told}
 use borrow.Author.Needs.{needs}
