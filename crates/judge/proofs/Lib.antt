@@ -3,3 +3,4 @@ pub mod MemoryLaws
 pub mod RememberLaws
 pub mod CountLaws
 pub mod WeighLaws
+pub mod JudgeLaws

@@ -20,10 +20,10 @@ use Rattle.rules.specs.Answers.{over}
 use Rattle.rules.proofs.Passing.{decided}
 use Rattle.rules.proofs.Tests.{holds}
 use Rattle.rules.proofs.Classes.{length-verdicts}
-use Rattle.rules.proofs.Bounds.{value-below}
 use Rattle.fields.specs.Field.{textAt, endOf}
 use Rattle.places.specs.declared.Contact.{Contact}
 use Rattle.places.specs.Places.{fieldStart, valueBy, contactAt, Describes, Holds}
+use Rattle.places.proofs.ToldBounds.{worth-below}
 use Rattle.judge.specs.declared.Kept.{Kept}
 use Rattle.judge.specs.declared.Step.{Step}
 use Rattle.judge.specs.Parts.{keptTexts}
@@ -48,17 +48,6 @@ module _ (s : Text) where
   pub held-within : (at : ℕ) (qs : List Qso) → Holds s at qs → at ≤ length s
   held-within at [] h = omega arith
   held-within at (q ∷ qs) h = le-trans (next-behind at) (held-within ((contactAt s at) .next) qs (h .1))
-
-  pub worth-small : (at : ℕ) → (contactAt s at) .worth ≤ 999_999
-  unfolding contactAt valueBy
-  worth-small at = by (numberOf 6 t) refl
-    where
-      t : Text
-      t = textAt s (fieldStart s at 10)
-
-      by : (b : Bool) → numberOf 6 t ≡ b → cond b (value t) 0 ≤ 999_999
-      by true e = let h = value-below 6 t (holds e) in omega arith
-      by false e = omega arith
 
 -- # The walk
 
@@ -129,7 +118,7 @@ module _ (s : Text) (qs : List Qso) where
                 left = omega arith;
                 totals = e ∙ sym (ap (λ (x : Totals). addRecords x rest (verdictsAfter base (creditedAfter ((verdictOf base (g .credited) q) .class) q (g .credited)) rest)) (λ j. addRecord t ((k .0) .worthIs j) (w j)));
                 numbers = sym (drop-drop 1 i (numbersOf qs)) ∙ ap (drop 1) f;
-                counts = counts-more i t (c .worth) v (g .counts) (worth-small s at);
+                counts = counts-more i t (c .worth) v (g .counts) (worth-below s at);
               }
 
       pub number-there : verdictNumber v ≡ getD (numbersOf qs) i 0
@@ -252,7 +241,7 @@ module _ {s : Text} {first n : ℕ} {slice : List ℕ} (w : Weighable s first n 
           let few = w .few in
           record {
             few = omega arith;
-            small = rw contact-there (worth-small s at);
+            small = rw contact-there (worth-below s at);
           }
 
       pub walks-on : {r : Step} {cs' ce' ss' se' xs' xe' : List ℕ} {t' : Totals} {number : ℕ} →

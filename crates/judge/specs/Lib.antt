@@ -3,3 +3,4 @@ pub mod Parts
 pub mod Memory
 pub mod Count
 pub mod Weigh
+pub mod Judge

@@ -11,10 +11,12 @@ ghost use Rattle.rules.specs.Arguments.{among};
 ghost use Rattle.judge.specs.Parts.{squareEnd, seek, keptTexts};
 ghost use Rattle.judge.specs.Memory.{unseen, classBy, verdictBy, memory, Room, Keeps, Steps};
 ghost use Rattle.judge.specs.Weigh.{Weighable, Weighs};
+ghost use Rattle.judge.specs.Judge.{weighedOf, judgedOf, verdictsAfterwards, Accepts};
 ghost use Rattle.judge.specs.Count.{worthIf, addRecord, closing, Countable, Closable};
 use places::Contact;
 use places::Declared;
 use rules::Class;
+use rules::Refusal;
 use rules::Totals;
 use rules::Verdict;
 
@@ -398,4 +400,42 @@ fn weigh_records(log: &[u8], first: usize, n: usize, verdicts: &mut [u8]) -> Tot
         i += 1;
     }
     totals
+}
+
+// What a log is judged to be, with how many records it has and where the first begins, for a caller that walks them again.
+pub enum Weighed {
+    Refused(Refusal),
+    Done {
+        totals: Totals,
+        records: usize,
+        first: usize,
+    },
+}
+
+// What a log is judged to be.
+pub enum Judged {
+    Totals(Totals),
+    Refused(Refusal),
+}
+
+// An accepted log is judged, if the slice has room for its verdicts; otherwise the slice is left as it is.
+fn weigh_accepted(log: &[u8], records: usize, first: usize, verdicts: &mut [u8]) -> Weighed
+    requires { ⌜ Accepts (now log) records first ⌝ }
+    ensures answer { λ r. ⌜ r ≡ weighedOf (length (now (verdicts .entry))) (now (log .entry)) ⌝ }
+    ensures slice { λ r. ⌜ now (verdicts .exit) ≡ verdictsAfterwards (now (log .entry)) (now (verdicts .entry)) ⌝ }
+{
+    if verdicts.len() < records {
+        return Weighed::Refused(Refusal {
+            number: 7,
+            line: 0,
+            field: 0,
+        });
+    }
+    let sums = weigh_records(log, first, records, verdicts);
+    let totals = closed(sums, places::declared_at(log));
+    Weighed::Done {
+        totals,
+        records,
+        first,
+    }
 }

@@ -42,7 +42,7 @@ value-after-below n (c ∷ s) e =
     ap (λ (m : ℕ). m * power) (mul-comm 10 (suc n)) ∙ mul-assoc (suc n) 10 power ∙ ap (λ (m : ℕ). suc n * m) (sym (pow-succ' 10 (length s))) in
     lt-of-lt-of-le more (le-trans (mul-le-mul-right power step) (le-of-eq tens))
 
-pub value-below : (most : ℕ) (s : Text) → T (numberOf most s) → value s < 10 ^ most
+value-below : (most : ℕ) (s : Text) → T (numberOf most s) → value s < 10 ^ most
 unfolding value numberOf
 value-below most s t =
     let h = value-after-below 0 s (number-digits s (so (number s) (first (number s) (leb (length s) most) t))) in
