@@ -3,14 +3,14 @@
 use Prim.Native.Nat.{ℕ, zero, suc, _+_, _-_, _≤_, _<_, min}
 use native.Mathlib.Omega.{arith}
 use native.Mathlib.Numerals.{add-one}
-use native.Mathlib.Nat.{add-zero, zero-add}
+use native.Mathlib.Nat.{add-zero, zero-add, sub-zero}
 use mathlib.Core.Path.{_≡_, refl, sym, ap, _∙_}
 use mathlib.Core.Bool.{Bool, true, false, cond, not, _||_, or-false, or-assoc, or-comm}
 use mathlib.Core.List.{List, [], _∷_}
 use lib.Dec.{leb}
 use lib.ListN.{length, take, drop, getD, set, length-take, length-drop, length-set}
-use lib.Seq.{take-all, take-take, getD-set-same, getD-set-other}
-use borrow.Author.Tests.{le-leb, lt-leb, leb-true, leb-false, not-true, not-false}
+use lib.Seq.{drop-cons, take-all, take-take, getD-set-same, getD-set-other}
+use borrow.Author.Tests.{eq-eqb, ne-eqb, le-leb, lt-leb, leb-true, leb-false, not-true, not-false}
 use Rattle.rules.specs.Text.{Text, same}
 use Rattle.rules.specs.Arguments.{among}
 use Rattle.places.specs.Places.{between}
@@ -27,21 +27,44 @@ take-its-length zero l = refl
 take-its-length (suc k) [] = refl
 take-its-length (suc k) (c ∷ l) = ap (λ (t : Text). c ∷ t) (take-its-length k l)
 
--- A part that is cut to its own length.
-pub part-cut : (s : Text) (a e n : ℕ) → n ≡ length (between s a e) → between s a (a + n) ≡ between s a e
-part-cut s a e n h =
-    let k : a + n - a ≡ length (between s a e) = omega (arith, h) in
-    ap (λ (m : ℕ). take m (drop a s)) k ∙ take-its-length (e - a) (drop a s)
+-- A part by its own length.
+part-cut : (s : Text) (a e n : ℕ) → n ≡ length (between s a e) → take n (drop a s) ≡ between s a e
+part-cut s a e n h = ap (λ (m : ℕ). take m (drop a s)) h ∙ take-its-length (e - a) (drop a s)
 
 pub same-cut : (s : Text) (a e b f n : ℕ) {r : Bool} →
     n ≡ length (between s a e) →
     n ≡ length (between s b f) →
-    r ≡ same (between s a (a + n)) (between s b (b + n)) →
+    r ≡ same (take n (drop a s)) (take n (drop b s)) →
     r ≡ same (between s a e) (between s b f)
-same-cut s a e b f n h k r =
-    r
-    ∙ ap (λ (t : Text). same t (between s b (b + n))) (part-cut s a e n h)
-    ∙ ap (λ (t : Text). same (between s a e) t) (part-cut s b f n k)
+same-cut s a e b f n h k r = r ∙ (λ i. same (part-cut s a e n h i) (part-cut s b f n k i))
+
+-- Two runs of one length, from a place of both on.
+abbrev pub sameFrom : Text → ℕ → ℕ → ℕ → ℕ → Bool
+sameFrom s a b n i = same (take (n - i) (drop (a + i) s)) (take (n - i) (drop (b + i) s))
+
+module _ (s : Text) (a b n : ℕ) where
+  pub run-begins : same (take n (drop a s)) (take n (drop b s)) ≡ sameFrom s a b n 0
+  run-begins = rw (add-zero a, add-zero b, sub-zero n)
+
+  pub run-ends : (i : ℕ) → n ≤ i → sameFrom s a b n i ≡ true
+  unfolding same
+  run-ends i h = let z : n - i ≡ 0 = omega arith in rw z
+
+  module _ (i : ℕ) (h : i < n) (k : a + n ≤ length s) (l : b + n ≤ length s) where
+    front : (x : ℕ) → x + n ≤ length s → take (n - i) (drop (x + i) s) ≡ getD s (x + i) 0 ∷ take (n - (i + 1)) (drop (x + (i + 1)) s)
+    front x g =
+        let more : n - i ≡ suc (n - (i + 1)) = omega arith in
+        let next : suc (x + i) ≡ x + (i + 1) = omega arith in
+        let there : x + i < length s = omega arith in
+        rw (more, drop-cons s (x + i) 0 there, next)
+
+    pub run-more : getD s (a + i) 0 ≡ getD s (b + i) 0 → sameFrom s a b n i ≡ sameFrom s a b n (i + 1)
+    unfolding same
+    run-more e = rw (front a k, front b l, eq-eqb (getD s (a + i) 0) (getD s (b + i) 0) e)
+
+    pub run-differs : (getD s (a + i) 0 ≡ getD s (b + i) 0 → ⊥) → sameFrom s a b n i ≡ false
+    unfolding same
+    run-differs e = rw (front a k, front b l, ne-eqb (getD s (a + i) 0) (getD s (b + i) 0) e)
 
 pub same-none : (t u : Text) → length t ≡ 0 → length u ≡ 0 → true ≡ same t u
 unfolding same

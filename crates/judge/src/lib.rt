@@ -3,7 +3,7 @@
 
 ghost use mathlib.Core.Path.{_≡_};
 ghost use Prim.Native.Nat.{_+_, _*_, _<_, _≤_};
-ghost use lib.ListN.{length};
+ghost use lib.ListN.{length, take, drop};
 ghost use Rattle.rules.specs.Text.{same, empty};
 ghost use Rattle.rules.specs.Judging.{classNumber, verdictNumber, zeroTotals};
 ghost use Rattle.places.specs.Places.{between};
@@ -36,7 +36,22 @@ fn part_length(s: &[u8], a: usize, e: usize) -> usize
     e - a
 }
 
-// Two parts are the same, byte for byte. Their lengths are compared first, for most parts differ in them or soon.
+// The n characters from one place on are those from another on.
+fn same_run(s: &[u8], a: usize, b: usize, n: usize) -> bool
+    requires { ⌜ (a + n ≤ length (now s)) × (b + n ≤ length (now s)) ⌝ }
+    ensures { λ r. ⌜ r ≡ same (take n (drop a (now (s .entry)))) (take n (drop b (now (s .entry)))) ⌝ }
+{
+    let mut i = 0;
+    while i < n {
+        if s[a + i] != s[b + i] {
+            return false;
+        }
+        i += 1;
+    }
+    true
+}
+
+// Two parts are the same, byte for byte. Their lengths are compared first, for most parts differ in them or in one of the first bytes.
 fn same_part(s: &[u8], a: usize, e: usize, b: usize, f: usize) -> bool
     ensures { λ r. ⌜ r ≡ same (between (now (s .entry)) a e) (between (now (s .entry)) b f) ⌝ }
 {
@@ -47,9 +62,7 @@ fn same_part(s: &[u8], a: usize, e: usize, b: usize, f: usize) -> bool
     if n == 0 {
         return true;
     }
-    let p = a + n;
-    let q = b + n;
-    header::same_text(&s[a..p], &s[b..q])
+    same_run(s, a, b, n)
 }
 
 // Where the square of a locator ends: behind four characters, if there are so many.
@@ -76,15 +89,15 @@ fn find(s: &[u8], starts: &[usize], ends: &[usize], m: usize, a: usize, e: usize
     requires { ⌜ (m ≤ length (now starts)) × (m ≤ length (now ends)) ⌝ }
     ensures { λ r. ⌜ r ≡ seek (now (s .entry)) (now (starts .entry)) (now (ends .entry)) (between (now (s .entry)) a e) m 0 ⌝ }
 {
-    let mut i = 0;
+    let mut k = 0;
     let at = 'look: loop {
-        if m <= i {
+        if m <= k {
             break 'look m;
         }
-        if same_part(s, starts[i], ends[i], a, e) {
-            break 'look i;
+        if same_part(s, starts[k], ends[k], a, e) {
+            break 'look k;
         }
-        i += 1;
+        k += 1;
     };
     if at < m {
         return Found::At(at);

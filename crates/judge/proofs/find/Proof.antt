@@ -17,10 +17,10 @@ use Rattle.judge.proofs.find.Lts as lts
 use Rattle.judge.proofs.same_part.Reads as same-part-reads
 
 abbrev Inv-look : tie.InvT-look
-Inv-look s starts ends m a e i₀ i = (i ≤ m) × (seek s starts ends (between s a e) m 0 ≡ seek s starts ends (between s a e) (m - i) i)
+Inv-look s starts ends m a e k₀ k = (k ≤ m) × (seek s starts ends (between s a e) m 0 ≡ seek s starts ends (between s a e) (m - k) k)
 
 abbrev μ-look : tie.MeasureT-look
-μ-look s starts ends m a e i₀ i = m - i
+μ-look s starts ends m a e k₀ k = m - k
 
 -- src/lib.rt:75:9
 look-holds : tie.Need-look-holds Inv-look μ-look
@@ -47,8 +47,8 @@ same-part-requires : tie.Need-same-part-requires Inv-look μ-look
 same-part-requires c κs = search needs
 
 -- src/lib.rt:82:9
-add-i : tie.Need-add-i Inv-look μ-look
-add-i c = search needs
+add-k : tie.Need-add-k Inv-look μ-look
+add-k c = search needs
 
 -- src/lib.rt:75:9
 look-less : tie.Need-look-less Inv-look μ-look
@@ -59,7 +59,7 @@ look-again : tie.Need-look-again Inv-look μ-look
 look-again c = (
   omega arith,
   c .before .before .before .before .before .look .inv .1
-      ∙ seek-later (now (c .before .before .before .before .before .before .before .before .before .args .s)) (now (c .before .before .before .before .before .before .before .before .before .args .starts)) (now (c .before .before .before .before .before .before .before .before .before .args .ends)) (between (now (c .before .before .before .before .before .before .before .before .before .args .s)) (c .before .before .before .before .before .before .before .before .before .args .a) (c .before .before .before .before .before .before .before .before .before .args .e)) (c .before .before .before .before .before .before .before .before .before .args .m) (c .before .before .before .before .before .look .i) (search needs)
+      ∙ seek-later (now (c .before .before .before .before .before .before .before .before .before .args .s)) (now (c .before .before .before .before .before .before .before .before .before .args .starts)) (now (c .before .before .before .before .before .before .before .before .before .args .ends)) (between (now (c .before .before .before .before .before .before .before .before .before .args .s)) (c .before .before .before .before .before .before .before .before .before .args .a) (c .before .before .before .before .before .before .before .before .before .args .e)) (c .before .before .before .before .before .before .before .before .before .args .m) (c .before .before .before .before .before .look .k) (search needs)
       (sym (c .before .same-part .ensures) ∙ c .if2 .left),
 )
 
@@ -71,7 +71,7 @@ returns c =
     ap At (w .5)
     ∙ sym
     (c .before .before .look .inv .1
-    ∙ seek-here (now (c .before .before .before .before .before .before .args .s)) (now (c .before .before .before .before .before .before .args .starts)) (now (c .before .before .before .before .before .before .args .ends)) (between (now (c .before .before .before .before .before .before .args .s)) (c .before .before .before .before .before .before .args .a) (c .before .before .before .before .before .before .args .e)) (c .before .before .before .before .before .before .args .m) (c .before .before .look .i) (w .0 .left)
+    ∙ seek-here (now (c .before .before .before .before .before .before .args .s)) (now (c .before .before .before .before .before .before .args .starts)) (now (c .before .before .before .before .before .before .args .ends)) (between (now (c .before .before .before .before .before .before .args .s)) (c .before .before .before .before .before .before .args .a) (c .before .before .before .before .before .before .args .e)) (c .before .before .before .before .before .before .args .m) (c .before .before .look .k) (w .0 .left)
     (sym (w .3 .ensures) ∙ w .4 .taken)))
     (c .before .if1 .came)
 
@@ -94,7 +94,7 @@ find-spec =
     mul-same-part-2
     shared-slice-read-same-part-2
     same-part-requires
-    add-i
+    add-k
     look-less
     look-again
     returns

@@ -11,64 +11,37 @@ use Rattle.judge.proofs.same_part.Statement.{statement}
 use Rattle.judge.proofs.same_part.Tie as tie
 use Rattle.judge.proofs.same_part.Reads as reads
 use Rattle.judge.proofs.same_part.Lts as lts
-use Rattle.header.proofs.same_text.Reads as same-text-reads
 use Rattle.judge.proofs.part_length.Reads as part-length-reads
+use Rattle.judge.proofs.same_run.Reads as same-run-reads
 
--- src/lib.rt:36:9
+-- src/lib.rt:58:9
 part-length-requires : tie.Need-part-length-requires
 part-length-requires c κs = search needs
 
--- src/lib.rt:37:13
+-- src/lib.rt:59:13
 part-length-requires-2 : tie.Need-part-length-requires-2
 part-length-requires-2 c κs = search needs
 
--- src/lib.rt:38:9
+-- src/lib.rt:60:9
 returns : tie.Need-returns
 returns c = same-apart _ _ (λ e. c .if1 .taken (c .before .before .part-length .ensures ∙ e ∙ sym (c .before .part-length2 .ensures)))
 
--- src/lib.rt:41:9
+-- src/lib.rt:63:9
 returns-2 : tie.Need-returns-2
 returns-2 c = same-none _ _ (sym (c .before .before .before .part-length .ensures) ∙ c .if2 .taken) (sym (c .before .before .part-length2 .ensures) ∙ sym (c .before .if1 .left) ∙ c .if2 .taken)
 
--- src/lib.rt:43:13
-add-p : tie.Need-add-p
-add-p c = omega (arith, part-size (now (c .before .before .before .before .before .args .s)) (c .before .before .before .before .before .args .a) (c .before .before .before .before .before .args .e))
+-- src/lib.rt:65:5
+same-run-requires : tie.Need-same-run-requires
+same-run-requires c κs = (
+  omega (arith, part-size (now (c .before .before .before .before .before .args .s)) (c .before .before .before .before .before .args .a) (c .before .before .before .before .before .args .e)),
+  omega (arith, part-size (now (c .before .before .before .before .before .args .s)) (c .before .before .before .before .before .args .b) (c .before .before .before .before .before .args .f)),
+)
 
--- src/lib.rt:44:13
-add-q : tie.Need-add-q
-add-q c = omega (arith, part-size (now (c .before .before .before .before .before .args .s)) (c .before .before .before .before .before .args .b) (c .before .before .before .before .before .args .f))
-
--- src/lib.rt:45:23
-sub-same-text : tie.Need-sub-same-text
-sub-same-text c = search needs
-
--- src/lib.rt:45:23
-part-same-text-start : tie.Need-part-same-text-start
-part-same-text-start c = search needs
-
--- src/lib.rt:45:23
-part-same-text-end : tie.Need-part-same-text-end
-part-same-text-end c = omega (arith, part-size (now (c .before .before .before .before .before .args .s)) (c .before .before .before .before .before .args .a) (c .before .before .before .before .before .args .e))
-
--- src/lib.rt:45:33
-sub-same-text-2 : tie.Need-sub-same-text-2
-sub-same-text-2 c = search needs
-
--- src/lib.rt:45:33
-part-same-text-start-2 : tie.Need-part-same-text-start-2
-part-same-text-start-2 c = search needs
-
--- src/lib.rt:45:33
-part-same-text-end-2 : tie.Need-part-same-text-end-2
-part-same-text-end-2 c = omega (arith, part-size (now (c .before .before .before .before .before .before .args .s)) (c .before .before .before .before .before .before .args .b) (c .before .before .before .before .before .before .args .f))
-
--- src/lib.rt:45:5
-same-text-requires : tie.Need-same-text-requires
-same-text-requires c κs = search needs
-
--- src/lib.rt:33:1
+-- src/lib.rt:55:1
 returns-3 : tie.Need-returns-3
-returns-3 c = same-cut (now (c .before .before .before .before .before .before .before .before .args .s)) (c .before .before .before .before .before .before .before .before .args .a) (c .before .before .before .before .before .before .before .before .args .e) (c .before .before .before .before .before .before .before .before .args .b) (c .before .before .before .before .before .before .before .before .args .f) (c .before .before .before .before .before .before .part-length .result) (c .before .before .before .before .before .before .part-length .ensures) (c .before .before .before .before .if1 .left ∙ c .before .before .before .before .before .part-length2 .ensures) (c .same-text .ensures)
+returns-3 c =
+    same-cut (now (c .before .before .before .before .before .before .args .s)) (c .before .before .before .before .before .before .args .a) (c .before .before .before .before .before .before .args .e) (c .before .before .before .before .before .before .args .b) (c .before .before .before .before .before .before .args .f) (c .before .before .before .before .part-length .result) (c .before .before .before .before .part-length .ensures) (c .before .before .if1 .left ∙ c .before .before .before .part-length2 .ensures)
+    (c .same-run .ensures)
 
 pub same-part-spec : {M : Type 1} → statement M
 same-part-spec =
@@ -78,13 +51,5 @@ same-part-spec =
     part-length-requires-2
     returns
     returns-2
-    add-p
-    add-q
-    sub-same-text
-    part-same-text-start
-    part-same-text-end
-    sub-same-text-2
-    part-same-text-start-2
-    part-same-text-end-2
-    same-text-requires
+    same-run-requires
     returns-3)
