@@ -2,15 +2,15 @@
 -- Assumes nothing.
 use Prim.Native.Nat.{ℕ, _+_, _≤_, _<_}
 use native.Mathlib.Omega.{arith}
-use mathlib.Core.Path.{_≡_, refl, sym, ap, _∙_}
-use mathlib.Core.Bool.{Bool, true, false, _||_}
+use mathlib.Core.Path.{_≡_, refl, sym, ap}
+use mathlib.Core.Bool.{Bool, true, false}
 use mathlib.Core.List.{[], _∷_}
 use lib.ListN.{length, drop, drop-of-length-le}
 use Rattle.rules.specs.Text.{Text, all, parts}
 use Rattle.rules.specs.Rules.{base}
 use Rattle.rules.specs.Fields.{call}
 use Rattle.rules.specs.Arguments.{every, meets, emptyOrCalls}
-use Rattle.fields.specs.Field.{textAt, endOf}
+use Rattle.fields.specs.Field.{textAt}
 use Rattle.fields.proofs.Picked.{Kept}
 use Rattle.header.proofs.PartLaws.{at-end, parts-last, parts-more}
 

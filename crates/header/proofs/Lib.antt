@@ -6,3 +6,4 @@ pub mod DueLaws
 pub mod RuleLaws
 pub mod DateLaws
 pub mod CallsLaws
+pub mod ArgumentLaws

@@ -2,15 +2,15 @@
 -- Assumes nothing.
 use Prim.Native.Nat.{ℕ}
 use mathlib.Core.Path.{_≡_, refl, sym, ap, _∙_}
-use mathlib.Core.Bool.{Bool, true, false, not, _&&_, _||_, true≢false}
+use mathlib.Core.Bool.{Bool, true, false, not, _&&_, true≢false}
 use mathlib.Core.List.{[], _∷_}
 use lib.Dec.{leb, eqb}
 use lib.ListN.{length}
 use borrow.Author.Tests.{eqb-true, not-true}
-use Rattle.rules.specs.Text.{Text, digit, all, empty, number, numberOf}
+use Rattle.rules.specs.Text.{Text, digit, all, number, numberOf}
 use Rattle.rules.specs.Rules.{base}
 use Rattle.rules.specs.Fields.{call, callCharacter, exchange, exchangeCharacter, locator, emptyOr}
-use Rattle.fields.specs.Field.{inField, textAt}
+use Rattle.fields.specs.Field.{inField}
 use Rattle.fields.proofs.Picked.{Kept}
 use Rattle.fields.proofs.ShapeLaws.{Shape, ended, one, endedOr, fits, locator-0, locator-is}
 use Rattle.figures.specs.declared.NumberRead.{NumberRead}

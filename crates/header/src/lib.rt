@@ -3,11 +3,12 @@
 ghost use mathlib.Core.Path.{_≡_};
 ghost use Rattle.rules.specs.Text.{same, begins};
 ghost use Prim.Native.Nat.{_<_};
+ghost use mathlib.Core.Bool.{cond};
 ghost use mathlib.Core.List.{[]};
 ghost use lib.ListN.{getD};
 ghost use Rattle.rules.specs.Rules.{base, bandNames};
 ghost use Rattle.rules.specs.Arguments.{meets, twoDates, aCall, emptyOrCall, emptyOrCalls, aLocator, anExchange, aBand, countAndMultiplier, countBonusMultiplier, claimedPoints, claimedBonus, claimedTotal, bestContact};
-ghost use Rattle.header.specs.Header.{keywordAt, bandOf};
+ghost use Rattle.header.specs.Header.{keywordAt, bandOf, argumentOf};
 use fields::CallRead;
 use fields::ExchangeRead;
 use fields::LocatorRead;
@@ -311,4 +312,38 @@ fn is_empty_or_calls(t: &[u8]) -> bool
         at = end + 1;
     }
     false
+}
+
+fn told(kept: bool) -> ArgumentRead
+    ensures { λ r. ⌜ r ≡ cond kept ArgumentRead.Kept ArgumentRead.Broken ⌝ }
+{
+    if kept {
+        return ArgumentRead::Kept;
+    }
+    ArgumentRead::Broken
+}
+
+// Whether the argument behind the keyword at this place of the table keeps its rule. Where no rule is named, anything may stand.
+pub fn argument(k: usize, t: &[u8]) -> ArgumentRead
+    ensures { λ r. ⌜ r ≡ argumentOf k (now (t .entry)) ⌝ }
+{
+    if 36 <= k {
+        return ArgumentRead::Broken;
+    }
+    match k {
+        1 => told(is_two_dates(t)),
+        2 => told(is_call(t)),
+        3 => told(is_locator(t)),
+        4 => told(is_exchange(t)),
+        8 => told(is_band_name(t)),
+        9 | 11 => told(is_empty_or_call(t)),
+        19 | 20 => told(is_empty_or_calls(t)),
+        26 => told(is_count_and_multiplier(t)),
+        27 => told(is_claimed_points(t)),
+        28 | 30 | 32 => told(is_count_bonus_multiplier(t)),
+        29 | 31 | 33 => told(is_claimed_bonus(t)),
+        34 => told(is_claimed_total(t)),
+        35 => told(is_best_contact(t)),
+        _ => ArgumentRead::Kept,
+    }
 }

@@ -2,3 +2,5 @@ pub mod LineLaws
 pub mod CountLaws
 pub mod RecordLaws
 pub mod FirstLaws
+pub mod StepLaws
+pub mod DueLaws

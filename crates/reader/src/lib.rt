@@ -12,6 +12,11 @@ ghost use Rattle.rules.specs.Fields.{errorCall};
 ghost use mathlib.Core.List.{[]};
 ghost use lib.ListN.{getD};
 ghost use Rattle.reader.specs.Record.{brokenAt, datedOf, scoredAt, recordOf};
+use rules::Due;
+use rules::Next;
+ghost use Rattle.rules.specs.Rules.{base};
+ghost use Rattle.rules.specs.Arguments.{entries};
+ghost use Rattle.rules.specs.Reading.{recordsDue, countRule, keywordDue, whole, step};
 use fields::CallRead;
 use fields::ExchangeRead;
 use fields::LocatorRead;
@@ -22,6 +27,8 @@ use fields::SerialRead;
 use figures::DateRead;
 use figures::NumberRead;
 use figures::TimeRead;
+use header::ArgumentRead;
+use header::KeywordRead;
 
 pub fn is_allowed(b: u8) -> bool
     ensures { λ r. ⌜ r ≡ allowed b ⌝ }
@@ -244,4 +251,127 @@ pub fn record(line: &[u8]) -> RecordRead
         return RecordRead::Kept;
     }
     RecordRead::Broken(0)
+}
+
+// So many records are due.
+fn records_due(n: usize) -> Due
+    ensures { λ r. ⌜ r ≡ recordsDue n ⌝ }
+{
+    if n == 0 {
+        return Due::End;
+    }
+    Due::Record(n)
+}
+
+// The count line behind its `[QSORecords;`: a number, and then `]` and no more.
+fn count_step(t: &[u8]) -> Next
+    ensures { λ r. ⌜ r ≡ countRule base (now (t .entry)) ⌝ }
+{
+    let n = fields::digit_run(t, 0);
+    if t.len() <= n {
+        return Next::Stops {
+            number: 4,
+            field: 0,
+        };
+    }
+    let NumberRead::Number(count, _) = figures::record_count(&t[..n], 0) else {
+        return Next::Stops {
+            number: 4,
+            field: 0,
+        };
+    };
+    if t.len() != n + 1 {
+        return Next::Stops {
+            number: 4,
+            field: 0,
+        };
+    }
+    if t[n] != 93 {
+        return Next::Stops {
+            number: 4,
+            field: 0,
+        };
+    }
+    Next::Goes(records_due(count as usize))
+}
+
+// A keyword's line after so many keywords: the keyword and its `=`, and an argument that keeps its rule.
+fn keyword_step(k: usize, line: &[u8]) -> Next
+    ensures { λ r. ⌜ r ≡ keywordDue base (drop k entries) k (now (line .entry)) ⌝ }
+{
+    let KeywordRead::Listed = header::keyword(k, line) else {
+        return Next::Stops {
+            number: 3,
+            field: 0,
+        };
+    };
+    let ArgumentRead::Kept = header::argument(k, &line[6..]) else {
+        return Next::Stops {
+            number: 4,
+            field: 0,
+        };
+    };
+    if k < 35 {
+        return Next::Goes(Due::Keyword(k + 1));
+    }
+    Next::Goes(Due::Remarks)
+}
+
+// A line that has to be these words and no more.
+fn whole_step(words: &[u8], line: &[u8], next: Due) -> Next
+    ensures { λ r. ⌜ r ≡ whole (now (words .entry)) (now (line .entry)) next ⌝ }
+{
+    if header::same_text(line, words) {
+        return Next::Goes(next);
+    }
+    Next::Stops {
+        number: 3,
+        field: 0,
+    }
+}
+
+// A remark, or the count line.
+fn remark_step(line: &[u8]) -> Next
+    ensures { λ r. ⌜ r ≡ step base Due.Remark (now (line .entry)) ⌝ }
+{
+    if header::begins_with(b"[QSORecords;", line) {
+        return count_step(&line[12..]);
+    }
+    Next::Goes(Due::Remark)
+}
+
+// A record, of which there are so many from here on.
+fn record_step(n: usize, line: &[u8]) -> Next
+    ensures { λ r. ⌜ r ≡ step base (Due.Record n) (now (line .entry)) ⌝ }
+{
+    let read = record(line);
+    match read {
+        RecordRead::Broken(field) => Next::Stops {
+            number: 5,
+            field: field,
+        },
+        RecordRead::Kept => {
+            if n == 0 {
+                return Next::Goes(Due::End);
+            }
+            Next::Goes(records_due(n - 1))
+        }
+    }
+}
+
+// What follows from a line where this is due: what is due next, or the refusal's number and field.
+pub fn step(due: Due, line: &[u8]) -> Next
+    ensures { λ r. ⌜ r ≡ step base due (now (line .entry)) ⌝ }
+{
+    match due {
+        Due::Identifier => whole_step(b"[REG1TEST;1]", line, Due::Keyword(0)),
+        Due::Keyword(k) => keyword_step(k, line),
+        Due::Remarks => whole_step(b"[Remarks]", line, Due::Remark),
+        Due::Remark => remark_step(line),
+        Due::Record(n) => record_step(n, line),
+        Due::End => Next::Stops {
+            number: 6,
+            field: 0,
+        },
+    }
 }

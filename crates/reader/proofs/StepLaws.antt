@@ -1,0 +1,135 @@
+-- Laws of the steps over a line: the count line, and a keyword's line.
+-- Assumes nothing.
+use Prim.Native.Nat.{ℕ, zero, suc, _+_, _≤_, _<_}
+use native.Mathlib.Omega.{arith}
+use native.Mathlib.Nat.{zero-add}
+use mathlib.Core.Path.{_≡_, refl, sym, ap, _∙_}
+use mathlib.Core.Bool.{Bool, true, false, cond, not, _&&_, and-false, true≢false}
+use mathlib.Core.List.{List, [], _∷_}
+use lib.Dec.{eqb}
+use lib.ListN.{length, take, drop, getD, drop-of-length-le, length-drop}
+use lib.Seq.{take-length, length-take-le}
+use borrow.Author.Tests.{eq-eqb, ne-eqb, eqb-true}
+use Rattle.rules.specs.Text.{Text, bytes, digit, span, all, same, value, numberFrom}
+use Rattle.rules.specs.Rules.{base}
+use Rattle.rules.specs.declared.Due.{Due}
+use Rattle.rules.specs.declared.Due.the-variants as Due
+use Rattle.rules.specs.declared.Next.{Next}
+use Rattle.rules.specs.declared.Next.the-variants as Next
+use Rattle.rules.specs.Reading.{recordsDue, countRule}
+use Rattle.rules.proofs.TextLaws.{span-all, all-weaker, same-eq, same-refl}
+use Rattle.rules.proofs.Tests.{and-i}
+use Rattle.fields.specs.Field.{inField, textAt}
+use Rattle.fields.proofs.FieldLaws.{next}
+use Rattle.figures.specs.declared.NumberRead.{NumberRead}
+use Rattle.figures.specs.declared.NumberRead.the-variants as NumberRead
+use Rattle.figures.specs.Figure.{numberAt}
+use Rattle.figures.proofs.Picked.{number-picked, number-refused}
+use Rattle.header.proofs.PartLaws.{span-short}
+
+-- So many records.
+pub none-due : (n : ℕ) → n ≡ 0 → Due.End ≡ recordsDue n
+unfolding recordsDue
+none-due n e = rw e
+
+pub some-due : (n : ℕ) → (n ≡ 0 → ⊥) → Due.Record n ≡ recordsDue n
+unfolding recordsDue
+some-due zero e = absurd (e refl)
+some-due (suc n) e = refl
+
+-- Digits are one field.
+whole-span : (f : ℕ → Bool) (s : Text) → all f s ≡ true → span f s ≡ length s
+unfolding span all
+whole-span f [] e = refl
+whole-span f (c ∷ s) e = by (f c) e (whole-span f s)
+  where
+    by : (b : Bool) → (b && all f s) ≡ true → (all f s ≡ true → span f s ≡ length s) → cond b (suc (span f s)) 0 ≡ suc (length s)
+    by true k h = ap suc (h k)
+    by false k h = absurd (true≢false (sym k))
+
+digit-in-field : (c : ℕ) → digit c ≡ true → inField c ≡ true
+digit-in-field c e = by (eqb c 59) refl
+  where
+    by : (b : Bool) → eqb c 59 ≡ b → not b ≡ true
+    by true k = absurd (true≢false (sym e ∙ ap digit (eqb-true c 59 k)))
+    by false k = refl
+
+digits-text : (s : Text) → all digit s ≡ true → textAt s 0 ≡ s
+unfolding textAt
+digits-text s e =
+    ap (λ (n : ℕ). take n s) (whole-span inField s (all-weaker digit inField digit-in-field s e)) ∙ take-length s
+
+-- The count line behind its front, by the number of its digits.
+abbrev told-count : Text → ℕ → Next
+told-count t n =
+    cond (numberFrom 0 999 (take n t) && same (drop n t) (bytes "]")) (Next.Goes (recordsDue (value (take n t)))) (Next.Stops 4 0)
+
+count-law : (t : Text) → told-count t (span digit t) ≡ countRule base t
+unfolding countRule base
+count-law t = refl
+
+module _ (t : Text) (n : ℕ) (e : n ≡ 0 + span digit (drop 0 t)) where
+  by-digits : n ≡ span digit t
+  by-digits = e ∙ zero-add (span digit t)
+
+  counted-by : told-count t n ≡ countRule base t
+  counted-by = ap (told-count t) by-digits ∙ count-law t
+
+  pub count-front : n ≤ length t
+  count-front = omega (arith, by-digits, span-short digit t)
+
+  pub front-length : n ≡ length (take n t)
+  front-length = sym (length-take-le n t count-front)
+
+  front-text : textAt (take n t) 0 ≡ take n t
+  front-text = digits-text (take n t) (ap (λ (m : ℕ). all digit (take m t)) by-digits ∙ span-all digit t)
+
+  -- What stands behind the digits is not `]` alone.
+  no-end : same (drop n t) (bytes "]") ≡ false → Next.Stops 4 0 ≡ countRule base t
+  no-end p =
+      sym (ap (λ (b : Bool). cond (numberFrom 0 999 (take n t) && b) (Next.Goes (recordsDue (value (take n t)))) (Next.Stops 4 0)) p ∙ stops (numberFrom 0 999 (take n t)))
+      ∙ counted-by
+    where
+      stops : (b : Bool) → cond (b && false) (Next.Goes (recordsDue (value (take n t)))) (Next.Stops 4 0) ≡ Next.Stops 4 0
+      stops true = refl
+      stops false = refl
+
+  other : (drop n t ≡ bytes "]" → ⊥) → same (drop n t) (bytes "]") ≡ false
+  other h = by (same (drop n t) (bytes "]")) refl
+    where
+      by : (b : Bool) → same (drop n t) (bytes "]") ≡ b → b ≡ false
+      by true k = absurd (h (same-eq (drop n t) (bytes "]") k))
+      by false k = refl
+
+  pub count-cut : length t ≤ n → Next.Stops 4 0 ≡ countRule base t
+  count-cut h = no-end (other (λ k. let z : _≡_ {A = ℕ} 0 1 = ap length (sym (drop-of-length-le t h) ∙ k) in omega arith))
+
+  pub count-longer : (length t ≡ n + 1 → ⊥) → Next.Stops 4 0 ≡ countRule base t
+  count-longer h = no-end (other (λ k. h (omega (arith, ap length k, length-drop n t, count-front))))
+
+  pub count-unclosed : n < length t → (getD t n 0 ≡ 93 → ⊥) → Next.Stops 4 0 ≡ countRule base t
+  count-unclosed h f = no-end (other (λ k. f (ap (λ (s : Text). getD s 0 0) (sym (next t n h) ∙ k))))
+
+  pub count-no-number : numberAt (numberFrom 0 999) (take n t) 0 ≡ NumberRead.Bad → Next.Stops 4 0 ≡ countRule base t
+  count-no-number h =
+      sym (ap (λ (b : Bool). cond (b && same (drop n t) (bytes "]")) (Next.Goes (recordsDue (value (take n t)))) (Next.Stops 4 0)) (ap (numberFrom 0 999) (sym front-text) ∙ number-refused (numberFrom 0 999) (take n t) 0 h))
+      ∙ counted-by
+
+  module _ {v f : ℕ} (h : numberAt (numberFrom 0 999) (take n t) 0 ≡ NumberRead.Number v f) where
+    is-number : numberFrom 0 999 (take n t) ≡ true
+    is-number = ap (numberFrom 0 999) (sym front-text) ∙ number-picked (numberFrom 0 999) (take n t) 0 h .0
+
+    is-value : v ≡ value (take n t)
+    is-value = number-picked (numberFrom 0 999) (take n t) 0 h .1 ∙ ap value front-text
+
+    ends : length t ≡ n + 1 → getD t n 0 ≡ 93 → drop n t ≡ bytes "]"
+    ends l c =
+        next t n (omega arith)
+        ∙ ap (λ (x : ℕ). x ∷ drop (n + 1) t) c
+        ∙ ap (λ (s : Text). 93 ∷ s) (drop-of-length-le t {i = n + 1} (omega arith))
+
+    pub count-known : {d : Due} → length t ≡ n + 1 → getD t n 0 ≡ 93 → d ≡ recordsDue v → Next.Goes d ≡ countRule base t
+    count-known l c q =
+        ap Next.Goes (q ∙ ap recordsDue is-value)
+        ∙ sym (ap (λ (b : Bool). cond b (Next.Goes (recordsDue (value (take n t)))) (Next.Stops 4 0)) (and-i is-number (ap (λ (s : Text). same s (bytes "]")) (ends l c) ∙ same-refl (bytes "]"))))
+        ∙ counted-by
