@@ -1,10 +1,10 @@
 -- Laws of the totals as they grow: they come to those of document 01, and no sum runs over.
 -- Assumes nothing.
-use Prim.Native.Nat.{ℕ, zero, suc, _+_, _*_, _≤_, _<_}
+use Prim.Native.Nat.{ℕ, _+_, _*_, _≤_}
 use native.Mathlib.Omega.{arith}
-use native.Mathlib.Nat.{mul-le-mul, le-trans, add-zero}
-use mathlib.Core.Path.{_≡_, refl, sym, ap, _∙_}
-use mathlib.Core.Bool.{Bool, true, false, cond}
+use native.Mathlib.Nat.{mul-le-mul, add-zero}
+use mathlib.Core.Path.{_≡_, ap, _∙_}
+use mathlib.Core.Bool.{Bool, true, false}
 use mathlib.Core.List.{List, [], _∷_}
 use lib.Dec.{eqb}
 use lib.ListN.{length}
@@ -16,7 +16,7 @@ use Rattle.rules.specs.Text.{value}
 use Rattle.rules.specs.Fields.{Qso}
 use Rattle.rules.specs.Judging.{classNumber, is, countOf, creditedPoints, multipliers, totalsOf, zeroTotals}
 use Rattle.places.specs.declared.Declared.{Declared}
-use Rattle.judge.specs.Count.{worthIf, asDeclared, addRecord, addRecords, closing, Counts, Countable, Small, Closable}
+use Rattle.judge.specs.Count.{worthIf, asDeclared, addRecord, addRecords, closing, Counts, Closable}
 
 -- What the declared bonuses and multipliers make of the totals.
 pub record Closes (t : Totals) (d : Declared) : Type 0 where

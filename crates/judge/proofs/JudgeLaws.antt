@@ -3,18 +3,18 @@
 use Prim.Native.Nat.{ℕ, _≤_, _<_}
 use native.Mathlib.Omega.{arith}
 use mathlib.Core.Path.{_≡_, refl, sym, ap, subst, _∙_}
-use mathlib.Core.Bool.{true, false}
+use mathlib.Core.Bool.{false}
 use mathlib.Core.List.{List, []}
 use lib.Dec.{ltb}
-use lib.ListN.{length, drop}
+use lib.ListN.{length}
 use borrow.Author.Tests.{lt-ltb, le-ltb}
 use Rattle.rules.specs.declared.Totals.{Totals}
 use Rattle.rules.specs.Text.{Text}
 use Rattle.rules.specs.Rules.{base}
 use Rattle.rules.specs.Fields.{Qso}
 use Rattle.rules.specs.Log.{Log}
-use Rattle.rules.specs.Judging.{Declared as DeclaredRates, declared, verdicts, verdictsOfLog, totals, totalsOf, totalsOfLog, zeroTotals}
-use Rattle.rules.specs.Reading.{Reading, accepted, refused, refusal, read}
+use Rattle.rules.specs.Judging.{declared, verdicts, verdictsOfLog, totals, totalsOf, totalsOfLog}
+use Rattle.rules.specs.Reading.{refusal}
 use Rattle.rules.specs.Answers.{judge, judgeReading, judgeLog, recordsOfReading, numbersOfJudgement, over}
 use Rattle.rules.proofs.Format.{accepted-exactly}
 use Rattle.rules.proofs.ValidLogs.{count-valid}
@@ -22,10 +22,10 @@ use Rattle.rules.proofs.Classes.{length-verdicts}
 use Rattle.places.specs.declared.Declared.{Declared}
 use Rattle.places.specs.Places.{declaredAt, Holds}
 use Rattle.places.proofs.RecordsHeld.{records-held}
-use Rattle.places.proofs.HeaderHeld.{Declares, declared-held}
+use Rattle.places.proofs.HeaderHeld.{declared-held}
 use Rattle.places.proofs.ToldBounds.{declared-below}
 use Rattle.judge.specs.declared.Weighed.the-variants as Weighed
-use Rattle.judge.specs.Count.{addRecords, closing, asDeclared, Small, Closable}
+use Rattle.judge.specs.Count.{closing, asDeclared, Small, Closable}
 use Rattle.judge.specs.Weigh.{recordsIn, recordsOf, numbersOf, Weighable, Weighs}
 use Rattle.judge.specs.Judge.{firstOf, weighedBy, weighedOf, verdictsAfterwards, Accepts}
 use Rattle.judge.proofs.CountLaws.{closed-totals}

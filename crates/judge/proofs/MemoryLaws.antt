@@ -1,23 +1,22 @@
 -- Laws of judging by what is kept: each test's answer, and that what is kept serves as well as all the credited records.
 -- Assumes nothing.
-use Prim.Native.Nat.{ℕ, suc, _+_, _≤_, _<_}
+use Prim.Native.Nat.{ℕ}
 use native.Mathlib.Omega.{arith}
 use mathlib.Core.Path.{_≡_, refl, sym, ap, _∙_}
-use mathlib.Core.Bool.{Bool, true, false, cond, not, _&&_, _||_}
+use mathlib.Core.Bool.{Bool, true, false, not, _&&_}
 use mathlib.Core.List.{List, [], _∷_}
-use lib.Dec.{T, eqb}
-use lib.ListN.{length, take}
+use lib.Dec.{eqb}
+use lib.ListN.{length}
 use borrow.Author.Tests.{eq-eqb, ne-eqb}
 use Rattle.rules.specs.declared.Class.{Class}
 use Rattle.rules.specs.declared.Class.the-variants.{Credited, Void, Duplicate, Error}
 use Rattle.rules.specs.declared.Verdict.{Verdict}
-use Rattle.rules.specs.Text.{Text, same, empty}
+use Rattle.rules.specs.Text.{Text}
 use Rattle.rules.specs.Arguments.{among}
 use Rattle.rules.specs.Judging.{classNumber, is}
 use Rattle.places.specs.declared.Contact.{Contact}
 use Rattle.places.specs.Places.{between}
 use Rattle.judge.specs.declared.Kept.{Kept}
-use Rattle.judge.specs.declared.Step.{Step}
 use Rattle.judge.specs.Parts.{squareEnd, keptTexts}
 use Rattle.judge.specs.Memory.{Memory, callOf, squareOf, exchangeOf, unseen, classBy, verdictBy, keptWith, after, memory, Keeps, Steps}
 

@@ -8,7 +8,7 @@ use mathlib.Core.Path.{_≡_, refl, sym, ap, _∙_}
 use mathlib.Core.Bool.{Bool, true, false, cond, not, _||_, or-false, or-assoc, or-comm}
 use mathlib.Core.List.{List, [], _∷_}
 use lib.Dec.{leb}
-use lib.ListN.{length, take, drop, getD, set, length-take, length-drop, length-set}
+use lib.ListN.{length, take, drop, getD, set, length-take, length-drop}
 use lib.Seq.{drop-cons, take-all, take-take, getD-set-same, getD-set-other}
 use borrow.Author.Tests.{eq-eqb, ne-eqb, le-leb, lt-leb, leb-true, leb-false, not-true, not-false}
 use Rattle.rules.specs.Text.{Text, same}

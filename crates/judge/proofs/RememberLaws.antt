@@ -4,21 +4,19 @@
 use mathlib.Core.Path.{_≡_, refl, sym, ap, _∙_}
 use mathlib.Core.Bool.{Bool, true, false, cond, not, _&&_, _||_}
 use mathlib.Core.List.{List, [], _∷_}
-use lib.Dec.{T, eqb}
+use lib.Dec.{T}
 use lib.ListN.{take}
-use Rattle.rules.specs.declared.Class.{Class}
-use Rattle.rules.specs.declared.Class.the-variants.{Credited, Void, Duplicate, Error}
-use Rattle.rules.specs.declared.Verdict.{Verdict}
-use Rattle.rules.specs.Text.{Text, same, empty, value}
+use Rattle.rules.specs.declared.Class.the-variants.{Credited}
+use Rattle.rules.specs.Text.{Text, same, empty}
 use Rattle.rules.specs.Rules.{base}
-use Rattle.rules.specs.Fields.{Qso, isError}
+use Rattle.rules.specs.Fields.{Qso}
 use Rattle.rules.specs.Arguments.{among}
-use Rattle.rules.specs.Judging.{is, some, claimsPoints, classOf, square, isNew, claimsCountry, verdictOf, creditedAfter}
+use Rattle.rules.specs.Judging.{is, some, claimsPoints, classOf, square, isNew, verdictOf, creditedAfter}
 use Rattle.rules.proofs.Passing.{same→equal}
-use Rattle.rules.proofs.Tests.{holds, clash}
+use Rattle.rules.proofs.Tests.{holds}
 use Rattle.places.specs.declared.Contact.{Contact}
-use Rattle.places.specs.Places.{between, Describes}
-use Rattle.judge.specs.Memory.{Memory, callOf, squareOf, exchangeOf, unseen, classBy, verdictBy, keptWith, after}
+use Rattle.places.specs.Places.{Describes}
+use Rattle.judge.specs.Memory.{Memory, callOf, squareOf, unseen, classBy, verdictBy, keptWith, after}
 use Rattle.judge.proofs.PartLaws.{square-part}
 
 -- The texts serve for what the credited records have there, if a text is not empty.

@@ -1,34 +1,31 @@
 -- Laws of the walk over the records: where it begins, one record more, and where it ends.
 -- Assumes nothing.
-use Prim.Native.Nat.{ℕ, zero, suc, _+_, _*_, _-_, _≤_, _<_, min}
+use Prim.Native.Nat.{ℕ, zero, suc, _+_, _≤_, _<_, min}
 use native.Mathlib.Omega.{arith}
 use native.Mathlib.Nat.{le-trans, le-refl, add-zero}
 use native.Mathlib.Numerals.{add-one}
 use mathlib.Core.Path.{_≡_, refl, sym, ap, _∙_}
-use mathlib.Core.Bool.{Bool, true, false, cond, not, _&&_, _||_}
 use mathlib.Core.List.{List, [], _∷_, _++_, map, append-assoc}
-use lib.Dec.{T}
 use lib.ListN.{length, take, drop, getD, set, length-map, length-set}
 use lib.Seq.{take-suc, drop-cons, drop-drop, getD-drop, set-at, length-take-le, take-length}
 use Rattle.rules.specs.declared.Verdict.{Verdict}
 use Rattle.rules.specs.declared.Totals.{Totals}
-use Rattle.rules.specs.Text.{Text, allowed, span, value, numberOf}
+use Rattle.rules.specs.Text.{Text}
 use Rattle.rules.specs.Rules.{base}
 use Rattle.rules.specs.Fields.{Qso}
 use Rattle.rules.specs.Judging.{verdictOf, creditedAfter, verdictsAfter, verdicts, verdictNumber, zeroTotals}
 use Rattle.rules.specs.Answers.{over}
-use Rattle.rules.proofs.Passing.{decided}
 use Rattle.rules.proofs.Tests.{holds}
 use Rattle.rules.proofs.Classes.{length-verdicts}
-use Rattle.fields.specs.Field.{textAt, endOf}
+use Rattle.fields.specs.Field.{endOf}
 use Rattle.places.specs.declared.Contact.{Contact}
-use Rattle.places.specs.Places.{fieldStart, valueBy, contactAt, Describes, Holds}
+use Rattle.places.specs.Places.{fieldStart, contactAt, Holds}
 use Rattle.places.proofs.ToldBounds.{worth-below}
 use Rattle.judge.specs.declared.Kept.{Kept}
 use Rattle.judge.specs.declared.Step.{Step}
 use Rattle.judge.specs.Parts.{keptTexts}
 use Rattle.judge.specs.Memory.{Memory, verdictBy, after, memory, Room, Steps}
-use Rattle.judge.specs.Count.{worthIf, addRecord, addRecords, Counts, Countable}
+use Rattle.judge.specs.Count.{addRecord, addRecords, Counts, Countable}
 use Rattle.judge.specs.Weigh.{recordsOf, numbersOf, Weighable, Weighs}
 use Rattle.judge.proofs.CountLaws.{counts-more}
 use Rattle.judge.proofs.RememberLaws.{Remembers, nothing-kept, verdict-is, remembers-after}

@@ -2,9 +2,8 @@
 -- Assumes nothing.
 use Prim.Native.Nat.{ℕ, _-_}
 use mathlib.Core.Path.{_≡_}
-use mathlib.Core.List.{List, [], _∷_, map}
+use mathlib.Core.List.{List, map}
 use lib.ListN.{length}
-use Rattle.rules.specs.declared.Refusal.{Refusal}
 use Rattle.rules.specs.Text.{Text}
 use Rattle.rules.specs.Rules.{base}
 use Rattle.rules.specs.Log.{Log, recordLine, ended}

@@ -1,48 +1,33 @@
 use Rattle.rules.specs.Judging.{classNumber}
-use native.Mathlib.Omega.{arith}
-use mathlib.Core.Path.{_≡_, refl, sym, ap, _∙_}
-use mathlib.Core.Bool.{true, false}
-use Prim.Native.Nat.{ℕ, _+_, _-_, _*_, _≤_, _<_}
-use lib.ListN.{length, drop, take, getD, set}
-use denote.Ref.{now}
+use mathlib.Core.Path.{sym, ap}
 use borrow.Author.Needs.{needs}
 use Rattle.judge.proofs.class_number.Statement.{statement}
 use Rattle.judge.proofs.class_number.Tie as tie
-use Rattle.judge.proofs.class_number.Reads as reads
-use Rattle.judge.proofs.class_number.Lts as lts
 
--- src/lib.rt:94:28
 enum-told : tie.Need-enum-told
 enum-told c = search needs
 
--- src/lib.rt:95:24
 enum-told-2 : tie.Need-enum-told-2
 enum-told-2 c = search needs
 
--- src/lib.rt:96:29
 enum-told-3 : tie.Need-enum-told-3
 enum-told-3 c = search needs
 
--- src/lib.rt:97:25
 enum-told-4 : tie.Need-enum-told-4
 enum-told-4 c = search needs
 
--- src/lib.rt:90:1
 returns : tie.Need-returns
 unfolding classNumber
 returns c = sym (ap classNumber (c .enum-told .given .1))
 
--- src/lib.rt:90:1
 returns-2 : tie.Need-returns-2
 unfolding classNumber
 returns-2 c = sym (ap classNumber (c .enum-told2 .given .1))
 
--- src/lib.rt:90:1
 returns-3 : tie.Need-returns-3
 unfolding classNumber
 returns-3 c = sym (ap classNumber (c .enum-told3 .given .1))
 
--- src/lib.rt:90:1
 returns-4 : tie.Need-returns-4
 unfolding classNumber
 returns-4 c = sym (ap classNumber (c .enum-told4 .given .1))

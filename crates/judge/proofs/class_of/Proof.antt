@@ -1,34 +1,21 @@
 use Rattle.judge.proofs.MemoryLaws.{class-error, class-duplicate, class-void, class-credited}
-use native.Mathlib.Omega.{arith}
-use mathlib.Core.Path.{_≡_, refl, sym, ap, _∙_}
-use mathlib.Core.Bool.{true, false}
-use Prim.Native.Nat.{ℕ, _+_, _-_, _*_, _≤_, _<_}
-use lib.ListN.{length, drop, take, getD, set}
-use denote.Ref.{now}
+use mathlib.Core.Path.{sym, _∙_}
 use borrow.Author.Needs.{needs}
 use Rattle.judge.proofs.class_of.Statement.{statement}
 use Rattle.judge.proofs.class_of.Tie as tie
-use Rattle.judge.proofs.class_of.Reads as reads
-use Rattle.judge.proofs.class_of.Lts as lts
-use Rattle.judge.proofs.is_kept.Reads as is-kept-reads
 
--- src/lib.rt:154:9
 returns : tie.Need-returns
 returns c = class-error _ _ _ (c .if1 .taken)
 
--- src/lib.rt:156:8
 is-kept-requires : tie.Need-is-kept-requires
 is-kept-requires c κs = search needs
 
--- src/lib.rt:157:9
 returns-2 : tie.Need-returns-2
 returns-2 c = class-duplicate _ _ _ (c .before .before .if1 .left) (sym (c .before .is-kept .ensures) ∙ c .if2 .taken)
 
--- src/lib.rt:160:9
 returns-3 : tie.Need-returns-3
 returns-3 c = class-void _ _ _ (c .before .before .before .before .if1 .left) (sym (c .before .before .before .is-kept .ensures) ∙ c .before .before .if2 .left) (c .if3 .taken)
 
--- src/lib.rt:147:1
 returns-4 : tie.Need-returns-4
 returns-4 c = class-credited _ _ _ (c .before .before .before .before .if1 .left) (sym (c .before .before .before .is-kept .ensures) ∙ c .before .before .if2 .left) (c .if3 .left)
 

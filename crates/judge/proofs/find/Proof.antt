@@ -5,16 +5,11 @@ use Rattle.judge.specs.Parts.{seek}
 use Rattle.places.specs.Places.{between}
 use borrow.Author.Needs.{needs}
 use native.Mathlib.Omega.{arith}
-use mathlib.Core.Path.{_≡_, refl, sym, ap, _∙_}
-use mathlib.Core.Bool.{true, false}
-use Prim.Native.Nat.{ℕ, _+_, _-_, _*_, _≤_, _<_}
-use lib.ListN.{length, drop, take, getD, set}
+use mathlib.Core.Path.{_≡_, sym, ap, _∙_}
+use Prim.Native.Nat.{_-_, _≤_}
 use denote.Ref.{now}
 use Rattle.judge.proofs.find.Statement.{statement}
 use Rattle.judge.proofs.find.Tie as tie
-use Rattle.judge.proofs.find.Reads as reads
-use Rattle.judge.proofs.find.Lts as lts
-use Rattle.judge.proofs.same_part.Reads as same-part-reads
 
 abbrev Inv-look : tie.InvT-look
 Inv-look s starts ends m a e k₀ k = (k ≤ m) × (seek s starts ends (between s a e) m 0 ≡ seek s starts ends (between s a e) (m - k) k)
@@ -22,39 +17,30 @@ Inv-look s starts ends m a e k₀ k = (k ≤ m) × (seek s starts ends (between 
 abbrev μ-look : tie.MeasureT-look
 μ-look s starts ends m a e k₀ k = m - k
 
--- src/lib.rt:75:9
 look-holds : tie.Need-look-holds Inv-look μ-look
 look-holds c = (omega arith, seek-all _ _ _ _ _)
 
--- src/lib.rt:79:25
 mul-same-part : tie.Need-mul-same-part Inv-look μ-look
 mul-same-part c = search needs
 
--- src/lib.rt:79:25
 shared-slice-read-same-part : tie.Need-shared-slice-read-same-part Inv-look μ-look
 shared-slice-read-same-part c = search needs
 
--- src/lib.rt:79:36
 mul-same-part-2 : tie.Need-mul-same-part-2 Inv-look μ-look
 mul-same-part-2 c = search needs
 
--- src/lib.rt:79:36
 shared-slice-read-same-part-2 : tie.Need-shared-slice-read-same-part-2 Inv-look μ-look
 shared-slice-read-same-part-2 c = search needs
 
--- src/lib.rt:79:12
 same-part-requires : tie.Need-same-part-requires Inv-look μ-look
 same-part-requires c κs = search needs
 
--- src/lib.rt:82:9
 add-k : tie.Need-add-k Inv-look μ-look
 add-k c = search needs
 
--- src/lib.rt:75:9
 look-less : tie.Need-look-less Inv-look μ-look
 look-less c = search needs
 
--- src/lib.rt:75:9
 look-again : tie.Need-look-again Inv-look μ-look
 look-again c = (
   omega arith,
@@ -63,7 +49,6 @@ look-again c = (
       (sym (c .before .same-part .ensures) ∙ c .if2 .left),
 )
 
--- src/lib.rt:85:9
 returns : tie.Need-returns Inv-look μ-look
 returns c =
     ⊎-elim (λ w. absurd (omega arith))
@@ -75,7 +60,6 @@ returns c =
     (sym (w .3 .ensures) ∙ w .4 .taken)))
     (c .before .if1 .came)
 
--- src/lib.rt:68:1
 returns-2 : tie.Need-returns-2 Inv-look μ-look
 returns-2 c =
     ⊎-elim (λ w. seek-none _ _ _ _ _ _ (w .0 .taken) ∙ sym (c .before .before .look .inv .1))

@@ -1,43 +1,30 @@
 use Rattle.judge.proofs.PartLaws.{part-size, same-cut, same-none}
 use Rattle.header.proofs.WordLaws.{same-apart}
 use native.Mathlib.Omega.{arith}
-use mathlib.Core.Path.{_≡_, refl, sym, ap, _∙_}
-use mathlib.Core.Bool.{true, false}
-use Prim.Native.Nat.{ℕ, _+_, _-_, _*_, _≤_, _<_}
-use lib.ListN.{length, drop, take, getD, set}
+use mathlib.Core.Path.{sym, _∙_}
 use denote.Ref.{now}
 use borrow.Author.Needs.{needs}
 use Rattle.judge.proofs.same_part.Statement.{statement}
 use Rattle.judge.proofs.same_part.Tie as tie
-use Rattle.judge.proofs.same_part.Reads as reads
-use Rattle.judge.proofs.same_part.Lts as lts
-use Rattle.judge.proofs.part_length.Reads as part-length-reads
-use Rattle.judge.proofs.same_run.Reads as same-run-reads
 
--- src/lib.rt:58:9
 part-length-requires : tie.Need-part-length-requires
 part-length-requires c κs = search needs
 
--- src/lib.rt:59:13
 part-length-requires-2 : tie.Need-part-length-requires-2
 part-length-requires-2 c κs = search needs
 
--- src/lib.rt:60:9
 returns : tie.Need-returns
 returns c = same-apart _ _ (λ e. c .if1 .taken (c .before .before .part-length .ensures ∙ e ∙ sym (c .before .part-length2 .ensures)))
 
--- src/lib.rt:63:9
 returns-2 : tie.Need-returns-2
 returns-2 c = same-none _ _ (sym (c .before .before .before .part-length .ensures) ∙ c .if2 .taken) (sym (c .before .before .part-length2 .ensures) ∙ sym (c .before .if1 .left) ∙ c .if2 .taken)
 
--- src/lib.rt:65:5
 same-run-requires : tie.Need-same-run-requires
 same-run-requires c κs = (
   omega (arith, part-size (now (c .before .before .before .before .before .args .s)) (c .before .before .before .before .before .args .a) (c .before .before .before .before .before .args .e)),
   omega (arith, part-size (now (c .before .before .before .before .before .args .s)) (c .before .before .before .before .before .args .b) (c .before .before .before .before .before .args .f)),
 )
 
--- src/lib.rt:55:1
 returns-3 : tie.Need-returns-3
 returns-3 c =
     same-cut (now (c .before .before .before .before .before .before .args .s)) (c .before .before .before .before .before .before .args .a) (c .before .before .before .before .before .before .args .e) (c .before .before .before .before .before .before .args .b) (c .before .before .before .before .before .before .args .f) (c .before .before .before .before .part-length .result) (c .before .before .before .before .part-length .ensures) (c .before .before .if1 .left ∙ c .before .before .before .part-length2 .ensures)

@@ -1,16 +1,12 @@
 use Rattle.rules.specs.Text.{same}
 use Rattle.judge.proofs.PartLaws.{sameFrom, run-begins, run-ends, run-more, run-differs}
 use borrow.Author.Needs.{needs}
-use native.Mathlib.Omega.{arith}
-use mathlib.Core.Path.{_≡_, refl, sym, ap, _∙_}
-use mathlib.Core.Bool.{true, false}
-use Prim.Native.Nat.{ℕ, _+_, _-_, _*_, _≤_, _<_}
-use lib.ListN.{length, drop, take, getD, set}
+use mathlib.Core.Path.{_≡_, sym, _∙_}
+use Prim.Native.Nat.{_-_}
+use lib.ListN.{drop, take}
 use denote.Ref.{now}
 use Rattle.judge.proofs.same_run.Statement.{statement}
 use Rattle.judge.proofs.same_run.Tie as tie
-use Rattle.judge.proofs.same_run.Reads as reads
-use Rattle.judge.proofs.same_run.Lts as lts
 
 abbrev Inv-loop : tie.InvT-loop
 Inv-loop s a b n i₀ i = same (take n (drop a s)) (take n (drop b s)) ≡ sameFrom s a b n i
@@ -18,43 +14,33 @@ Inv-loop s a b n i₀ i = same (take n (drop a s)) (take n (drop b s)) ≡ sameF
 abbrev μ-loop : tie.MeasureT-loop
 μ-loop s a b n i₀ i = n - i
 
--- src/lib.rt:45:5
 loop-holds : tie.Need-loop-holds Inv-loop μ-loop
 loop-holds c = run-begins (now (c .args .s)) (c .args .a) (c .args .b) (c .args .n)
 
--- src/lib.rt:46:14
 add-if1 : tie.Need-add-if1 Inv-loop μ-loop
 add-if1 c = search needs
 
--- src/lib.rt:46:12
 shared-slice-read-if1 : tie.Need-shared-slice-read-if1 Inv-loop μ-loop
 shared-slice-read-if1 c = search needs
 
--- src/lib.rt:46:26
 add-if1-2 : tie.Need-add-if1-2 Inv-loop μ-loop
 add-if1-2 c = search needs
 
--- src/lib.rt:46:24
 shared-slice-read-if1-2 : tie.Need-shared-slice-read-if1-2 Inv-loop μ-loop
 shared-slice-read-if1-2 c = search needs
 
--- src/lib.rt:47:13
 returns : tie.Need-returns Inv-loop μ-loop
 returns c = sym (c .before .before .before .before .loop .inv ∙ run-differs (now (c .before .before .before .before .before .args .s)) (c .before .before .before .before .before .args .a) (c .before .before .before .before .before .args .b) (c .before .before .before .before .before .args .n) (c .before .before .before .before .loop .i) (c .before .before .before .loop-test .taken) (c .before .before .before .before .before .pre .0) (c .before .before .before .before .before .pre .1) (c .if1 .taken))
 
--- src/lib.rt:49:9
 add-i : tie.Need-add-i Inv-loop μ-loop
 add-i c = search needs
 
--- src/lib.rt:45:5
 loop-less : tie.Need-loop-less Inv-loop μ-loop
 loop-less c = search needs
 
--- src/lib.rt:45:5
 loop-again : tie.Need-loop-again Inv-loop μ-loop
 loop-again c = c .before .before .before .before .loop .inv ∙ run-more (now (c .before .before .before .before .before .args .s)) (c .before .before .before .before .before .args .a) (c .before .before .before .before .before .args .b) (c .before .before .before .before .before .args .n) (c .before .before .before .before .loop .i) (c .before .before .before .loop-test .taken) (c .before .before .before .before .before .pre .0) (c .before .before .before .before .before .pre .1) (c .if1 .left)
 
--- src/lib.rt:40:1
 returns-2 : tie.Need-returns-2 Inv-loop μ-loop
 returns-2 c = sym (c .before .loop .inv ∙ run-ends (now (c .before .before .args .s)) (c .before .before .args .a) (c .before .before .args .b) (c .before .before .args .n) (c .before .loop .i) (c .loop-test .left))
 
