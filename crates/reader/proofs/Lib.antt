@@ -4,3 +4,5 @@ pub mod RecordLaws
 pub mod FirstLaws
 pub mod StepLaws
 pub mod DueLaws
+pub mod ReadLaws
+pub mod WholeLaws

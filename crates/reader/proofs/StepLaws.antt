@@ -133,3 +133,13 @@ module _ (t : Text) (n : ℕ) (e : n ≡ 0 + span digit (drop 0 t)) where
         ap Next.Goes (q ∙ ap recordsDue is-value)
         ∙ sym (ap (λ (b : Bool). cond b (Next.Goes (recordsDue (value (take n t)))) (Next.Stops 4 0)) (and-i is-number (ap (λ (s : Text). same s (bytes "]")) (ends l c) ∙ same-refl (bytes "]"))))
         ∙ counted-by
+
+-- What a test leads to.
+pub goes-to : (b : Bool) (d next : Due) (x y : ℕ) → cond b (Next.Goes d) (Next.Stops x y) ≡ Next.Goes next → d ≡ next
+goes-to true d next x y e = cc
+goes-to false d next x y e = let z : _≡_ {A = ℕ} 0 1 = cc in absurd (omega arith)
+
+pub counted-due : (t : Text) (next : Due) → countRule base t ≡ Next.Goes next → (j : ℕ) × (next ≡ recordsDue j)
+counted-due t next e =
+    let n = span digit t in
+    (value (take n t), sym (goes-to (numberFrom 0 999 (take n t) && same (drop n t) (bytes "]")) (recordsDue (value (take n t))) next 4 0 (count-law t ∙ e)))

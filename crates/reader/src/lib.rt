@@ -14,8 +14,10 @@ ghost use lib.ListN.{getD};
 ghost use Rattle.reader.specs.Record.{brokenAt, datedOf, scoredAt, recordOf};
 use rules::Due;
 use rules::Next;
+use rules::Refusal;
 ghost use Rattle.rules.specs.Rules.{base};
 ghost use Rattle.rules.specs.Arguments.{entries};
+ghost use Rattle.reader.specs.Read.{readOf, counted, noted, restTold};
 ghost use Rattle.rules.specs.Reading.{recordsDue, countRule, keywordDue, whole, step};
 use fields::CallRead;
 use fields::ExchangeRead;
@@ -373,5 +375,128 @@ pub fn step(due: Due, line: &[u8]) -> Next
             number: 6,
             field: 0,
         },
+    }
+}
+
+// How many records a log has and where the first begins, once its count line is read.
+pub struct Mark {
+    pub records: usize,
+    pub first: usize,
+}
+
+// What is noted of the count line, behind which the first record begins.
+fn counted(next: Due, mark: Mark, at: usize) -> Mark
+    ensures { λ r. ⌜ r ≡ counted next mark at ⌝ }
+{
+    match next {
+        Due::Record(n) => Mark {
+            records: n,
+            first: at,
+        },
+        Due::End => Mark {
+            records: 0,
+            first: at,
+        },
+        Due::Identifier => mark,
+        Due::Keyword(_) => mark,
+        Due::Remarks => mark,
+        Due::Remark => mark,
+    }
+}
+
+fn noted(due: Due, next: Due, mark: Mark, at: usize) -> Mark
+    ensures { λ r. ⌜ r ≡ noted due next mark at ⌝ }
+{
+    match due {
+        Due::Remark => counted(next, mark, at),
+        Due::Identifier => mark,
+        Due::Keyword(_) => mark,
+        Due::Remarks => mark,
+        Due::Record(_) => mark,
+        Due::End => mark,
+    }
+}
+
+// What is answered of a log: how many records it has and where the first begins, or why it is refused.
+pub enum ReadAnswer {
+    Accepted { records: usize, first: usize },
+    Refused(Refusal),
+}
+
+// No line stands where one is due: the log is at its end where no byte is left.
+fn at_rest(due: Due, line: u32, left: bool, mark: Mark) -> ReadAnswer
+    ensures { λ r. ⌜ r ≡ restTold due line left mark ⌝ }
+{
+    let missing = ReadAnswer::Refused(Refusal {
+        number: 2,
+        line: line,
+        field: 0,
+    });
+    let misplaced = ReadAnswer::Refused(Refusal {
+        number: 6,
+        line: line,
+        field: 0,
+    });
+    match due {
+        Due::Record(_) => {
+            if left {
+                return missing;
+            }
+            misplaced
+        }
+        Due::End => {
+            if left {
+                return misplaced;
+            }
+            ReadAnswer::Accepted {
+                records: mark.records,
+                first: mark.first,
+            }
+        }
+        Due::Identifier => missing,
+        Due::Keyword(_) => missing,
+        Due::Remarks => missing,
+        Due::Remark => missing,
+    }
+}
+
+// Reads a log, line by line, in one pass.
+pub fn read(log: &[u8]) -> ReadAnswer
+    ensures { λ r. ⌜ r ≡ readOf (now (log .entry)) ⌝ }
+{
+    if 65535 < log.len() {
+        return ReadAnswer::Refused(Refusal {
+            number: 1,
+            line: 0,
+            field: 0,
+        });
+    }
+    let mut due = Due::Identifier;
+    let mut mark = Mark {
+        records: 0,
+        first: 0,
+    };
+    let mut at = 0;
+    let mut line: u32 = 1;
+    loop {
+        let LineRead::Line(end) = line_end(log, at) else {
+            return at_rest(due, line, at < log.len(), mark);
+        };
+        let after = step(due, &log[at..end]);
+        match after {
+            Next::Stops { number, field } => {
+                return ReadAnswer::Refused(Refusal {
+                    number: number,
+                    line: line,
+                    field: field,
+                });
+            }
+            Next::Goes(next) => {
+                at = end + 2;
+                line += 1;
+                mark = noted(due, next, mark, at);
+                due = next;
+            }
+        }
     }
 }
