@@ -8,14 +8,15 @@ use mathlib.Core.List.{List, []}
 use lib.Dec.{ltb}
 use lib.ListN.{length}
 use borrow.Author.Tests.{lt-ltb, le-ltb}
+use Rattle.rules.specs.declared.Refusal.{Refusal}
 use Rattle.rules.specs.declared.Totals.{Totals}
 use Rattle.rules.specs.Text.{Text}
 use Rattle.rules.specs.Rules.{base}
 use Rattle.rules.specs.Fields.{Qso}
 use Rattle.rules.specs.Log.{Log}
 use Rattle.rules.specs.Judging.{declared, verdicts, verdictsOfLog, totals, totalsOf, totalsOfLog}
-use Rattle.rules.specs.Reading.{refusal}
-use Rattle.rules.specs.Answers.{judge, judgeReading, judgeLog, recordsOfReading, numbersOfJudgement, over}
+use Rattle.rules.specs.Reading.{Reading, accepted, refused, refusal, read}
+use Rattle.rules.specs.Answers.{Judgement, judged, unjudged, judge, judgeReading, judgeLog, recordsOfReading, numbersOfJudgement, over}
 use Rattle.rules.proofs.Format.{accepted-exactly}
 use Rattle.rules.proofs.ValidLogs.{count-valid}
 use Rattle.rules.proofs.Classes.{length-verdicts}
@@ -25,9 +26,12 @@ use Rattle.places.proofs.RecordsHeld.{records-held}
 use Rattle.places.proofs.HeaderHeld.{declared-held}
 use Rattle.places.proofs.ToldBounds.{declared-below}
 use Rattle.judge.specs.declared.Weighed.the-variants as Weighed
+use Rattle.judge.specs.declared.Judged.the-variants as Judged
+use Rattle.reader.specs.declared.ReadAnswer.the-variants as ReadAnswer
+use Rattle.reader.specs.Read.{readTold, readOf}
 use Rattle.judge.specs.Count.{closing, asDeclared, Small, Closable}
 use Rattle.judge.specs.Weigh.{recordsIn, recordsOf, numbersOf, Weighable, Weighs}
-use Rattle.judge.specs.Judge.{firstOf, weighedBy, weighedOf, verdictsAfterwards, Accepts}
+use Rattle.judge.specs.Judge.{firstOf, weighedBy, weighedOf, judgedBy, judgedOf, verdictsAfterwards, Accepts}
 use Rattle.judge.proofs.CountLaws.{closed-totals}
 
 -- What is declared keeps its rules, whatever the log.
@@ -122,3 +126,56 @@ module _ {s : Text} {records first : ℕ} (a : Accepts s records first) where
     pub written-done : {t : Totals} {slice' : List ℕ} → Weighs s slice t slice' → slice' ≡ verdictsAfterwards s slice
     unfolding verdictsAfterwards judge judgeReading judgeLog numbersOfJudgement verdictsOfLog
     written-done w = w .written ∙ rw (a .isRead, enough) (ap (λ (qs : List Qso). over (numbersOf qs) slice) records-are)
+
+-- # From the reader's answer
+
+-- Two answers of different kinds.
+no-answer : {records first : ℕ} {r : Refusal} → ReadAnswer.Refused r ≡ ReadAnswer.Accepted records first → ⊥
+no-answer e = let z : _≡_ {A = ℕ} 0 1 = cc in omega arith
+
+not-weighed : {t : Totals} {records first : ℕ} {r : Refusal} → Weighed.Refused r ≡ Weighed.Done t records first → ⊥
+not-weighed e = let z : _≡_ {A = ℕ} 0 1 = cc in omega arith
+
+module _ (s : Text) where
+  pub accepts : {records first : ℕ} → readOf s ≡ ReadAnswer.Accepted records first → Accepts s records first
+  unfolding readOf firstOf
+  accepts {records} {first} = by (read base s) refl
+    where
+      by : (x : Reading) → read base s ≡ x → readTold (length s) x ≡ ReadAnswer.Accepted records first → Accepts s records first
+      by (accepted log) e f = record { log = log; isRead = e; count = cc; place = cc }
+      by (refused r) e f = absurd (no-answer f)
+
+  refuses : {r : Refusal} → readOf s ≡ ReadAnswer.Refused r → read base s ≡ refused r
+  unfolding readOf
+  refuses {r} = by (read base s) refl
+    where
+      by : (x : Reading) → read base s ≡ x → readTold (length s) x ≡ ReadAnswer.Refused r → read base s ≡ refused r
+      by (accepted log) e f = absurd (no-answer (sym f))
+      by (refused q) e f = let k : q ≡ r = cc in e ∙ ap refused k
+
+  module _ (slice : List ℕ) {r : Refusal} (e : readOf s ≡ ReadAnswer.Refused r) where
+    pub refused-unread : Weighed.Refused r ≡ weighedOf (length slice) s
+    unfolding weighedOf weighedBy judge judgeReading
+    refused-unread = rw (refuses e)
+
+    pub kept-unread : slice ≡ verdictsAfterwards s slice
+    unfolding verdictsAfterwards judge judgeReading numbersOfJudgement over
+    kept-unread = rw (refuses e)
+
+  -- The totals alone.
+  module _ (room : ℕ) where
+    pub totals-alone : {t : Totals} {records first : ℕ} → weighedOf room s ≡ Weighed.Done t records first → Judged.Totals t ≡ judgedOf room s
+    unfolding weighedOf judgedOf
+    totals-alone {t} {records} {first} = by (judge base room s)
+      where
+        by : (j : Judgement) → weighedBy j (recordsOfReading (read base s)) (firstOf s (read base s)) ≡ Weighed.Done t records first → Judged.Totals t ≡ judgedBy j
+        by (judged u vs) e = let k : t ≡ u = cc in ap Judged.Totals k
+        by (unjudged r) e = absurd (not-weighed e)
+
+    pub refusal-alone : {r : Refusal} → weighedOf room s ≡ Weighed.Refused r → Judged.Refused r ≡ judgedOf room s
+    unfolding weighedOf judgedOf
+    refusal-alone {r} = by (judge base room s)
+      where
+        by : (j : Judgement) → weighedBy j (recordsOfReading (read base s)) (firstOf s (read base s)) ≡ Weighed.Refused r → Judged.Refused r ≡ judgedBy j
+        by (judged u vs) e = absurd (not-weighed (sym e))
+        by (unjudged q) e = let k : r ≡ q = cc in ap Judged.Refused k

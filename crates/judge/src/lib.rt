@@ -15,6 +15,7 @@ ghost use Rattle.judge.specs.Judge.{weighedOf, judgedOf, verdictsAfterwa
 ghost use Rattle.judge.specs.Count.{worthIf, addRecord, closing, Countable, Closable};
 use places::Contact;
 use places::Declared;
+use reader::ReadAnswer;
 use rules::Class;
 use rules::Refusal;
 use rules::Totals;
@@ -450,5 +451,31 @@ fn weigh_accepted(log: &[u8], records: usize, first: usize, verdicts: &mut [u8])
         totals,
         records,
         first,
+    }
+}
+
+// A log is read and judged: its verdicts are written to the front of the slice. On a refusal no byte of the slice is changed.
+pub fn weigh(log: &[u8], verdicts: &mut [u8]) -> Weighed
+    ensures answer { λ r. ⌜ r ≡ weighedOf (length (now (verdicts .entry))) (now (log .entry)) ⌝ }
+    ensures slice { λ r. ⌜ now (verdicts .exit) ≡ verdictsAfterwards (now (log .entry)) (now (verdicts .entry)) ⌝ }
+{
+    match reader::read(log) {
+        ReadAnswer::Accepted { records, first } => weigh_accepted(log, records, first, verdicts),
+        ReadAnswer::Refused(r) => Weighed::Refused(r),
+    }
+}
+
+// The same, where the totals are all that is asked for.
+pub fn judge(log: &[u8], verdicts: &mut [u8]) -> Judged
+    ensures answer { λ r. ⌜ r ≡ judgedOf (length (now (verdicts .entry))) (now (log .entry)) ⌝ }
+    ensures slice { λ r. ⌜ now (verdicts .exit) ≡ verdictsAfterwards (now (log .entry)) (now (verdicts .entry)) ⌝ }
+{
+    match weigh(log, verdicts) {
+        Weighed::Done {
+            totals,
+            records: _,
+            first: _,
+        } => Judged::Totals(totals),
+        Weighed::Refused(r) => Judged::Refused(r),
     }
 }
