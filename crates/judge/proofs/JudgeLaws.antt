@@ -86,7 +86,7 @@ module _ {s : Text} {records first : ℕ} (a : Accepts s records first) where
       rw (a .isRead, lt-ltb (length slice) (length (log .records)) short)
 
   pub kept-short : (slice : List ℕ) → length slice < records → slice ≡ verdictsAfterwards s slice
-  unfolding verdictsAfterwards judge judgeReading judgeLog numbersOfJudgement over
+  unfolding judge judgeReading judgeLog numbersOfJudgement over
   kept-short slice h =
       let short : length slice < length (log .records) = omega (arith, a .count) in
       rw (a .isRead, lt-ltb (length slice) (length (log .records)) short)
@@ -124,7 +124,7 @@ module _ {s : Text} {records first : ℕ} (a : Accepts s records first) where
         rw (a .isRead, enough) (λ i. Weighed.Done (totals-are w e f i) (a .count i) (a .place i))
 
     pub written-done : {t : Totals} {slice' : List ℕ} → Weighs s slice t slice' → slice' ≡ verdictsAfterwards s slice
-    unfolding verdictsAfterwards judge judgeReading judgeLog numbersOfJudgement verdictsOfLog
+    unfolding judge judgeReading judgeLog numbersOfJudgement verdictsOfLog
     written-done w = w .written ∙ rw (a .isRead, enough) (ap (λ (qs : List Qso). over (numbersOf qs) slice) records-are)
 
 -- # From the reader's answer
@@ -159,7 +159,7 @@ module _ (s : Text) where
     refused-unread = rw (refuses e)
 
     pub kept-unread : slice ≡ verdictsAfterwards s slice
-    unfolding verdictsAfterwards judge judgeReading numbersOfJudgement over
+    unfolding judge judgeReading numbersOfJudgement over
     kept-unread = rw (refuses e)
 
   -- The totals alone.

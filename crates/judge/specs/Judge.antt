@@ -39,8 +39,7 @@ unfolding judgedBy judge
 judgedOf room s = judgedBy (judge base room s)
 
 -- What the verdict slice holds afterwards: on a refusal, what it held.
-unfoldable pub verdictsAfterwards : Text → List ℕ → List ℕ
-unfolding over numbersOfJudgement judge
+abbrev pub verdictsAfterwards : Text → List ℕ → List ℕ
 verdictsAfterwards s slice = over (numbersOfJudgement (judge base (length slice) s)) slice
 
 -- The log was read, and has so many records, the first at this place.
