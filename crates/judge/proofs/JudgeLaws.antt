@@ -1,0 +1,181 @@
+-- From what was read to what is answered: an accepted log can be weighed, and what it is weighed to is what document 01 says of it.
+-- Assumes nothing.
+use Prim.Native.Nat.{ℕ, _≤_, _<_}
+use native.Mathlib.Omega.{arith}
+use mathlib.Core.Path.{_≡_, refl, sym, ap, subst, _∙_}
+use mathlib.Core.Bool.{false}
+use mathlib.Core.List.{List, []}
+use lib.Dec.{ltb}
+use lib.ListN.{length}
+use borrow.Author.Tests.{lt-ltb, le-ltb}
+use Rattle.rules.specs.declared.Refusal.{Refusal}
+use Rattle.rules.specs.declared.Totals.{Totals}
+use Rattle.rules.specs.Text.{Text}
+use Rattle.rules.specs.Rules.{base}
+use Rattle.rules.specs.Fields.{Qso}
+use Rattle.rules.specs.Log.{Log}
+use Rattle.rules.specs.Judging.{declared, verdicts, verdictsOfLog, totals, totalsOf, totalsOfLog}
+use Rattle.rules.specs.Reading.{Reading, accepted, refused, refusal, read}
+use Rattle.rules.specs.Answers.{Judgement, judged, unjudged, judge, judgeReading, judgeLog, recordsOfReading, numbersOfJudgement, over}
+use Rattle.rules.proofs.Format.{accepted-exactly}
+use Rattle.rules.proofs.ValidLogs.{count-valid}
+use Rattle.rules.proofs.Classes.{length-verdicts}
+use Rattle.places.specs.declared.Declared.{Declared}
+use Rattle.places.specs.Places.{declaredAt, Holds}
+use Rattle.places.proofs.RecordsHeld.{records-held}
+use Rattle.places.proofs.HeaderHeld.{declared-held}
+use Rattle.places.proofs.ToldBounds.{declared-below}
+use Rattle.judge.specs.declared.Weighed.the-variants as Weighed
+use Rattle.judge.specs.declared.Judged.the-variants as Judged
+use Rattle.reader.specs.declared.ReadAnswer.the-variants as ReadAnswer
+use Rattle.reader.specs.Read.{readTold, readOf}
+use Rattle.judge.specs.Count.{closing, asDeclared, Small, Closable}
+use Rattle.judge.specs.Weigh.{recordsIn, recordsOf, numbersOf, Weighable, Weighs}
+use Rattle.judge.specs.Judge.{firstOf, weighedBy, weighedOf, judgedBy, judgedOf, verdictsAfterwards, Accepts}
+use Rattle.judge.proofs.CountLaws.{closed-totals}
+
+-- What is declared keeps its rules, whatever the log.
+declared-small : (s : Text) → Small (declaredAt s)
+declared-small s =
+    let d = declared-below s in
+    record {
+      squarebonus = d .squarebonus;
+      squaremultiplier = d .squaremultiplier;
+      exchangebonus = d .exchangebonus;
+      exchangemultiplier = d .exchangemultiplier;
+      countrybonus = d .countrybonus;
+      countrymultiplier = d .countrymultiplier;
+    }
+
+pub closable : {s : Text} {slice slice' : List ℕ} {t : Totals} {d : Declared} → Weighs s slice t slice' → d ≡ declaredAt s → Closable t d
+closable {s = s} w e = record { few = w .few; small = rw e (declared-small s) }
+
+-- On a refusal the slice holds what it held.
+pub nothing-over : (slice : List ℕ) → slice ≡ over [] slice
+unfolding over
+nothing-over slice = refl
+
+module _ {s : Text} {records first : ℕ} (a : Accepts s records first) where
+  abbrev log : Log
+  log = a .log
+
+  records-are : recordsOf s ≡ log .records
+  unfolding recordsOf
+  records-are = ap recordsIn (a .isRead)
+
+  pub weighable : {slice : List ℕ} → records ≤ length slice → Weighable s first records slice
+  unfolding firstOf base
+  weighable h =
+      let all : records ≡ length (recordsOf s) = a .count ∙ ap length (sym records-are) in
+      let few = count-valid base log (accepted-exactly s log .0 (a .isRead) .0) in
+      let count = a .count in
+      record {
+        held =
+            subst (λ (qs : List Qso). Holds s first qs) (sym records-are)
+            (subst (λ (n : ℕ). Holds s n (log .records)) (sym (a .place)) (records-held s log (a .isRead)));
+        all = all;
+        few = omega arith;
+        room = h;
+      }
+
+  -- Too short a slice.
+  pub refused-short : (slice : List ℕ) → length slice < records → Weighed.Refused (refusal 7 0 0) ≡ weighedOf (length slice) s
+  unfolding weighedOf weighedBy judge judgeReading judgeLog
+  refused-short slice h =
+      let short : length slice < length (log .records) = omega (arith, a .count) in
+      rw (a .isRead, lt-ltb (length slice) (length (log .records)) short)
+
+  pub kept-short : (slice : List ℕ) → length slice < records → slice ≡ verdictsAfterwards s slice
+  unfolding judge judgeReading judgeLog numbersOfJudgement over
+  kept-short slice h =
+      let short : length slice < length (log .records) = omega (arith, a .count) in
+      rw (a .isRead, lt-ltb (length slice) (length (log .records)) short)
+
+  -- Room enough.
+  module _ (slice : List ℕ) (h : records ≤ length slice) where
+    enough : ltb (length slice) (length (log .records)) ≡ false
+    enough = le-ltb (length slice) (length (log .records)) (omega (arith, a .count))
+
+    declared-are : asDeclared (declaredAt s) ≡ declared log
+    unfolding asDeclared
+    declared-are =
+        let d = declared-held s log (a .isRead) in
+        λ i.
+        record {
+          squareBonus = d .squarebonus i;
+          squareMultiplier = d .squaremultiplier i;
+          exchangeBonus = d .exchangebonus i;
+          exchangeMultiplier = d .exchangemultiplier i;
+          countryBonus = d .countrybonus i;
+          countryMultiplier = d .countrymultiplier i;
+        }
+
+    totals-are : {t u : Totals} {d : Declared} {slice' : List ℕ} → Weighs s slice t slice' → d ≡ declaredAt s → u ≡ closing t d → u ≡ totalsOfLog base log
+    unfolding totalsOfLog totals
+    totals-are w e f =
+        f
+        ∙ (λ i. closing (w .totals i) (e i))
+        ∙ closed-totals (declaredAt s) (recordsOf s) (verdicts base (recordsOf s)) (length-verdicts base (recordsOf s))
+        ∙ (λ i. totalsOf (declared-are i) (records-are i) (verdicts base (records-are i)))
+
+    pub done : {t u : Totals} {d : Declared} {slice' : List ℕ} → Weighs s slice t slice' → d ≡ declaredAt s → u ≡ closing t d → Weighed.Done u records first ≡ weighedOf (length slice) s
+    unfolding weighedOf weighedBy judge judgeReading judgeLog recordsOfReading
+    done w e f =
+        rw (a .isRead, enough) (λ i. Weighed.Done (totals-are w e f i) (a .count i) (a .place i))
+
+    pub written-done : {t : Totals} {slice' : List ℕ} → Weighs s slice t slice' → slice' ≡ verdictsAfterwards s slice
+    unfolding judge judgeReading judgeLog numbersOfJudgement verdictsOfLog
+    written-done w = w .written ∙ rw (a .isRead, enough) (ap (λ (qs : List Qso). over (numbersOf qs) slice) records-are)
+
+-- # From the reader's answer
+
+-- Two answers of different kinds.
+no-answer : {records first : ℕ} {r : Refusal} → ReadAnswer.Refused r ≡ ReadAnswer.Accepted records first → ⊥
+no-answer e = let z : _≡_ {A = ℕ} 0 1 = cc in omega arith
+
+not-weighed : {t : Totals} {records first : ℕ} {r : Refusal} → Weighed.Refused r ≡ Weighed.Done t records first → ⊥
+not-weighed e = let z : _≡_ {A = ℕ} 0 1 = cc in omega arith
+
+module _ (s : Text) where
+  pub accepts : {records first : ℕ} → readOf s ≡ ReadAnswer.Accepted records first → Accepts s records first
+  unfolding readOf firstOf
+  accepts {records} {first} = by (read base s) refl
+    where
+      by : (x : Reading) → read base s ≡ x → readTold (length s) x ≡ ReadAnswer.Accepted records first → Accepts s records first
+      by (accepted log) e f = record { log = log; isRead = e; count = cc; place = cc }
+      by (refused r) e f = absurd (no-answer f)
+
+  refuses : {r : Refusal} → readOf s ≡ ReadAnswer.Refused r → read base s ≡ refused r
+  unfolding readOf
+  refuses {r} = by (read base s) refl
+    where
+      by : (x : Reading) → read base s ≡ x → readTold (length s) x ≡ ReadAnswer.Refused r → read base s ≡ refused r
+      by (accepted log) e f = absurd (no-answer (sym f))
+      by (refused q) e f = let k : q ≡ r = cc in e ∙ ap refused k
+
+  module _ (slice : List ℕ) {r : Refusal} (e : readOf s ≡ ReadAnswer.Refused r) where
+    pub refused-unread : Weighed.Refused r ≡ weighedOf (length slice) s
+    unfolding weighedOf weighedBy judge judgeReading
+    refused-unread = rw (refuses e)
+
+    pub kept-unread : slice ≡ verdictsAfterwards s slice
+    unfolding judge judgeReading numbersOfJudgement over
+    kept-unread = rw (refuses e)
+
+  -- The totals alone.
+  module _ (room : ℕ) where
+    pub totals-alone : {t : Totals} {records first : ℕ} → weighedOf room s ≡ Weighed.Done t records first → Judged.Totals t ≡ judgedOf room s
+    unfolding weighedOf judgedOf
+    totals-alone {t} {records} {first} = by (judge base room s)
+      where
+        by : (j : Judgement) → weighedBy j (recordsOfReading (read base s)) (firstOf s (read base s)) ≡ Weighed.Done t records first → Judged.Totals t ≡ judgedBy j
+        by (judged u vs) e = let k : t ≡ u = cc in ap Judged.Totals k
+        by (unjudged r) e = absurd (not-weighed e)
+
+    pub refusal-alone : {r : Refusal} → weighedOf room s ≡ Weighed.Refused r → Judged.Refused r ≡ judgedOf room s
+    unfolding weighedOf judgedOf
+    refusal-alone {r} = by (judge base room s)
+      where
+        by : (j : Judgement) → weighedBy j (recordsOfReading (read base s)) (firstOf s (read base s)) ≡ Weighed.Refused r → Judged.Refused r ≡ judgedBy j
+        by (judged u vs) e = absurd (not-weighed (sym e))
+        by (unjudged q) e = let k : r ≡ q = cc in ap Judged.Refused k

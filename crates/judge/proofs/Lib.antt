@@ -1,0 +1,6 @@
+pub mod PartLaws
+pub mod MemoryLaws
+pub mod RememberLaws
+pub mod CountLaws
+pub mod WeighLaws
+pub mod JudgeLaws

@@ -1,0 +1,50 @@
+-- What the judge answers: the totals, or why there are none, by the definitions of document 01.
+-- Assumes nothing.
+use Prim.Native.Nat.{ℕ, _-_}
+use mathlib.Core.Path.{_≡_}
+use mathlib.Core.List.{List, map}
+use lib.ListN.{length}
+use Rattle.rules.specs.Text.{Text}
+use Rattle.rules.specs.Rules.{base}
+use Rattle.rules.specs.Log.{Log, recordLine, ended}
+use Rattle.rules.specs.Reading.{Reading, accepted, refused, read}
+use Rattle.rules.specs.Answers.{Judgement, judged, unjudged, judge, recordsOfReading, numbersOfJudgement, over}
+use Rattle.judge.specs.declared.Weighed.{Weighed}
+use Rattle.judge.specs.declared.Weighed.the-variants as Weighed
+use Rattle.judge.specs.declared.Judged.{Judged}
+use Rattle.judge.specs.declared.Judged.the-variants as Judged
+
+-- Where the first record of an accepted log begins: its records stand last.
+unfoldable pub firstOf : Text → Reading → ℕ
+unfolding ended
+firstOf s (accepted log) = length s - length (ended (map recordLine (log .records)))
+firstOf s (refused r) = 0
+
+-- The totals, with how many records there are and where the first begins; or the refusal.
+unfoldable pub weighedBy : Judgement → ℕ → ℕ → Weighed
+weighedBy (judged t vs) records first = Weighed.Done t records first
+weighedBy (unjudged r) records first = Weighed.Refused r
+
+unfoldable pub weighedOf : ℕ → Text → Weighed
+unfolding weighedBy judge recordsOfReading firstOf
+weighedOf room s = weighedBy (judge base room s) (recordsOfReading (read base s)) (firstOf s (read base s))
+
+-- The totals alone, or the refusal.
+unfoldable pub judgedBy : Judgement → Judged
+judgedBy (judged t vs) = Judged.Totals t
+judgedBy (unjudged r) = Judged.Refused r
+
+unfoldable pub judgedOf : ℕ → Text → Judged
+unfolding judgedBy judge
+judgedOf room s = judgedBy (judge base room s)
+
+-- What the verdict slice holds afterwards: on a refusal, what it held.
+abbrev pub verdictsAfterwards : Text → List ℕ → List ℕ
+verdictsAfterwards s slice = over (numbersOfJudgement (judge base (length slice) s)) slice
+
+-- The log was read, and has so many records, the first at this place.
+pub record Accepts (s : Text) (records first : ℕ) : Type 0 where
+  pub log : Log
+  pub isRead : read base s ≡ accepted log
+  pub count : records ≡ length (log .records)
+  pub place : first ≡ firstOf s (accepted log)

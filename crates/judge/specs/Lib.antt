@@ -1,0 +1,6 @@
+-- What the judge keeps of the records before, and what it adds up, in the words of document 01's definitions.
+pub mod Parts
+pub mod Memory
+pub mod Count
+pub mod Weigh
+pub mod Judge
