@@ -1,0 +1,2 @@
+-- What is written over a lent slice, and where.
+pub mod Written
