@@ -12,7 +12,7 @@ use lib.Seq.{length-take-le, take-at, drop-at, drop-drop, set-split, take-set-le
 use Rattle.rules.specs.Text.{Text, digits}
 use Rattle.rules.proofs.NumberLaws.{Small, Large, size, digits-small, digits-large, digits-length}
 use Rattle.places.specs.Places.{between}
-use Rattle.writer.specs.Written.{written}
+use Rattle.writer.specs.Written.{written, Puts}
 
 -- Nothing laid over a list leaves it as it was.
 pub written-nothing : (d : List ℕ) (at : ℕ) → written d at [] ≡ d
@@ -69,6 +69,29 @@ written-last d at t b h =
     ap (λ (l : List ℕ). drop k l) (set-split d k b h) ∙ drop-at (take k d) r k (length-take-le k d (omega arith)) in
     let both : at + length (t ++ (b ∷ [])) ≡ suc k = rw length-append (omega arith) in
     rw (before, behind, both, ← append-assoc (take at d) t (b ∷ []), append-assoc (take at d ++ t) (b ∷ []))
+
+-- # One text behind another
+
+module _ {d e : List ℕ} {at r : ℕ} {t : Text} (p : Puts d at t e r) where
+  as-long : length e ≡ length d
+  as-long = ap length (p .list) ∙ written-length d at t (p .fits)
+
+  -- There is room for a text behind another if there is room for both.
+  pub puts-room : (u : Text) → at + (length t + length u) ≤ length d → r + length u ≤ length e
+  puts-room u h = let k : r ≡ at + length t = p .place in let l : length e ≡ length d = as-long in omega arith
+
+  -- Two texts that were written one behind the other are one text that was written.
+  pub puts-then : {u : Text} {f : List ℕ} {q : ℕ} → Puts e r u f q → Puts d at (t ++ u) f q
+  puts-then {u} {f} {q} n =
+      let k : r ≡ at + length t = p .place in
+      let m : q ≡ r + length u = n .place in
+      let g : r + length u ≤ length e = n .fits in
+      let l : length e ≡ length d = as-long in
+      record {
+        fits = rw length-append (omega arith);
+        list = n .list ∙ rw (p .list, k) (written-then d at t (p .fits) u);
+        place = rw length-append (omega arith);
+      }
 
 -- # Digits
 

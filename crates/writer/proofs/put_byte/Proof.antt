@@ -15,7 +15,7 @@ same-length : tie.Need-same-length
 same-length c = search needs
 
 returns : tie.Need-returns
-returns c = (written-byte _ _ _ (c .pre), search needs)
+returns c = record { fits = search needs; list = written-byte _ _ _ (c .pre); place = search needs }
 
 pub put-byte-spec : {M : Type 1} → statement M
 put-byte-spec = tie.close (tie.spec slice-write-out add-result same-length returns)

@@ -74,10 +74,12 @@ same-length c = search needs
 
 returns : tie.Need-returns Inv-loop μ-loop
 returns c =
-    let inv = c .before .loop .inv in (
-      digit-first (c .before .loop .out) _ (c .before .loop .i) (c .before .loop .rest) (inv .0) (omega arith) (omega arith) ∙ inv .3,
-      search needs,
-    )
+    let inv = c .before .loop .inv in
+    record {
+      fits = search needs;
+      list = digit-first (c .before .loop .out) _ (c .before .loop .i) (c .before .loop .rest) (inv .0) (omega arith) (omega arith) ∙ inv .3;
+      place = search needs;
+    }
 
 pub put-number-spec : {M : Type 1} → statement M
 put-number-spec =

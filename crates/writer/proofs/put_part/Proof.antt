@@ -3,7 +3,7 @@
 -- Assumes nothing.
 use Rattle.places.specs.Places.{between}
 use Rattle.writer.specs.Written.{written}
-use Rattle.writer.proofs.WrittenLaws.{part-none, part-turn}
+use Rattle.writer.proofs.WrittenLaws.{part-length, part-none, part-turn}
 use borrow.Author.Needs.{needs}
 use native.Mathlib.Omega.{arith}
 use mathlib.Core.Path.{_≡_, refl}
@@ -54,8 +54,11 @@ same-length c = search needs
 
 returns : tie.Need-returns Inv-loop μ-loop
 returns c =
-    let e : c .before .loop .i ≡ c .before .before .args .to = omega arith in
-    (cc, search needs)
+    let at-start = c .before .before in
+    let e : c .before .loop .i ≡ at-start .args .to = omega arith in
+    let l : length (between (now (at-start .args .s)) (at-start .args .from) (at-start .args .to)) ≡ at-start .args .to - at-start .args .from =
+    part-length (now (at-start .args .s)) (at-start .args .from) (at-start .args .to) (omega arith) (omega arith) in
+    record { fits = omega arith; list = cc; place = omega arith }
 
 pub put-part-spec : {M : Type 1} → statement M
 put-part-spec =
