@@ -15,19 +15,11 @@ use borrow.Author.Needs.{needs}
 use Rattle.writer.proofs.put_record.Statement.{statement}
 use Rattle.writer.proofs.put_record.Tie as tie
 
--- The first ten fields are written.
-upto1 : (c : tie.After-put-part)
-    → Puts (now (c .before .before .before .before .before .before .args .out)) (c .before .before .before .before .before .before .args .at) (between (now (c .before .before .before .before .before .before .args .s)) (c .before .before .before .before .before .before .args .start) (c .before .before .before .before .before .before .args .c .points)) (c .put-part .last .0) (c .put-part .result)
-upto1 c = c .put-part .ensures
-
--- The points too.
-upto2 : (c : tie.After-put-points)
-    → Puts (now (c .before .before .before .before .before .before .before .before .before .before .args .out)) (c .before .before .before .before .before .before .before .before .before .before .args .at)
-    (between (now (c .before .before .before .before .before .before .before .before .before .before .args .s)) (c .before .before .before .before .before .before .before .before .before .before .args .start) (c .before .before .before .before .before .before .before .before .before .before .args .c .points)
-    ++ pointsText (now (c .before .before .before .before .before .before .before .before .before .before .args .s)) (c .before .before .before .before .before .before .before .before .before .before .args .c .points) (c .before .before .before .before .before .before .before .before .before .before .args .c .pointsend) (c .before .before .before .before .before .before .before .is-duplicate .result))
-    (c .put-points .last .0)
-    (c .put-points .result)
-upto2 c = puts-then (upto1 (c .before .before .before .before)) (c .put-points .ensures)
+-- The first ten fields and the points are written.
+upto-points : (c : tie.After-put-points)
+    → let a = c .before .before .before .before .before .before .before .before .before .before .args in
+    Puts (now (a .out)) (a .at) (between (now (a .s)) (a .start) (a .c .points) ++ pointsText (now (a .s)) (a .c .points) (a .c .pointsend) (c .before .before .before .before .before .before .before .is-duplicate .result)) (c .put-points .last .0) (c .put-points .result)
+upto-points c = puts-then (c .before .before .before .before .put-part .ensures) (c .put-points .ensures)
 
 is-duplicate-requires : tie.Need-is-duplicate-requires
 is-duplicate-requires c κs = search needs
@@ -55,7 +47,7 @@ put-points-requires c κs =
     let k = c .before .before .before .before .before .keeps-country in (
       at-start .pre .1,
       at-start .pre .2,
-      puts-room (upto1 (c .before .before .before)) (pointsText (now (a .s)) (a .c .points) (a .c .pointsend) (d .result)) (room-points (now (a .s)) (a .start) (a .c) (a .v) (d .result) (k .result) (d .ensures) (k .ensures) (a .at) (length (now (a .out))) (at-start .pre .3)),
+      puts-room (c .before .before .before .put-part .ensures) (pointsText (now (a .s)) (a .c .points) (a .c .pointsend) (d .result)) (room-points (now (a .s)) (a .start) (a .c) (a .v) (d .result) (k .result) (d .ensures) (k .ensures) (a .at) (length (now (a .out))) (at-start .pre .3)),
     )
 
 put-marks-requires : tie.Need-put-marks-requires
@@ -64,7 +56,7 @@ put-marks-requires c κs =
     let a = at-start .args in
     let d = c .before .before .before .before .before .before .before .before .before .before .is-duplicate in
     let k = c .before .before .before .before .before .before .before .before .before .keeps-country in
-    puts-room (upto2 (c .before .before .before)) (marksText (a .v .exchange) (a .v .square) (k .result) (d .result)) (room-marks (now (a .s)) (a .start) (a .c) (a .v) (d .result) (k .result) (d .ensures) (k .ensures) (a .at) (length (now (a .out))) (at-start .pre .3))
+    puts-room (upto-points (c .before .before .before)) (marksText (a .v .exchange) (a .v .square) (k .result) (d .result)) (room-marks (now (a .s)) (a .start) (a .c) (a .v) (d .result) (k .result) (d .ensures) (k .ensures) (a .at) (length (now (a .out))) (at-start .pre .3))
 
 same-length : tie.Need-same-length
 same-length c = search needs
@@ -75,7 +67,7 @@ returns c =
     let a = at-start .args in
     let d = c .before .before .before .before .before .before .before .before .before .before .before .before .before .is-duplicate in
     let k = c .before .before .before .before .before .before .before .before .before .before .before .before .keeps-country in
-    rw (record-parts (now (a .s)) (a .start) (a .c) (a .v) (d .result) (k .result) (d .ensures) (k .ensures)) (puts-then (upto2 (c .before .before .before .before .before .before)) (c .before .before .put-marks .ensures))
+    rw (record-parts (now (a .s)) (a .start) (a .c) (a .v) (d .result) (k .result) (d .ensures) (k .ensures)) (puts-then (upto-points (c .before .before .before .before .before .before)) (c .before .before .put-marks .ensures))
 
 pub put-record-spec : {M : Type 1} → statement M
 put-record-spec =
