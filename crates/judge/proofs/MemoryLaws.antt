@@ -16,9 +16,10 @@ use Rattle.rules.specs.Arguments.{among}
 use Rattle.rules.specs.Judging.{classNumber, is}
 use Rattle.places.specs.declared.Contact.{Contact}
 use Rattle.places.specs.Places.{between}
+use Rattle.judge.proofs.PartLaws.{square-inside}
 use Rattle.judge.specs.declared.Kept.{Kept}
 use Rattle.judge.specs.Parts.{squareEnd, keptTexts}
-use Rattle.judge.specs.Memory.{Memory, callOf, squareOf, exchangeOf, unseen, classBy, verdictBy, keptWith, after, memory, Keeps, Steps}
+use Rattle.judge.specs.Memory.{Memory, callOf, squareOf, exchangeOf, unseen, classBy, verdictBy, keptWith, after, memory, Placed, Stays, Keeps, Steps}
 
 -- # What is new
 
@@ -114,4 +115,23 @@ stepped s c kept v {cs = cs} {ce = ce} {ss = ss} {se = se} e k j a b d =
       calls = a .more;
       squares = b .more;
       exchanges = d .more;
+    }
+
+-- What is kept stays within the log.
+pub stays-on : (s : Text) (c : Contact) (kept : Kept) (v : Verdict)
+    {cs ce ss se xs xe cs' ce' ss' se' xs' xe' : List ℕ} {b : Bool} {end calls squares exchanges : ℕ} →
+    Placed s c →
+    Stays s kept cs ce ss se xs xe →
+    end ≡ squareEnd (c .locator) (c .locatorend) →
+    Keeps cs ce (kept .calls) (c .call) (c .callend) b cs' ce' calls →
+    Keeps ss se (kept .squares) (c .locator) end (v .square) ss' se' squares →
+    Keeps xs xe (kept .exchanges) (c .exchange) (c .exchangeend) (v .exchange) xs' xe' exchanges →
+    Stays s (record { calls = calls; squares = squares; exchanges = exchanges }) cs' ce' ss' se' xs' xe'
+stays-on s c kept v p w j a b d =
+    let within = square-inside (c .locator) (c .locatorend) (p .locator) in
+    let end = p .locatorend in
+    record {
+      calls = a .lies s (w .calls) (p .call) (p .callend);
+      squares = b .lies s (w .squares) (omega (arith, j)) (omega (arith, j));
+      exchanges = d .lies s (w .exchanges) (p .exchange) (p .exchangeend);
     }

@@ -7,16 +7,17 @@ use native.Mathlib.Nat.{add-zero, zero-add, sub-zero}
 use mathlib.Core.Path.{_≡_, refl, sym, ap, _∙_}
 use mathlib.Core.Bool.{Bool, true, false, cond, not, _||_, or-false, or-assoc, or-comm}
 use mathlib.Core.List.{List, [], _∷_}
-use lib.Dec.{leb}
-use lib.ListN.{length, take, drop, getD, set, length-take, length-drop}
+use lib.Dec.{leb, eqb}
+use lib.ListN.{length-set, length, take, drop, getD, set, length-take, length-drop}
 use lib.Seq.{drop-cons, take-all, take-take, getD-set-same, getD-set-other}
-use borrow.Author.Tests.{eq-eqb, ne-eqb, le-leb, lt-leb, leb-true, leb-false, not-true, not-false}
+use borrow.Author.Tests.{eqb-true, eqb-false, eq-eqb, ne-eqb, le-leb, lt-leb, leb-true, leb-false, not-true, not-false}
 use Rattle.rules.specs.Text.{Text, same}
 use Rattle.rules.specs.Arguments.{among}
 use Rattle.places.specs.Places.{between}
+use Rattle.header.proofs.WordLaws.{same-apart}
 use Rattle.judge.specs.declared.Found.{Found}
 use Rattle.judge.specs.declared.Found.the-variants.{At, Nothing}
-use Rattle.judge.specs.Parts.{squareEnd, keptAt, seek, isAt, keptTexts}
+use Rattle.judge.specs.Parts.{squareEnd, keptAt, seek, isAt, keptTexts, Lying}
 use Rattle.judge.specs.Memory.{Keeps}
 
 pub part-size : (s : Text) (a e : ℕ) → length (between s a e) ≡ min (e - a) (length s - a)
@@ -31,12 +32,21 @@ take-its-length (suc k) (c ∷ l) = ap (λ (t : Text). c ∷ t) (take-its-length
 part-cut : (s : Text) (a e n : ℕ) → n ≡ length (between s a e) → take n (drop a s) ≡ between s a e
 part-cut s a e n h = ap (λ (m : ℕ). take m (drop a s)) h ∙ take-its-length (e - a) (drop a s)
 
-pub same-cut : (s : Text) (a e b f n : ℕ) {r : Bool} →
-    n ≡ length (between s a e) →
-    n ≡ length (between s b f) →
-    r ≡ same (take n (drop a s)) (take n (drop b s)) →
-    r ≡ same (between s a e) (between s b f)
-same-cut s a e b f n h k r = r ∙ (λ i. same (part-cut s a e n h i) (part-cut s b f n k i))
+-- A run by its length.
+run-size : (s : Text) (a n : ℕ) → (0 < n → a + n ≤ length s) → length (take n (drop a s)) ≡ n
+run-size s a zero h = refl
+run-size s a (suc n) h = let k = h (omega arith) in rw (length-take, length-drop) (omega arith)
+
+module _ (s : Text) (b f a n : ℕ) (h : b ≤ f) (k : f ≤ length s) (l : 0 < n → a + n ≤ length s) where
+  pub same-unlike : (f - b ≡ n → ⊥) → false ≡ same (between s b f) (take n (drop a s))
+  same-unlike d = same-apart (between s b f) (take n (drop a s)) (λ e. d (omega (arith, e, run-size s a n l, part-size s b f)))
+
+  pub same-alike : {r : Bool} → f - b ≡ n → r ≡ same (take n (drop b s)) (take n (drop a s)) → r ≡ same (between s b f) (take n (drop a s))
+  same-alike d e = rw d e
+
+pub compared : (s : Text) (a e : ℕ) (t : Text) {n : ℕ} {r b : Bool} →
+    n ≡ length (between s a e) → r ≡ same t (take n (drop a s)) → r ≡ b → same t (between s a e) ≡ b
+compared s a e t {n = n} h p q = sym (ap (same t) (part-cut s a e n h)) ∙ sym p ∙ q
 
 -- Two runs of one length, from a place of both on.
 abbrev pub sameFrom : Text → ℕ → ℕ → ℕ → ℕ → Bool
@@ -50,7 +60,13 @@ module _ (s : Text) (a b n : ℕ) where
   unfolding same
   run-ends i h = let z : n - i ≡ 0 = omega arith in rw z
 
-  module _ (i : ℕ) (h : i < n) (k : a + n ≤ length s) (l : b + n ≤ length s) where
+  module _ (i : ℕ) (h : i < n) (ka : 0 < n → a + n ≤ length s) (kb : 0 < n → b + n ≤ length s) where
+    k : a + n ≤ length s
+    k = ka (omega arith)
+
+    l : b + n ≤ length s
+    l = kb (omega arith)
+
     front : (x : ℕ) → x + n ≤ length s → take (n - i) (drop (x + i) s) ≡ getD s (x + i) 0 ∷ take (n - (i + 1)) (drop (x + (i + 1)) s)
     front x g =
         let more : n - i ≡ suc (n - (i + 1)) = omega arith in
@@ -66,12 +82,6 @@ module _ (s : Text) (a b n : ℕ) where
     unfolding same
     run-differs e = rw (front a k, front b l, ne-eqb (getD s (a + i) 0) (getD s (b + i) 0) e)
 
-pub same-none : (t u : Text) → length t ≡ 0 → length u ≡ 0 → true ≡ same t u
-unfolding same
-same-none [] [] e f = refl
-same-none [] (d ∷ u) e f = absurd (omega arith)
-same-none (c ∷ t) u e f = absurd (omega arith)
-
 take-more : (m n : ℕ) (l : Text) → n ≤ m → take m (take n l) ≡ take n l
 take-more m n l h = take-all m (take n l) (simp length-take (omega arith))
 
@@ -86,6 +96,15 @@ square-part s a e = by (leb (e - a) 4) refl
         let k : 4 < e - a = leb-false (e - a) 4 h in
         let four : a + 4 - a ≡ 4 = omega arith in
         rw four (sym (take-take 4 (e - a) (drop a s) (omega arith)))
+
+-- It lies within the part.
+pub square-inside : (a e : ℕ) → a ≤ e → (a ≤ squareEnd a e) × (squareEnd a e ≤ e)
+unfolding squareEnd
+square-inside a e h = by (leb (e - a) 4) refl
+  where
+    by : (b : Bool) → leb (e - a) 4 ≡ b → (a ≤ cond b e (a + 4)) × (cond b e (a + 4) ≤ e)
+    by true k = (h, omega arith)
+    by false k = let l : 4 < e - a = leb-false (e - a) 4 k in (omega arith, omega arith)
 
 pub square-whole : (a e : ℕ) → e - a ≤ 4 → e ≡ squareEnd a e
 unfolding squareEnd
@@ -158,9 +177,24 @@ kept-below s starts ends m a e (suc n) h =
     let d : n ≡ m → ⊥ = omega arith in
     rw (getD-set-other starts m n a 0 d, getD-set-other ends m n e 0 d, kept-below s starts ends m a e n (omega arith))
 
+module _ (starts ends : List ℕ) (m a e : ℕ) where
+  one-more : (s : Text) → Lying s starts ends m → a ≤ e → e ≤ length s → m < length starts → m < length ends → Lying s (set starts m a) (set ends m e) (suc m)
+  one-more s x p q h k =
+      record {
+        manyStarts = rw length-set (omega arith);
+        manyEnds = rw length-set (omega arith);
+        inside = λ i g. by i g (eqb i m) refl;
+      }
+    where
+      by : (i : ℕ) → i < suc m → (b : Bool) → eqb i m ≡ b → (getD (set starts m a) i 0 ≤ getD (set ends m e) i 0) × (getD (set ends m e) i 0 ≤ length s)
+      by i g true d = rw (eqb-true i m d, getD-set-same starts m a 0 h, getD-set-same ends m e 0 k) (p, q)
+      by i g false d =
+          let n : i ≡ m → ⊥ = eqb-false i m d in
+          rw (getD-set-other starts m i a 0 n, getD-set-other ends m i e 0 n) (x .inside i (omega arith))
+
 module _ (starts ends : List ℕ) (m a e : ℕ) {yes : Bool} where
   pub keeps-none : not yes ≡ true → Keeps starts ends m a e yes starts ends m
-  keeps-none n = let f : yes ≡ false = not-true yes n in rw f (record { texts = λ s. refl; more = omega arith })
+  keeps-none n = let f : yes ≡ false = not-true yes n in rw f (record { texts = λ s. refl; more = omega arith; lies = λ s l p q. l })
 
   pub keeps-one : not yes ≡ false → m < length starts → m < length ends → Keeps starts ends m a e yes (set starts m a) (set ends m e) (m + 1)
   unfolding keptTexts
@@ -170,4 +204,5 @@ module _ (starts ends : List ℕ) (m a e : ℕ) {yes : Bool} where
       (record {
         texts = λ s. rw (getD-set-same starts m a 0 h, getD-set-same ends m e 0 k, kept-below s starts ends m a e m (omega arith));
         more = omega arith;
+        lies = λ s x p q. one-more starts ends m a e s x p q h k;
       })

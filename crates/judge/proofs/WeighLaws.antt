@@ -2,7 +2,7 @@
 -- Assumes nothing.
 use Prim.Native.Nat.{ℕ, zero, suc, _+_, _≤_, _<_, min}
 use native.Mathlib.Omega.{arith}
-use native.Mathlib.Nat.{le-trans, le-refl, add-zero}
+use native.Mathlib.Nat.{le-trans, le-refl, add-zero, add-suc}
 use native.Mathlib.Numerals.{add-one}
 use mathlib.Core.Path.{_≡_, refl, sym, ap, _∙_}
 use mathlib.Core.List.{List, [], _∷_, _++_, map, append-assoc}
@@ -23,8 +23,8 @@ use Rattle.places.specs.Places.{fieldStart, contactAt, Holds}
 use Rattle.places.proofs.ToldBounds.{worth-below}
 use Rattle.judge.specs.declared.Kept.{Kept}
 use Rattle.judge.specs.declared.Step.{Step}
-use Rattle.judge.specs.Parts.{keptTexts}
-use Rattle.judge.specs.Memory.{Memory, verdictBy, after, memory, Room, Steps}
+use Rattle.judge.specs.Parts.{keptTexts, Lying}
+use Rattle.judge.specs.Memory.{Memory, verdictBy, after, memory, Placed, Stays, Room, Steps}
 use Rattle.judge.specs.Count.{addRecord, addRecords, Counts, Countable}
 use Rattle.judge.specs.Weigh.{recordsOf, numbersOf, Weighable, Weighs}
 use Rattle.judge.proofs.CountLaws.{counts-more}
@@ -45,6 +45,29 @@ module _ (s : Text) where
   pub held-within : (at : ℕ) (qs : List Qso) → Holds s at qs → at ≤ length s
   held-within at [] h = omega arith
   held-within at (q ∷ qs) h = le-trans (next-behind at) (held-within ((contactAt s at) .next) qs (h .1))
+
+  -- The fields of a record that is held lie within the log, for the next record does.
+  fields-more : (at j k : ℕ) → fieldStart s at j ≤ fieldStart s at (j + k)
+  unfolding fieldStart endOf
+  fields-more at j zero = rw (add-zero j) (le-refl (fieldStart s at j))
+  fields-more at j (suc k) = rw (add-suc j k) (omega (arith, fields-more at j k))
+
+  field-ends : (at k : ℕ) → (fieldStart s at k ≤ endOf s (fieldStart s at k)) × (endOf s (fieldStart s at k) ≤ fieldStart s at (suc k))
+  unfolding fieldStart endOf
+  field-ends at k = (omega arith, omega arith)
+
+  pub placed : (at : ℕ) (q : Qso) (qs : List Qso) → Holds s at (q ∷ qs) → Placed s (contactAt s at)
+  unfolding contactAt
+  placed at q qs h =
+      let next = held-within ((contactAt s at) .next) qs (h .1) in
+      record {
+        call = field-ends at 2 .0;
+        callend = omega (arith, field-ends at 2 .1, fields-more at 3 11);
+        exchange = field-ends at 8 .0;
+        exchangeend = omega (arith, field-ends at 8 .1, fields-more at 9 5);
+        locator = field-ends at 9 .0;
+        locatorend = omega (arith, field-ends at 9 .1, fields-more at 10 4);
+      }
 
 -- # The walk
 
@@ -86,6 +109,13 @@ module _ (s : Text) (qs : List Qso) where
         by : (rest : List Qso) → length rest ≡ 0 → addRecords zeroTotals qs (verdicts base qs) ≡ addRecords t rest (verdictsAfter base (g .credited) rest) → t ≡ addRecords zeroTotals qs (verdicts base qs)
         by [] e k = sym k
         by (q ∷ rest) e k = absurd (omega arith)
+
+    pub placed-there : i < length qs → Placed s (contactAt s at)
+    placed-there h = by (g .rest) (g .held) (g .left)
+      where
+        by : (rest : List Qso) → Holds s at rest → i + length rest ≡ length qs → Placed s (contactAt s at)
+        by [] k l = absurd (omega arith)
+        by (q ∷ rest) k l = placed s at q rest k
 
     abbrev c : Contact
     c = contactAt s at
@@ -165,12 +195,16 @@ pub record Walks
   pub calls : kept .calls ≤ i
   pub squares : kept .squares ≤ i
   pub exchanges : kept .exchanges ≤ i
+  pub stays : Stays s kept cs ce ss se xs xe
   pub callStarts : length cs ≡ 999
   pub callEnds : length ce ≡ 999
   pub squareStarts : length ss ≡ 999
   pub squareEnds : length se ≡ 999
   pub exchangeStarts : length xs ≡ 999
   pub exchangeEnds : length xe ≡ 999
+
+none-lie : (s : Text) {starts ends : List ℕ} → Lying s starts ends 0
+none-lie s = record { manyStarts = omega arith; manyEnds = omega arith; inside = λ k h. absurd (omega arith) }
 
 module _ {s : Text} {first n : ℕ} {slice : List ℕ} (w : Weighable s first n slice) where
   pub walks-begin : {cs ce ss se xs xe : List ℕ} {t : Totals} →
@@ -192,6 +226,7 @@ module _ {s : Text} {first n : ℕ} {slice : List ℕ} (w : Weighable s first n 
         calls = omega arith;
         squares = omega arith;
         exchanges = omega arith;
+        stays = record { calls = none-lie s; squares = none-lie s; exchanges = none-lie s };
         callStarts = a;
         callEnds = b;
         squareStarts = f;
@@ -213,10 +248,11 @@ module _ {s : Text} {first n : ℕ} {slice : List ℕ} (w : Weighable s first n 
           written = h .told ∙ written-all (numbersOf (recordsOf s)) slice i l;
         }
 
-    pub has-room : i < n → Room kept cs ce ss se xs xe
+    pub has-room : i < n → Room s kept cs ce ss se xs xe
     has-room k =
         let few = w .few in
         record {
+          stays = h .stays;
           callStart = omega (arith, h .calls, h .callStarts);
           callEnd = omega (arith, h .calls, h .callEnds);
           squareStart = omega (arith, h .squares, h .squareStarts);
@@ -232,6 +268,11 @@ module _ {s : Text} {first n : ℕ} {slice : List ℕ} (w : Weighable s first n 
           let m : min at (length s) ≡ at = omega arith in
           e ∙ ap (contactAt s) m
 
+      pub placed-here : Placed s c
+      placed-here =
+          let all = w .all in
+          rw contact-there (placed-there s (recordsOf s) i at (memory s kept cs ce ss se xs xe) t (h .going) (omega arith))
+
       pub countable : Countable t (c .worth)
       countable =
           let g = (h .going) .counts in
@@ -245,6 +286,7 @@ module _ {s : Text} {first n : ℕ} {slice : List ℕ} (w : Weighable s first n 
           Steps s c kept (memory s kept cs ce ss se xs xe) r (memory s (r .kept) cs' ce' ss' se' xs' xe') →
           t' ≡ addRecord t (c .worth) (r .verdict) →
           number ≡ verdictNumber (r .verdict) →
+          Stays s (r .kept) cs' ce' ss' se' xs' xe' →
           length cs' ≡ 999 →
           length ce' ≡ 999 →
           length ss' ≡ 999 →
@@ -252,7 +294,7 @@ module _ {s : Text} {first n : ℕ} {slice : List ℕ} (w : Weighable s first n 
           length xs' ≡ 999 →
           length xe' ≡ 999 →
           Walks s n slice (set out i number) cs' ce' ss' se' xs' xe' (r .kept) t' (c .next) (i + 1)
-      walks-on {r = r} {cs' = cs'} {ce' = ce'} {ss' = ss'} {se' = se'} {xs' = xs'} {xe' = xe'} {t' = t'} st et en a b f g p q =
+      walks-on {r = r} {cs' = cs'} {ce' = ce'} {ss' = ss'} {se' = se'} {xs' = xs'} {xe' = xe'} {t' = t'} st et en stays a b f g p q =
           let m = memory s kept cs ce ss se xs xe in
           let here = contactAt s at in
           let v : r .verdict ≡ verdictBy m s here = st .verdict ∙ ap (verdictBy m s) contact-there in
@@ -271,6 +313,7 @@ module _ {s : Text} {first n : ℕ} {slice : List ℕ} (w : Weighable s first n 
             calls = omega (arith, st .calls, h .calls);
             squares = omega (arith, st .squares, h .squares);
             exchanges = omega (arith, st .exchanges, h .exchanges);
+            stays = stays;
             callStarts = a;
             callEnds = b;
             squareStarts = f;

@@ -16,7 +16,7 @@ use Rattle.places.specs.declared.Contact.{Contact}
 use Rattle.places.specs.Places.{between}
 use Rattle.judge.specs.declared.Kept.{Kept}
 use Rattle.judge.specs.declared.Step.{Step}
-use Rattle.judge.specs.Parts.{squareEnd, keptTexts}
+use Rattle.judge.specs.Parts.{squareEnd, keptTexts, Lying}
 
 -- The calls of the credited records, and the squares and exchanges that were new with one.
 pub record Memory : Type 0 where
@@ -83,8 +83,24 @@ memory s kept callStarts callEnds squareStarts squareEnds exchangeStarts exchang
 
 -- # What the parts of a step promise
 
--- There is room for one more.
-pub record Room (kept : Kept) (callStarts callEnds squareStarts squareEnds exchangeStarts exchangeEnds : List ℕ) : Type 0 where
+-- The parts of a record lie within the log.
+pub record Placed (s : Text) (c : Contact) : Type 0 where
+  pub call : c .call ≤ c .callend
+  pub callend : c .callend ≤ length s
+  pub exchange : c .exchange ≤ c .exchangeend
+  pub exchangeend : c .exchangeend ≤ length s
+  pub locator : c .locator ≤ c .locatorend
+  pub locatorend : c .locatorend ≤ length s
+
+-- All that is kept lies within the log.
+pub record Stays (s : Text) (kept : Kept) (callStarts callEnds squareStarts squareEnds exchangeStarts exchangeEnds : List ℕ) : Type 0 where
+  pub calls : Lying s callStarts callEnds (kept .calls)
+  pub squares : Lying s squareStarts squareEnds (kept .squares)
+  pub exchanges : Lying s exchangeStarts exchangeEnds (kept .exchanges)
+
+-- So it is, and there is room for one more.
+pub record Room (s : Text) (kept : Kept) (callStarts callEnds squareStarts squareEnds exchangeStarts exchangeEnds : List ℕ) : Type 0 where
+  pub stays : Stays s kept callStarts callEnds squareStarts squareEnds exchangeStarts exchangeEnds
   pub callStart : kept .calls < length callStarts
   pub callEnd : kept .calls < length callEnds
   pub squareStart : kept .squares < length squareStarts
@@ -96,6 +112,7 @@ pub record Room (kept : Kept) (callStarts callEnds squareStarts squareEnds excha
 pub record Keeps (starts ends : List ℕ) (m a e : ℕ) (yes : Bool) (starts' ends' : List ℕ) (r : ℕ) : Type 0 where
   pub texts : (s : Text) → keptTexts s starts' ends' r ≡ keptWith yes (between s a e) (keptTexts s starts ends m)
   pub more : r ≤ m + 1
+  pub lies : (s : Text) → Lying s starts ends m → a ≤ e → e ≤ length s → Lying s starts' ends' r
 
 -- A record is judged by what is kept, and what is to be kept of it is.
 pub record Steps (s : Text) (c : Contact) (kept : Kept) (before : Memory) (r : Step) (behind : Memory) : Type 0 where

@@ -1,10 +1,10 @@
 -- The parts of a log that are kept by their places, and the search among them.
 -- Assumes nothing.
-use Prim.Native.Nat.{ℕ, zero, suc, _+_, _-_}
+use Prim.Native.Nat.{ℕ, zero, suc, _+_, _-_, _≤_, _<_}
 use mathlib.Core.Bool.{Bool, true, false, cond}
 use mathlib.Core.List.{List, [], _∷_}
 use lib.Dec.{leb}
-use lib.ListN.{getD}
+use lib.ListN.{length, getD}
 use Rattle.rules.specs.Text.{Text, same}
 use Rattle.places.specs.Places.{between}
 use Rattle.judge.specs.declared.Found.{Found}
@@ -35,3 +35,9 @@ isAt Nothing = false
 unfoldable pub keptTexts : Text → List ℕ → List ℕ → ℕ → List Text
 keptTexts s starts ends zero = []
 keptTexts s starts ends (suc m) = keptAt s starts ends m ∷ keptTexts s starts ends m
+
+-- The first so many parts are there, and each lies within the text.
+pub record Lying (s : Text) (starts ends : List ℕ) (m : ℕ) : Type 0 where
+  pub manyStarts : m ≤ length starts
+  pub manyEnds : m ≤ length ends
+  pub inside : (k : ℕ) → k < m → (getD starts k 0 ≤ getD ends k 0) × (getD ends k 0 ≤ length s)

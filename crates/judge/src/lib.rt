@@ -8,8 +8,8 @@ ghost use Rattle.rules.specs.Text.{same, empty};
 ghost use Rattle.rules.specs.Judging.{classNumber, verdictNumber, zeroTotals};
 ghost use Rattle.places.specs.Places.{between};
 ghost use Rattle.rules.specs.Arguments.{among};
-ghost use Rattle.judge.specs.Parts.{squareEnd, seek, keptTexts};
-ghost use Rattle.judge.specs.Memory.{unseen, classBy, verdictBy, memory, Room, Keeps, Steps};
+ghost use Rattle.judge.specs.Parts.{squareEnd, seek, keptTexts, Lying};
+ghost use Rattle.judge.specs.Memory.{unseen, classBy, verdictBy, memory, Placed, Stays, Room, Keeps, Steps};
 ghost use Rattle.judge.specs.Weigh.{Weighable, Weighs};
 ghost use Rattle.judge.specs.Judge.{weighedOf, judgedOf, verdictsAfterwards, Accepts};
 ghost use Rattle.judge.specs.Count.{worthIf, addRecord, closing, Countable, Closable};
@@ -39,7 +39,7 @@ fn part_length(s: &[u8], a: usize, e: usize) -> usize
 
 // The n characters from one place on are those from another on.
 fn same_run(s: &[u8], a: usize, b: usize, n: usize) -> bool
-    requires { ⌜ (a + n ≤ length (now s)) × (b + n ≤ length (now s)) ⌝ }
+    requires { ⌜ (0 < n → a + n ≤ length (now s)) × (0 < n → b + n ≤ length (now s)) ⌝ }
     ensures { λ r. ⌜ r ≡ same (take n (drop a (now (s .entry)))) (take n (drop b (now (s .entry)))) ⌝ }
 {
     let mut i = 0;
@@ -52,18 +52,16 @@ fn same_run(s: &[u8], a: usize, b: usize, n: usize) -> bool
     true
 }
 
-// Two parts are the same, byte for byte. Their lengths are compared first, for most parts differ in them or in one of the first bytes.
-fn same_part(s: &[u8], a: usize, e: usize, b: usize, f: usize) -> bool
-    ensures { λ r. ⌜ r ≡ same (between (now (s .entry)) a e) (between (now (s .entry)) b f) ⌝ }
+// A part that lies within the log is the same, byte for byte, as the n characters from a place on. The lengths are compared first, for most
+// parts differ in them or in one of the first bytes.
+fn same_part(s: &[u8], b: usize, f: usize, a: usize, n: usize) -> bool
+    requires { ⌜ (b ≤ f) × (f ≤ length (now s)) × (0 < n → a + n ≤ length (now s)) ⌝ }
+    ensures { λ r. ⌜ r ≡ same (between (now (s .entry)) b f) (take n (drop a (now (s .entry)))) ⌝ }
 {
-    let n = part_length(s, a, e);
-    if n != part_length(s, b, f) {
+    if f - b != n {
         return false;
     }
-    if n == 0 {
-        return true;
-    }
-    same_run(s, a, b, n)
+    same_run(s, b, a, n)
 }
 
 // Where the square of a locator ends: behind four characters, if there are so many.
@@ -87,15 +85,16 @@ enum Found {
 
 // The first of the m parts kept that is the same as this part.
 fn find(s: &[u8], starts: &[usize], ends: &[usize], m: usize, a: usize, e: usize) -> Found
-    requires { ⌜ (m ≤ length (now starts)) × (m ≤ length (now ends)) ⌝ }
+    requires { ⌜ Lying (now s) (now starts) (now ends) m ⌝ }
     ensures { λ r. ⌜ r ≡ seek (now (s .entry)) (now (starts .entry)) (now (ends .entry)) (between (now (s .entry)) a e) m 0 ⌝ }
 {
+    let n = part_length(s, a, e);
     let mut k = 0;
     let at = 'look: loop {
         if m <= k {
             break 'look m;
         }
-        if same_part(s, starts[k], ends[k], a, e) {
+        if same_part(s, starts[k], ends[k], a, n) {
             break 'look k;
         }
         k += 1;
@@ -108,7 +107,7 @@ fn find(s: &[u8], starts: &[usize], ends: &[usize], m: usize, a: usize, e: usize
 
 // The part is the same as one of the m parts kept.
 fn is_kept(s: &[u8], starts: &[usize], ends: &[usize], m: usize, a: usize, e: usize) -> bool
-    requires { ⌜ (m ≤ length (now starts)) × (m ≤ length (now ends)) ⌝ }
+    requires { ⌜ Lying (now s) (now starts) (now ends) m ⌝ }
     ensures { λ r. ⌜ r ≡ among (keptTexts (now (s .entry)) (now (starts .entry)) (now (ends .entry)) m) (between (now (s .entry)) a e) ⌝ }
 {
     match find(s, starts, ends, m, a, e) {
@@ -119,7 +118,7 @@ fn is_kept(s: &[u8], starts: &[usize], ends: &[usize], m: usize, a: usize, e: us
 
 // The part is not empty, and is the same as none of the m parts kept.
 fn is_unseen(s: &[u8], starts: &[usize], ends: &[usize], m: usize, a: usize, e: usize) -> bool
-    requires { ⌜ (m ≤ length (now starts)) × (m ≤ length (now ends)) ⌝ }
+    requires { ⌜ Lying (now s) (now starts) (now ends) m ⌝ }
     ensures { λ r. ⌜ r ≡ unseen (keptTexts (now (s .entry)) (now (starts .entry)) (now (ends .entry)) m) (between (now (s .entry)) a e) ⌝ }
 {
     if part_length(s, a, e) == 0 {
@@ -156,7 +155,7 @@ struct Step {
 
 // The class of a record after those whose calls are kept.
 fn class_of(s: &[u8], c: Contact, starts: &[usize], ends: &[usize], m: usize) -> Class
-    requires { ⌜ (m ≤ length (now starts)) × (m ≤ length (now ends)) ⌝ }
+    requires { ⌜ Lying (now s) (now starts) (now ends) m ⌝ }
     ensures { λ r. ⌜ r ≡ classBy (keptTexts (now (s .entry)) (now (starts .entry)) (now (ends .entry)) m) (now (s .entry)) c ⌝ }
 {
     if c.error {
@@ -270,7 +269,7 @@ fn verdict_of(
     exchangestarts: &[usize],
     exchangeends: &[usize],
 ) -> Verdict
-    requires { ⌜ Room kept (now callstarts) (now callends) (now squarestarts) (now squareends) (now exchangestarts) (now exchangeends) ⌝ }
+    requires { ⌜ Room (now s) kept (now callstarts) (now callends) (now squarestarts) (now squareends) (now exchangestarts) (now exchangeends) ⌝ }
     ensures { λ r. ⌜ r ≡ verdictBy (memory (now (s .entry)) kept (now (callstarts .entry)) (now (callends .entry)) (now (squarestarts .entry)) (now (squareends .entry)) (now (exchangestarts .entry)) (now (exchangeends .entry))) (now (s .entry)) c ⌝ }
 {
     let class = class_of(s, c, callstarts, callends, kept.calls);
@@ -310,8 +309,10 @@ fn judge_next(
     exchangestarts: &mut [usize],
     exchangeends: &mut [usize],
 ) -> Step
-    requires { ⌜ Room kept (now callstarts) (now callends) (now squarestarts) (now squareends) (now exchangestarts) (now exchangeends) ⌝ }
+    requires { ⌜ Room (now s) kept (now callstarts) (now callends) (now squarestarts) (now squareends) (now exchangestarts) (now exchangeends) ⌝ }
+    requires { ⌜ Placed (now s) c ⌝ }
     ensures { λ r. ⌜ Steps (now (s .entry)) c kept (memory (now (s .entry)) kept (now (callstarts .entry)) (now (callends .entry)) (now (squarestarts .entry)) (now (squareends .entry)) (now (exchangestarts .entry)) (now (exchangeends .entry))) r (memory (now (s .entry)) (r .kept) (now (callstarts .exit)) (now (callends .exit)) (now (squarestarts .exit)) (now (squareends .exit)) (now (exchangestarts .exit)) (now (exchangeends .exit))) ⌝ }
+    ensures { λ r. ⌜ Stays (now (s .entry)) (r .kept) (now (callstarts .exit)) (now (callends .exit)) (now (squarestarts .exit)) (now (squareends .exit)) (now (exchangestarts .exit)) (now (exchangeends .exit)) ⌝ }
 {
     let v = verdict_of(
         s,

@@ -1,3 +1,4 @@
+use native.Mathlib.Omega.{arith}
 use Rattle.rules.specs.Text.{same}
 use Rattle.judge.proofs.PartLaws.{sameFrom, run-begins, run-ends, run-more, run-differs}
 use borrow.Author.Needs.{needs}
@@ -18,16 +19,16 @@ loop-holds : tie.Need-loop-holds Inv-loop μ-loop
 loop-holds c = run-begins (now (c .args .s)) (c .args .a) (c .args .b) (c .args .n)
 
 add-if1 : tie.Need-add-if1 Inv-loop μ-loop
-add-if1 c = search needs
+add-if1 c = let k = c .before .before .pre .0 (omega arith) in omega arith
 
 shared-slice-read-if1 : tie.Need-shared-slice-read-if1 Inv-loop μ-loop
-shared-slice-read-if1 c = search needs
+shared-slice-read-if1 c = let k = c .before .before .before .pre .0 (omega arith) in omega arith
 
 add-if1-2 : tie.Need-add-if1-2 Inv-loop μ-loop
-add-if1-2 c = search needs
+add-if1-2 c = let k = c .before .before .before .pre .1 (omega arith) in omega arith
 
 shared-slice-read-if1-2 : tie.Need-shared-slice-read-if1-2 Inv-loop μ-loop
-shared-slice-read-if1-2 c = search needs
+shared-slice-read-if1-2 c = let k = c .before .before .before .before .pre .1 (omega arith) in omega arith
 
 returns : tie.Need-returns Inv-loop μ-loop
 returns c = sym (c .before .before .before .before .loop .inv ∙ run-differs (now (c .before .before .before .before .before .args .s)) (c .before .before .before .before .before .args .a) (c .before .before .before .before .before .args .b) (c .before .before .before .before .before .args .n) (c .before .before .before .before .loop .i) (c .before .before .before .loop-test .taken) (c .before .before .before .before .before .pre .0) (c .before .before .before .before .before .pre .1) (c .if1 .taken))

@@ -1,4 +1,4 @@
-use Rattle.judge.proofs.WeighLaws.{Walks, walks-begin, walks-end, has-room, countable, walks-on}
+use Rattle.judge.proofs.WeighLaws.{Walks, walks-begin, walks-end, has-room, placed-here, countable, walks-on}
 use borrow.Author.Needs.{needs}
 use native.Mathlib.Omega.{arith}
 use mathlib.Core.Path.{refl, _∙_}
@@ -41,7 +41,7 @@ slice-aggregate-judge-next-6 : tie.Need-slice-aggregate-judge-next-6 Inv-loop μ
 slice-aggregate-judge-next-6 c = search needs
 
 judge-next-requires : tie.Need-judge-next-requires Inv-loop μ-loop
-judge-next-requires c κs = has-room (c .before .before .before .before .before .before .before .before .before .before .before .before .pre) (c .before .before .before .before .before .before .before .before .loop .inv) (c .before .before .before .before .before .before .before .loop-test .taken)
+judge-next-requires c κs = (has-room (c .before .before .before .before .before .before .before .before .before .before .before .before .pre) (c .before .before .before .before .before .before .before .before .loop .inv) (c .before .before .before .before .before .before .before .loop-test .taken), placed-here (c .before .before .before .before .before .before .before .before .before .before .before .before .pre) (c .before .before .before .before .before .before .before .before .loop .inv) (c .before .before .before .before .before .before .contact-at .ensures) (c .before .before .before .before .before .before .before .loop-test .taken))
 
 counted-requires : tie.Need-counted-requires Inv-loop μ-loop
 counted-requires c κs = countable (c .before .before .before .before .before .before .before .before .before .before .before .before .before .before .before .before .before .before .before .before .before .pre) (c .before .before .before .before .before .before .before .before .before .before .before .before .before .before .before .before .before .loop .inv) (c .before .before .before .before .before .before .before .before .before .before .before .before .before .before .before .contact-at .ensures) (c .before .before .before .before .before .before .before .before .before .before .before .before .before .before .before .before .loop-test .taken)
@@ -62,7 +62,7 @@ loop-again : tie.Need-loop-again Inv-loop μ-loop
 loop-again c =
     let kept = c .before .before .before .before .before .before .before .before .before .before .judge-next .kept in
     let inv = c .before .before .before .before .before .before .before .before .before .before .before .before .before .before .before .before .before .before .before .loop .inv in
-    walks-on (c .before .before .before .before .before .before .before .before .before .before .before .before .before .before .before .before .before .before .before .before .before .before .before .pre) inv (c .before .before .before .before .before .before .before .before .before .before .before .before .before .before .before .before .before .contact-at .ensures) (c .before .before .before .before .before .before .before .before .before .before .before .before .before .before .before .before .before .before .loop-test .taken) (c .before .before .before .before .before .before .before .before .before .before .judge-next .ensures) (c .before .counted .ensures) (c .verdict-number .ensures)
+    walks-on (c .before .before .before .before .before .before .before .before .before .before .before .before .before .before .before .before .before .before .before .before .before .before .before .pre) inv (c .before .before .before .before .before .before .before .before .before .before .before .before .before .before .before .before .before .contact-at .ensures) (c .before .before .before .before .before .before .before .before .before .before .before .before .before .before .before .before .before .before .loop-test .taken) (c .before .before .before .before .before .before .before .before .before .before .judge-next .ensures .0) (c .before .counted .ensures) (c .verdict-number .ensures) (c .before .before .before .before .before .before .before .before .before .before .judge-next .ensures .1)
     (kept .1 .1 .1 .0 ∙ inv .callStarts)
     (kept .1 .1 .1 .1 .0 ∙ inv .callEnds)
     (kept .1 .1 .1 .1 .1 .0 ∙ inv .squareStarts)
