@@ -17,9 +17,7 @@ the-three-demands =
     record {
       everyInputGetsAnAnswer = every-input;
       refusedWithNumberLineField = refused-with;
-      refusedJudgingChangesNothing = refused-judging;
-      refusedWritingChangesNothing = refused-writing;
-      refusedViewIsEmpty = refused-view;
+      aRefusalChangesNothing = record { judging = refused-judging; writing = refused-writing; viewing = refused-view };
       acceptedExactlyWhenWritten = accepted-exactly;
       acceptedExactlyWhenFormat = accepted-format;
       classesAndMarksAsDefined = classes-as-defined;

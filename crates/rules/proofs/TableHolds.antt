@@ -6,7 +6,7 @@ use mathlib.Core.Path.{_≡_, refl, sym, ap, _∙_}
 use mathlib.Core.Logic.{⊎-elim}
 use mathlib.Core.List.{List, [], _∷_, _++_, map, List·Memᴰ, List·Memᴰ·head, List·Memᴰ·tail, List·Memᴰ·append-cases, head-eq-of-cons-eq, tail-eq-of-cons-eq}
 use Rattle.rules.specs.Cases.{Case, answer}
-use Rattle.rules.specs.Table.{lineCases, argumentCases, fieldCases, dueCases, case12Cases, readingCases, lendingCases, wrongTurnCases, table}
+use Rattle.rules.specs.Table.{lineCases, argumentCases, fieldCases, dueCases, case12Cases, readingCases, lendingCases, squareCases, wrongTurnCases, table}
 
 -- Each case of the list is answered as it says.
 abbrev pub Holds : List Case → Type 0
@@ -55,6 +55,10 @@ lendingCases-hold : answers lendingCases ≡ says lendingCases
 unfolding answer lendingCases
 lendingCases-hold = refl
 
+squareCases-hold : answers squareCases ≡ says squareCases
+unfolding answer squareCases
+squareCases-hold = refl
+
 wrongTurnCases-hold : answers wrongTurnCases ≡ says wrongTurnCases
 unfolding answer wrongTurnCases
 wrongTurnCases-hold = refl
@@ -62,4 +66,4 @@ wrongTurnCases-hold = refl
 pub table-holds : Holds table
 unfolding table
 table-holds =
-    both (both (both (both (both (both (both (computed lineCases lineCases-hold) (computed argumentCases argumentCases-hold)) (computed fieldCases fieldCases-hold)) (computed dueCases dueCases-hold)) (computed case12Cases case12Cases-hold)) (computed readingCases readingCases-hold)) (computed lendingCases lendingCases-hold)) (computed wrongTurnCases wrongTurnCases-hold)
+    both (both (both (both (both (both (both (both (computed lineCases lineCases-hold) (computed argumentCases argumentCases-hold)) (computed fieldCases fieldCases-hold)) (computed dueCases dueCases-hold)) (computed case12Cases case12Cases-hold)) (computed readingCases readingCases-hold)) (computed lendingCases lendingCases-hold)) (computed squareCases squareCases-hold)) (computed wrongTurnCases wrongTurnCases-hold)

@@ -62,6 +62,12 @@ RefusedViewIsEmpty =
     view base k s ≡ unseen r →
     (startOfView (view base k s) ≡ 0) × (viewed (view base k s) ≡ [])
 
+-- One statement of it: whatever is refused changes nothing and shows nothing.
+pub record ARefusalChangesNothing : Type 0 where
+  pub judging : RefusedJudgingChangesNothing
+  pub writing : RefusedWritingChangesNothing
+  pub viewing : RefusedViewIsEmpty
+
 -- # Demand 2
 
 -- "A file is accepted exactly when it follows the format as document 01 fixes it", and it is read as the log that it is written from.
@@ -283,9 +289,7 @@ PremiseIsNeeded =
 pub record TheThreeDemands : Type 0 where
   pub everyInputGetsAnAnswer : EveryInputGetsAnAnswer
   pub refusedWithNumberLineField : RefusedWithNumberLineField
-  pub refusedJudgingChangesNothing : RefusedJudgingChangesNothing
-  pub refusedWritingChangesNothing : RefusedWritingChangesNothing
-  pub refusedViewIsEmpty : RefusedViewIsEmpty
+  pub aRefusalChangesNothing : ARefusalChangesNothing
   pub acceptedExactlyWhenWritten : AcceptedExactlyWhenWritten
   pub acceptedExactlyWhenFormat : AcceptedExactlyWhenFormat
   pub classesAndMarksAsDefined : ClassesAndMarksAsDefined

@@ -425,6 +425,25 @@ lendingCases =
     ∷ case (isViewed 36 emptyLog) (0 ∷ 0 ∷ 0 ∷ 414 ∷ bytes "OZ1BB;JO40BC;80")
     ∷ []
 
+-- Case 9: a locator of six characters and one of four in one square; an empty one is in none, and an exchange is new once.
+unfoldable pub oneSquare : Text
+unfolding textOf plain
+oneSquare =
+    textOf plain
+    ("[QSORecords;4]"
+    ∷ "240302;1401;DK1AA;1;59;001;59;004;A1;JO65FR;10;;;;"
+    ∷ "240302;1402;DK1AB;1;59;002;59;004;A1;JO65;20;;;;"
+    ∷ "240302;1403;DK1AC;1;59;003;59;004;;;30;;;;"
+    ∷ "240302;1404;DK1AD;1;59;004;59;004;A2;JO66;40;;;;"
+    ∷ [])
+
+unfoldable pub squareCases : List Case
+unfolding oneSquare
+squareCases =
+    case (isJudged 4 oneSquare) (0 ∷ 0 ∷ 0 ∷ 48 ∷ 0 ∷ 0 ∷ 48 ∷ [])
+    ∷ case (comesTo oneSquare) (4 ∷ 0 ∷ 0 ∷ 0 ∷ 100 ∷ 2 ∷ 2 ∷ 0 ∷ 1000 ∷ 0 ∷ 0 ∷ 1100 ∷ [])
+    ∷ []
+
 -- The wrong turns that look right, each with a log on which it would show.
 unfoldable pub withBandMultiplier : Text
 unfolding textOf
@@ -498,4 +517,5 @@ table =
     ++ case12Cases
     ++ readingCases
     ++ lendingCases
+    ++ squareCases
     ++ wrongTurnCases
