@@ -1,14 +1,14 @@
 -- The keywords of an accepted log: the line of each holds its argument, and so what the log declares is told of it.
 -- Assumes nothing.
-use Prim.Native.Nat.{ℕ, zero, suc, _+_, _-_, _≤_, _<_}
+use Prim.Native.Nat.{ℕ, zero, suc, _+_, _-_, _≤_, _<_, min}
 use native.Mathlib.Omega.{arith}
 use mathlib.Core.Path.{_≡_, refl, sym, ap, _∙_}
 use mathlib.Core.Bool.{Bool, true, false, not, _&&_}
 use mathlib.Core.List.{List, [], _∷_, _++_, map, append-assoc}
 use lib.Dec.{T, eqb}
-use lib.ListN.{length, drop, getD, length-append, length-drop}
+use lib.ListN.{length, drop, getD, length-append, length-drop, length-take}
 use lib.Seq.{drop-at}
-use Rattle.rules.specs.Text.{Text, bytes, same, value, parts}
+use Rattle.rules.specs.Text.{Text, bytes, same, value, parts, allowed, span}
 use Rattle.rules.specs.Rules.{Rules, base}
 use Rattle.rules.specs.Arguments.{Entry, entries, meets, countBonusMultiplier, count, bonus, multiplier, part}
 use Rattle.rules.specs.Log.{Log, identifier, argumentIn, argument, remarksLine, countLine, recordLine, keywordStart, keywordLines, linesOf, render, argumentRules, valid}
@@ -21,7 +21,7 @@ use Rattle.rules.proofs.Bounds.{each-at}
 use Rattle.rules.proofs.Format.{of-valid, accepted-exactly}
 use Rattle.places.specs.declared.Declared.{Declared}
 use Rattle.places.specs.Places.{lineTextAt, lineStart, argumentAt, valueBy, declaredAt}
-use Rattle.places.proofs.LinesHeld.{start-of-line, text-of-line}
+use Rattle.places.proofs.LinesHeld.{start-of-line, text-of-line, line-inside}
 
 -- Nothing stands behind the end of a table.
 none-left : {A : Type 0} (j : ℕ) (e : Entry) (rest : List Entry) → drop j [] ≡ e ∷ rest → A
@@ -160,6 +160,24 @@ module _ (s : Text) (log : Log) (w : read base s ≡ accepted log) where
     unfolding argumentStart
     starts = omega (arith, start-of-line s log is-valid is-written (suc j) (omega (arith, line-there)), six)
 
+    inside : min (lineStart s (suc j)) (length s) ≡ lineStart s (suc j)
+    inside = line-inside s log is-valid is-written (suc j) (omega (arith, line-there))
+
+    line-long : length (lineTextAt s (lineStart s (suc j))) ≡ 6 + length (getD (log .arguments) j [])
+    line-long = ap length line-is ∙ length-append (keywordStart e) (getD (log .arguments) j []) ∙ ap (λ (n : ℕ). n + length (getD (log .arguments) j [])) six
+
+    within : lineStart s (suc j) + 6 + length (argumentAt s (suc j)) ≤ length s
+    unfolding argumentAt lineTextAt
+    within =
+        omega (
+          arith,
+          line-long,
+          length-drop 6 (lineTextAt s (lineStart s (suc j))),
+          length-take (span allowed (drop (lineStart s (suc j)) s)) (drop (lineStart s (suc j)) s),
+          length-drop (lineStart s (suc j)) s,
+          inside,
+        )
+
     kept : meets base (e .rule) (argument log (e .keyword)) ≡ true
     kept = rw argument-is (rule-kept base entries (log .arguments) j e rest ruled h)
 
@@ -180,6 +198,12 @@ module _ (s : Text) (log : Log) (w : read base s ≡ accepted log) where
 
     pub argument-starts : lineStart s k + 6 ≡ argumentStart log k e
     argument-starts = rw counted at (starts (k - 1) e rest h)
+
+    pub argument-inside : min (lineStart s k) (length s) ≡ lineStart s k
+    argument-inside = rw counted at (inside (k - 1) e rest h)
+
+    pub argument-within : lineStart s k + 6 + length (argumentAt s k) ≤ length s
+    argument-within = rw counted at (within (k - 1) e rest h)
 
   pub declared-held : Declares (declaredAt s) (declared log)
   unfolding declaredAt declared entries

@@ -5,3 +5,4 @@ pub mod RecordsHeld
 pub mod LinesHeld
 pub mod HeaderHeld
 pub mod ToldBounds
+pub mod ViewLaws

@@ -13,6 +13,9 @@ use Rattle.rules.specs.Arguments.{part, bonus, multiplier}
 use Rattle.rules.specs.Log.{Log}
 use Rattle.rules.specs.Judging.{claimsCountry, square, declared}
 use Rattle.fields.specs.Field.{textAt, endOf}
+use Rattle.rules.specs.Answers.{Viewing, seen, unseen, view}
+use Rattle.places.specs.declared.ViewRead.{ViewRead}
+use Rattle.places.specs.declared.ViewRead.the-variants as ViewRead
 use Rattle.places.specs.declared.Contact.{Contact}
 use Rattle.places.specs.declared.Declared.{Declared}
 
@@ -96,3 +99,19 @@ pub record Describes (s : Text) (c : Contact) (q : Qso) : Type 0 where
 abbrev pub Holds : Text → ℕ → List Qso → Type 0
 Holds s at [] = at ≡ length s
 Holds s at (q ∷ qs) = Describes s (contactAt s at) q × Holds s ((contactAt s at) .next) qs
+
+-- # Views
+
+-- The part behind the six characters of a keyword and its `=`, on the line that begins at a place.
+unfoldable pub partSeen : Text → ℕ → ViewRead
+unfolding lineTextAt
+partSeen s at = ViewRead.Seen (at + 6) (length (drop 6 (lineTextAt s at)))
+
+-- The code's word for each case of a view.
+unfoldable pub viewTold : Viewing → ViewRead
+viewTold (seen start t) = ViewRead.Seen start (length t)
+viewTold (unseen r) = ViewRead.Refused r
+
+unfoldable pub viewOf : ℕ → Text → ViewRead
+unfolding viewTold view base
+viewOf k s = viewTold (view base k s)

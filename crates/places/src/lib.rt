@@ -8,6 +8,11 @@ ghost use Rattle.rules.specs.Rules.{base};
 ghost use Rattle.rules.specs.Fields.{errorCall, newMark};
 ghost use Rattle.rules.specs.Arguments.{part, bonus, multiplier};
 ghost use Rattle.fields.specs.Field.{textAt, endOf};
+ghost use Rattle.rules.specs.Rules.{base};
+ghost use Rattle.rules.specs.Answers.{view, viewed};
+ghost use Rattle.places.specs.Places.{partSeen, viewOf};
+use reader::ReadAnswer;
+use rules::Refusal;
 ghost use Rattle.places.specs.Places.{lineTextAt, lineStart, fieldStart, valueBy, contactAt, declaredAt};
 use figures::NumberRead;
 use figures::bonus_of;
@@ -228,5 +233,72 @@ pub fn declared_at(s: &[u8]) -> Declared
         exchangemultiplier: forexchanges.multiplier,
         countrybonus: forcountries.bonus,
         countrymultiplier: forcountries.multiplier,
+    }
+}
+
+// A view: the argument's part of an accepted log, or why there is none.
+pub enum ViewRead {
+    Seen { start: usize, length: usize },
+    Refused(Refusal),
+}
+
+// The part behind the keyword and its `=` of the line behind so many lines.
+fn argument_part(log: &[u8], k: usize) -> ViewRead
+    ensures { λ r. ⌜ r ≡ partSeen (now (log .entry)) (min (lineStart (now (log .entry)) k) (length (now (log .entry)))) ⌝ }
+{
+    let at = line_start(log, k);
+    let end = reader::allowed_run(log, at);
+    let start = at + 6;
+    if end < start {
+        return ViewRead::Seen {
+            start: start,
+            length: 0,
+        };
+    }
+    ViewRead::Seen {
+        start: start,
+        length: end - start,
+    }
+}
+
+// The view of a keyword, by its number, 1 to 36.
+pub fn view(log: &[u8], k: usize) -> ViewRead
+    ensures { λ r. ⌜ r ≡ viewOf k (now (log .entry)) ⌝ }
+{
+    if k < 1 {
+        return ViewRead::Refused(Refusal {
+            number: 9,
+            line: 0,
+            field: 0,
+        });
+    }
+    if 36 < k {
+        return ViewRead::Refused(Refusal {
+            number: 9,
+            line: 0,
+            field: 0,
+        });
+    }
+    let answer = reader::read(log);
+    match answer {
+        ReadAnswer::Refused(refusal) => ViewRead::Refused(refusal),
+        ReadAnswer::Accepted {
+            records: _,
+            first: _,
+        } => argument_part(log, k),
+    }
+}
+
+// The part of the log that a view shows: nothing where there is none.
+pub fn viewed(log: &[u8], k: usize) -> &[u8]
+    ensures { λ r. ⌜ now r ≡ viewed (view base k (now (log .entry))) ⌝ }
+{
+    let seen = view(log, k);
+    match seen {
+        ViewRead::Refused(_) => &log[0..0],
+        ViewRead::Seen { start, length } => {
+            let end = start + length;
+            &log[start..end]
+        }
     }
 }

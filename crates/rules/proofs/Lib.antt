@@ -23,3 +23,5 @@ pub mod WrittenVerdicts
 pub mod WrittenClaims
 pub mod Bounds
 pub mod WritingStable
+pub mod WritingRefused
+pub mod AllProved

@@ -18,7 +18,7 @@ use Rattle.rules.specs.Fields.{Qso, isError}
 use Rattle.rules.specs.Log.{Log, valid, render, IsWrittenAs, FollowsTheFormat}
 use Rattle.rules.specs.Judging.{claimsPoints, square, claimsCountry, verdicts, multipliers, declared, verdictsOfLog, totalsOfLog, zeroTotals}
 use Rattle.rules.specs.Writing.{writtenBack, unclaimed}
-use Rattle.rules.specs.Reading.{accepted, refused, lines, read}
+use Rattle.rules.specs.Reading.{accepted, refused, refusal, lines, read}
 use Rattle.rules.specs.Answers.{unseen, view, startOfView, viewed, unjudged, judge, totalsOfJudgement, numbersOfJudgement, written, unwritten, write, bytesOfWriting, over}
 use Rattle.rules.specs.Striking.{Places, strike, placeAfter, struckWorth}
 
@@ -167,7 +167,7 @@ WritingKeepsPoints =
     (qsoAt ((writtenBack base log) .records) j) .points ≡ (qsoAt (log .records) j) .points
 
 -- "and a log so written reads to the same classes and total and is written back unchanged."
-pub record WrittenReadsTheSame (s : Text) (log : Log) (t : Text) : Type 0 where
+pub record WrittenReadsTheSame (log : Log) (t : Text) : Type 0 where
   pub reads : read base t ≡ accepted (writtenBack base log)
   pub sameVerdicts : verdictsOfLog base (writtenBack base log) ≡ verdictsOfLog base log
   pub sameTotals : totalsOfLog base (writtenBack base log) ≡ totalsOfLog base log
@@ -178,7 +178,15 @@ WritingBackIsStable =
     (s : Text) (log : Log) (room : ℕ) (t : Text) →
     read base s ≡ accepted log →
     write base room s ≡ written t →
-    WrittenReadsTheSame s log t
+    WrittenReadsTheSame log t
+
+-- An accepted log is refused 8 exactly where what it is written as is too long, for a log or for the slice.
+abbrev pub WritingIsRefusedForLength : Type 0
+WritingIsRefusedForLength =
+    (s : Text) (log : Log) (room : ℕ) →
+    read base s ≡ accepted log →
+    (write base room s ≡ unwritten (refusal 8 0 0))
+    ↔ ((65_535 < length (render (writtenBack base log))) ⊎ (room < length (render (writtenBack base log))))
 
 -- # Demand 3, over any sameness of calls
 
@@ -269,3 +277,25 @@ PremiseIsNeeded =
     × (struck : Places)
     × (read base s ≡ accepted log)
     × ((totalsOfLog base log) .total < (totalsOfLog base (strike struck log)) .total)
+
+-- # All of it
+
+pub record TheThreeDemands : Type 0 where
+  pub everyInputGetsAnAnswer : EveryInputGetsAnAnswer
+  pub refusedWithNumberLineField : RefusedWithNumberLineField
+  pub refusedJudgingChangesNothing : RefusedJudgingChangesNothing
+  pub refusedWritingChangesNothing : RefusedWritingChangesNothing
+  pub refusedViewIsEmpty : RefusedViewIsEmpty
+  pub acceptedExactlyWhenWritten : AcceptedExactlyWhenWritten
+  pub acceptedExactlyWhenFormat : AcceptedExactlyWhenFormat
+  pub classesAndMarksAsDefined : ClassesAndMarksAsDefined
+  pub fourCountsAddUp : FourCountsAddUp
+  pub totalIsBounded : TotalIsBounded
+  pub writingChangesOnlyTheNamed : WritingChangesOnlyTheNamed
+  pub writingKeepsPoints : WritingKeepsPoints
+  pub writingBackIsStable : WritingBackIsStable
+  pub writingIsRefusedForLength : WritingIsRefusedForLength
+  pub struckIsAccepted : StruckIsAccepted
+  pub strikingRuleForAnySameness : StrikingRuleForAnySameness
+  pub strikingRuleForTheBase : StrikingRuleForTheBase
+  pub premiseIsNeeded : PremiseIsNeeded

@@ -22,7 +22,7 @@ sub-if1 c = search needs
 -- src/lib.rt:43:9
 returns : tie.Need-returns
 returns c =
-    line-too-long _ _ _ (c .before .allowed-run .ensures) (c .if1 .taken)
+    line-too-long _ _ _ (c .before .allowed-run .ensures) (omega arith)
 
 -- src/lib.rt:46:9
 returns-2 : tie.Need-returns-2
@@ -59,7 +59,7 @@ returns-5 c =
 -- src/lib.rt:38:1
 returns-6 : tie.Need-returns-6
 returns-6 c =
-    line-found _ _ _ (c .before .before .before .before .before .before .before .allowed-run .ensures) (c .before .before .before .before .before .before .if1 .left) (c .before .before .before .if3 .left) (c .if5 .left)
+    line-found _ _ _ (c .before .before .before .before .before .before .before .allowed-run .ensures) (omega (arith, c .before .before .before .before .before .before .if1 .left)) (c .before .before .before .if3 .left) (c .if5 .left)
 
 pub line-end-spec : {M : Type 1} → statement M
 line-end-spec =

@@ -1,0 +1,21 @@
+-- `writer::put_byte` meets its contract.
+-- Assumes nothing.
+use Rattle.writer.proofs.WrittenLaws.{written-byte}
+use borrow.Author.Needs.{needs}
+use Rattle.writer.proofs.put_byte.Statement.{statement}
+use Rattle.writer.proofs.put_byte.Tie as tie
+
+slice-write-out : tie.Need-slice-write-out
+slice-write-out c = search needs
+
+add-result : tie.Need-add-result
+add-result c = search needs
+
+same-length : tie.Need-same-length
+same-length c = search needs
+
+returns : tie.Need-returns
+returns c = record { fits = search needs; list = written-byte _ _ _ (c .pre); place = search needs }
+
+pub put-byte-spec : {M : Type 1} → statement M
+put-byte-spec = tie.close (tie.spec slice-write-out add-result same-length returns)

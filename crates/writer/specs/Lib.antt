@@ -1,0 +1,3 @@
+-- What is written over a lent slice, and where.
+pub mod Written
+pub mod RecordText

@@ -1,0 +1,197 @@
+// Writing a log back: texts and numbers laid over a lent slice, one behind the other.
+
+ghost use mathlib.Core.Path.{_≡_};
+ghost use mathlib.Core.Bool.{_&&_};
+ghost use mathlib.Core.List.{List, [], _∷_};
+ghost use Prim.Native.Nat.{ℕ, _+_, _-_, _<_, _≤_};
+ghost use lib.ListN.{length};
+ghost use Rattle.rules.specs.Text.{digits};
+ghost use Rattle.rules.specs.declared.Class.the-variants.{Credited, Duplicate};
+ghost use Rattle.rules.specs.Fields.{newMark, duplicateMark};
+ghost use Rattle.rules.specs.Log.{crlf};
+ghost use Rattle.rules.specs.Judging.{is};
+ghost use Rattle.places.specs.Places.{between};
+ghost use Rattle.writer.specs.Written.{Puts};
+ghost use Rattle.writer.specs.RecordText.{markText, marksText, pointsText, recordText};
+use places::Contact;
+use rules::Class;
+use rules::Verdict;
+
+// How many digits write a number.
+pub fn digit_count(n: u64) -> usize
+    ensures { λ r. ⌜ r ≡ length (digits n) ⌝ }
+{
+    let mut rest = n;
+    let mut count: usize = 1;
+    while 9 < rest {
+        rest = rest / 10;
+        count += 1;
+    }
+    count
+}
+
+// Each of these writes at a place of `out` where there is room, and tells the place behind what it wrote.
+
+fn put_byte(out: &mut [u8], at: usize, b: u8) -> usize
+    requires { ⌜ at < length (now out) ⌝ }
+    ensures { λ r. ⌜ Puts (now (out .entry)) at (b ∷ []) (now (out .exit)) r ⌝ }
+{
+    out[at] = b;
+    at + 1
+}
+
+// The digits are written from the last one on, since that is the order in which division by ten gives them.
+fn put_number(out: &mut [u8], at: usize, n: u64) -> usize
+    requires { ⌜ at + length (digits n) ≤ length (now out) ⌝ }
+    ensures { λ r. ⌜ Puts (now (out .entry)) at (digits n) (now (out .exit)) r ⌝ }
+{
+    let end = at + digit_count(n);
+    let mut rest = n;
+    let mut i = end - 1;
+    while 9 < rest {
+        out[i] = 48 + (rest % 10) as u8;
+        rest = rest / 10;
+        i -= 1;
+    }
+    out[i] = 48 + rest as u8;
+    end
+}
+
+// The part of `s` from a place to another.
+fn put_part(out: &mut [u8], at: usize, s: &[u8], from: usize, to: usize) -> usize
+    requires { ⌜ (from ≤ to) × (to ≤ length (now s)) × (at + (to - from) ≤ length (now out)) ⌝ }
+    ensures { λ r. ⌜ Puts (now (out .entry)) at (between (now (s .entry)) from to) (now (out .exit)) r ⌝ }
+{
+    let mut i = from;
+    let mut end = at;
+    while i < to {
+        out[end] = s[i];
+        i += 1;
+        end += 1;
+    }
+    end
+}
+
+// The line's end, CR LF.
+fn put_end(out: &mut [u8], at: usize) -> usize
+    requires { ⌜ at + length crlf ≤ length (now out) ⌝ }
+    ensures { λ r. ⌜ Puts (now (out .entry)) at crlf (now (out .exit)) r ⌝ }
+{
+    let feed = put_byte(out, at, 13);
+    put_byte(out, feed, 10)
+}
+
+// A field that holds a mark or nothing, behind its semicolon.
+fn put_mark(out: &mut [u8], at: usize, marked: bool, mark: u8) -> usize
+    requires { ⌜ at + length (markText marked (mark ∷ [])) ≤ length (now out) ⌝ }
+    ensures { λ r. ⌜ Puts (now (out .entry)) at (markText marked (mark ∷ [])) (now (out .exit)) r ⌝ }
+{
+    let field = put_byte(out, at, 59);
+    if !marked {
+        return field;
+    }
+    put_byte(out, field, mark)
+}
+
+// The last four fields of a record, and its line's end.
+fn put_marks(
+    out: &mut [u8],
+    at: usize,
+    exchange: bool,
+    square: bool,
+    country: bool,
+    duplicate: bool,
+) -> usize
+    requires { ⌜ at + length (marksText exchange square country duplicate) ≤ length (now out) ⌝ }
+    ensures { λ r. ⌜ Puts (now (out .entry)) at (marksText exchange square country duplicate) (now (out .exit)) r ⌝ }
+{
+    let second = put_mark(out, at, exchange, 78);
+    let third = put_mark(out, second, square, 78);
+    let fourth = put_mark(out, third, country, 78);
+    let end = put_mark(out, fourth, duplicate, 68);
+    put_end(out, end)
+}
+
+// The points that stand between two places of `s`; those of a duplicate become 0.
+fn put_points(out: &mut [u8], at: usize, s: &[u8], from: usize, to: usize, duplicate: bool) -> usize
+    requires { ⌜ (from ≤ to) × (to ≤ length (now s)) × (at + length (pointsText (now s) from to duplicate) ≤ length (now out)) ⌝ }
+    ensures { λ r. ⌜ Puts (now (out .entry)) at (pointsText (now (s .entry)) from to duplicate) (now (out .exit)) r ⌝ }
+{
+    if duplicate {
+        return put_byte(out, at, 48);
+    }
+    put_part(out, at, s, from, to)
+}
+
+fn is_duplicate(class: Class) -> bool
+    ensures { λ r. ⌜ r ≡ is Duplicate class ⌝ }
+{
+    match class {
+        Class::Credited => false,
+        Class::Void => false,
+        Class::Duplicate => true,
+        Class::Error => false,
+    }
+}
+
+// New-DXCC is kept on credited records alone.
+fn keeps_country(class: Class, country: bool) -> bool
+    ensures { λ r. ⌜ r ≡ (is Credited class && country) ⌝ }
+{
+    match class {
+        Class::Credited => country,
+        Class::Void => false,
+        Class::Duplicate => false,
+        Class::Error => false,
+    }
+}
+
+// The record that begins at `start`, as it is written back.
+fn put_record(out: &mut [u8], at: usize, s: &[u8], start: usize, c: Contact, v: Verdict) -> usize
+    requires { ⌜ (start ≤ c .points) × (c .points ≤ c .pointsend) × (c .pointsend ≤ length (now s)) × (at + length (recordText (now s) start c v) ≤ length (now out)) ⌝ }
+    ensures { λ r. ⌜ Puts (now (out .entry)) at (recordText (now (s .entry)) start c v) (now (out .exit)) r ⌝ }
+{
+    let class = v.class;
+    let duplicate = is_duplicate(class);
+    let country = keeps_country(class, c.country);
+    let points = put_part(out, at, s, start, c.points);
+    let marks = put_points(out, points, s, c.points, c.pointsend, duplicate);
+    put_marks(out, marks, v.exchange, v.square, country, duplicate)
+}
+
+// How many bytes the field of a mark and its semicolon take.
+fn mark_length(marked: bool) -> usize
+    ensures { λ r. ⌜ (r ≡ length (markText marked newMark)) × (r ≡ length (markText marked duplicateMark)) × (r ≤ 2) ⌝ }
+{
+    if marked {
+        return 2;
+    }
+    1
+}
+
+// How many bytes `put_points` writes.
+fn points_length(from: usize, to: usize, duplicate: bool) -> usize
+    requires { ⌜ from ≤ to ⌝ }
+    ensures { λ r. ⌜ ((s : List ℕ) → to ≤ length s → r ≡ length (pointsText s from to duplicate)) ⌝ }
+{
+    if duplicate {
+        return 1;
+    }
+    to - from
+}
+
+// How many bytes `put_record` writes.
+fn record_length(s: &[u8], start: usize, c: Contact, v: Verdict) -> usize
+    requires { ⌜ (start ≤ c .points) × (c .points ≤ c .pointsend) × (c .pointsend ≤ length (now s)) ⌝ }
+    ensures { λ r. ⌜ r ≡ length (recordText (now (s .entry)) start c v) ⌝ }
+{
+    let class = v.class;
+    let duplicate = is_duplicate(class);
+    let country = keeps_country(class, c.country);
+    let points = points_length(c.points, c.pointsend, duplicate);
+    let marks = mark_length(v.exchange)
+        + mark_length(v.square)
+        + mark_length(country)
+        + mark_length(duplicate);
+    c.points - start + points + marks + 2
+}
