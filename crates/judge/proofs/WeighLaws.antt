@@ -26,7 +26,7 @@ use Rattle.judge.specs.declared.Step.{Step}
 use Rattle.judge.specs.Parts.{keptTexts, Lying}
 use Rattle.judge.specs.Memory.{Memory, verdictBy, after, memory, Placed, Stays, Room, Steps}
 use Rattle.judge.specs.Count.{addRecord, addRecords, Counts, Countable}
-use Rattle.judge.specs.Weigh.{recordsOf, numbersOf, Weighable, Weighs}
+use Rattle.judge.specs.Weigh.{recordsOf, numbersOf, Weighable, Shelves, Weighs}
 use Rattle.judge.proofs.CountLaws.{counts-more}
 use Rattle.judge.proofs.RememberLaws.{Remembers, nothing-kept, verdict-is, remembers-after}
 
@@ -196,12 +196,7 @@ pub record Walks
   pub squares : kept .squares ≤ i
   pub exchanges : kept .exchanges ≤ i
   pub stays : Stays s kept cs ce ss se xs xe
-  pub callStarts : length cs ≡ 999
-  pub callEnds : length ce ≡ 999
-  pub squareStarts : length ss ≡ 999
-  pub squareEnds : length se ≡ 999
-  pub exchangeStarts : length xs ≡ 999
-  pub exchangeEnds : length xe ≡ 999
+  pub shelves : Shelves n cs ce ss se xs xe
 
 none-lie : (s : Text) {starts ends : List ℕ} → Lying s starts ends 0
 none-lie s = record { manyStarts = omega arith; manyEnds = omega arith; inside = λ k h. absurd (omega arith) }
@@ -209,15 +204,10 @@ none-lie s = record { manyStarts = omega arith; manyEnds = omega arith; inside =
 module _ {s : Text} {first n : ℕ} {slice : List ℕ} (w : Weighable s first n slice) where
   pub walks-begin : {cs ce ss se xs xe : List ℕ} {t : Totals} →
       t ≡ zeroTotals →
-      length cs ≡ 999 →
-      length ce ≡ 999 →
-      length ss ≡ 999 →
-      length se ≡ 999 →
-      length xs ≡ 999 →
-      length xe ≡ 999 →
+      Shelves n cs ce ss se xs xe →
       Walks s n slice slice cs ce ss se xs xe (record { calls = 0; squares = 0; exchanges = 0 }) t first 0
   unfolding memory keptTexts
-  walks-begin e a b f g h k =
+  walks-begin e shelves =
       record {
         going = rw e (begins s (recordsOf s) first (w .held));
         within = omega arith;
@@ -227,12 +217,7 @@ module _ {s : Text} {first n : ℕ} {slice : List ℕ} (w : Weighable s first n 
         squares = omega arith;
         exchanges = omega arith;
         stays = record { calls = none-lie s; squares = none-lie s; exchanges = none-lie s };
-        callStarts = a;
-        callEnds = b;
-        squareStarts = f;
-        squareEnds = g;
-        exchangeStarts = h;
-        exchangeEnds = k;
+        shelves = shelves;
       }
 
   module _ {out cs ce ss se xs xe : List ℕ} {kept : Kept} {t : Totals} {at i : ℕ} (h : Walks s n slice out cs ce ss se xs xe kept t at i) where
@@ -250,15 +235,14 @@ module _ {s : Text} {first n : ℕ} {slice : List ℕ} (w : Weighable s first n 
 
     pub has-room : i < n → Room s kept cs ce ss se xs xe
     has-room k =
-        let few = w .few in
         record {
           stays = h .stays;
-          callStart = omega (arith, h .calls, h .callStarts);
-          callEnd = omega (arith, h .calls, h .callEnds);
-          squareStart = omega (arith, h .squares, h .squareStarts);
-          squareEnd = omega (arith, h .squares, h .squareEnds);
-          exchangeStart = omega (arith, h .exchanges, h .exchangeStarts);
-          exchangeEnd = omega (arith, h .exchanges, h .exchangeEnds);
+          callStart = omega (arith, h .calls, h .shelves .callStart);
+          callEnd = omega (arith, h .calls, h .shelves .callEnd);
+          squareStart = omega (arith, h .squares, h .shelves .squareStart);
+          squareEnd = omega (arith, h .squares, h .shelves .squareEnd);
+          exchangeStart = omega (arith, h .exchanges, h .shelves .exchangeStart);
+          exchangeEnd = omega (arith, h .exchanges, h .shelves .exchangeEnd);
         }
 
     module _ {c : Contact} (e : c ≡ contactAt s (min at (length s))) (k : i < n) where
@@ -287,12 +271,12 @@ module _ {s : Text} {first n : ℕ} {slice : List ℕ} (w : Weighable s first n 
           t' ≡ addRecord t (c .worth) (r .verdict) →
           number ≡ verdictNumber (r .verdict) →
           Stays s (r .kept) cs' ce' ss' se' xs' xe' →
-          length cs' ≡ 999 →
-          length ce' ≡ 999 →
-          length ss' ≡ 999 →
-          length se' ≡ 999 →
-          length xs' ≡ 999 →
-          length xe' ≡ 999 →
+          length cs' ≡ length cs →
+          length ce' ≡ length ce →
+          length ss' ≡ length ss →
+          length se' ≡ length se →
+          length xs' ≡ length xs →
+          length xe' ≡ length xe →
           Walks s n slice (set out i number) cs' ce' ss' se' xs' xe' (r .kept) t' (c .next) (i + 1)
       walks-on {r = r} {cs' = cs'} {ce' = ce'} {ss' = ss'} {se' = se'} {xs' = xs'} {xe' = xe'} {t' = t'} st et en stays a b f g p q =
           let m = memory s kept cs ce ss se xs xe in
@@ -314,10 +298,13 @@ module _ {s : Text} {first n : ℕ} {slice : List ℕ} (w : Weighable s first n 
             squares = omega (arith, st .squares, h .squares);
             exchanges = omega (arith, st .exchanges, h .exchanges);
             stays = stays;
-            callStarts = a;
-            callEnds = b;
-            squareStarts = f;
-            squareEnds = g;
-            exchangeStarts = p;
-            exchangeEnds = q;
+            shelves =
+                record {
+                  callStart = omega (arith, h .shelves .callStart);
+                  callEnd = omega (arith, h .shelves .callEnd);
+                  squareStart = omega (arith, h .shelves .squareStart);
+                  squareEnd = omega (arith, h .shelves .squareEnd);
+                  exchangeStart = omega (arith, h .shelves .exchangeStart);
+                  exchangeEnd = omega (arith, h .shelves .exchangeEnd);
+                };
           }

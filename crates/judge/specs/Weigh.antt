@@ -34,6 +34,15 @@ pub record Weighable (s : Text) (first n : ℕ) (slice : List ℕ) : Type 0 wher
   pub few : n ≤ 999
   pub room : n ≤ length slice
 
+-- There is a place for each record in the six lists.
+pub record Shelves (n : ℕ) (callStarts callEnds squareStarts squareEnds exchangeStarts exchangeEnds : List ℕ) : Type 0 where
+  pub callStart : n ≤ length callStarts
+  pub callEnd : n ≤ length callEnds
+  pub squareStart : n ≤ length squareStarts
+  pub squareEnd : n ≤ length squareEnds
+  pub exchangeStart : n ≤ length exchangeStarts
+  pub exchangeEnd : n ≤ length exchangeEnds
+
 -- The totals are those of the records, and their verdicts are written.
 pub record Weighs (s : Text) (slice : List ℕ) (r : Totals) (slice' : List ℕ) : Type 0 where
   pub totals : r ≡ addRecords zeroTotals (recordsOf s) (verdicts base (recordsOf s))

@@ -10,7 +10,7 @@ ghost use Rattle.places.specs.Places.{between};
 ghost use Rattle.rules.specs.Arguments.{among};
 ghost use Rattle.judge.specs.Parts.{squareEnd, seek, keptTexts, Lying};
 ghost use Rattle.judge.specs.Memory.{unseen, classBy, verdictBy, memory, Placed, Stays, Room, Keeps, Steps};
-ghost use Rattle.judge.specs.Weigh.{Weighable, Weighs};
+ghost use Rattle.judge.specs.Weigh.{Weighable, Shelves, Weighs};
 ghost use Rattle.judge.specs.Judge.{weighedOf, judgedOf, verdictsAfterwards, Accepts};
 ghost use Rattle.judge.specs.Count.{worthIf, addRecord, closing, Countable, Closable};
 use places::Contact;
@@ -376,16 +376,22 @@ fn no_totals() -> Totals
 
 // The n records from a place on are judged, each in one step, and their verdicts written. Of the credited ones only places are kept, so that no
 // record is read twice.
-fn weigh_records(log: &[u8], first: usize, n: usize, verdicts: &mut [u8]) -> Totals
+fn walk_records(
+    log: &[u8],
+    first: usize,
+    n: usize,
+    verdicts: &mut [u8],
+    callstarts: &mut [usize],
+    callends: &mut [usize],
+    squarestarts: &mut [usize],
+    squareends: &mut [usize],
+    exchangestarts: &mut [usize],
+    exchangeends: &mut [usize],
+) -> Totals
     requires { ⌜ Weighable (now log) first n (now verdicts) ⌝ }
+    requires { ⌜ Shelves n (now callstarts) (now callends) (now squarestarts) (now squareends) (now exchangestarts) (now exchangeends) ⌝ }
     ensures { λ r. ⌜ Weighs (now (log .entry)) (now (verdicts .entry)) r (now (verdicts .exit)) ⌝ }
 {
-    let mut callstarts = [0usize; 999];
-    let mut callends = [0usize; 999];
-    let mut squarestarts = [0usize; 999];
-    let mut squareends = [0usize; 999];
-    let mut exchangestarts = [0usize; 999];
-    let mut exchangeends = [0usize; 999];
     let mut kept = Kept {
         calls: 0,
         squares: 0,
@@ -400,12 +406,12 @@ fn weigh_records(log: &[u8], first: usize, n: usize, verdicts: &mut [u8]) -> Tot
             log,
             c,
             kept,
-            &mut callstarts,
-            &mut callends,
-            &mut squarestarts,
-            &mut squareends,
-            &mut exchangestarts,
-            &mut exchangeends,
+            callstarts,
+            callends,
+            squarestarts,
+            squareends,
+            exchangestarts,
+            exchangeends,
         );
         let v = step.verdict;
         kept = step.kept;
@@ -415,6 +421,65 @@ fn weigh_records(log: &[u8], first: usize, n: usize, verdicts: &mut [u8]) -> Tot
         i += 1;
     }
     totals
+}
+
+// Where there are few records, few places are set aside, for setting them aside costs as much as judging them.
+fn weigh_few(log: &[u8], first: usize, n: usize, verdicts: &mut [u8]) -> Totals
+    requires { ⌜ Weighable (now log) first n (now verdicts) × (n ≤ 128) ⌝ }
+    ensures { λ r. ⌜ Weighs (now (log .entry)) (now (verdicts .entry)) r (now (verdicts .exit)) ⌝ }
+{
+    let mut callstarts = [0usize; 128];
+    let mut callends = [0usize; 128];
+    let mut squarestarts = [0usize; 128];
+    let mut squareends = [0usize; 128];
+    let mut exchangestarts = [0usize; 128];
+    let mut exchangeends = [0usize; 128];
+    walk_records(
+        log,
+        first,
+        n,
+        verdicts,
+        &mut callstarts,
+        &mut callends,
+        &mut squarestarts,
+        &mut squareends,
+        &mut exchangestarts,
+        &mut exchangeends,
+    )
+}
+
+fn weigh_many(log: &[u8], first: usize, n: usize, verdicts: &mut [u8]) -> Totals
+    requires { ⌜ Weighable (now log) first n (now verdicts) ⌝ }
+    ensures { λ r. ⌜ Weighs (now (log .entry)) (now (verdicts .entry)) r (now (verdicts .exit)) ⌝ }
+{
+    let mut callstarts = [0usize; 999];
+    let mut callends = [0usize; 999];
+    let mut squarestarts = [0usize; 999];
+    let mut squareends = [0usize; 999];
+    let mut exchangestarts = [0usize; 999];
+    let mut exchangeends = [0usize; 999];
+    walk_records(
+        log,
+        first,
+        n,
+        verdicts,
+        &mut callstarts,
+        &mut callends,
+        &mut squarestarts,
+        &mut squareends,
+        &mut exchangestarts,
+        &mut exchangeends,
+    )
+}
+
+fn weigh_records(log: &[u8], first: usize, n: usize, verdicts: &mut [u8]) -> Totals
+    requires { ⌜ Weighable (now log) first n (now verdicts) ⌝ }
+    ensures { λ r. ⌜ Weighs (now (log .entry)) (now (verdicts .entry)) r (now (verdicts .exit)) ⌝ }
+{
+    if n <= 128 {
+        return weigh_few(log, first, n, verdicts);
+    }
+    weigh_many(log, first, n, verdicts)
 }
 
 // What a log is judged to be, with how many records it has and where the first begins, for a caller that walks them again.
