@@ -8,6 +8,7 @@ use mathlib.Core.List.{List, [], _∷_}
 use lib.Dec.{ltb, eqb}
 use lib.ListN.{length, take, drop}
 use native.Mathlib.Omega.{arith}
+use native.Mathlib.Nat.{le-refl}
 use Rattle.rules.specs.declared.Refusal.{Refusal}
 use Rattle.rules.specs.declared.Due.{Due}
 use Rattle.rules.specs.declared.Due.the-variants.{Identifier, Keyword, Remarks, Remark, Record, End}
@@ -21,7 +22,7 @@ use Rattle.rules.specs.Log.{Log, identifier, remarksLine, countStart, ke
 use Rattle.rules.specs.Judging.{zeroTotals}
 use Rattle.rules.specs.Reading.{RecordRule, keeps, breaks, firstBroken, recordRule, recordsDue, whole, argumentOn, keywordLine, keywordDue, countRule, afterRecord, step, Reading, accepted, refused, refusal, atRest, put, onNext, lines, walk, read}
 use Rattle.rules.specs.Answers.{Judgement, unjudged, judge, totalsOfJudgement, numbersOfJudgement, Writing, unwritten, write, bytesOfWriting, Viewing, unseen, view, startOfView, viewed, over}
-use Rattle.rules.specs.Demands.{EveryInputGetsAnAnswer, RefusedWithNumberLineField, RefusedJudgingChangesNothing, RefusedWritingChangesNothing, RefusedViewIsEmpty}
+use Rattle.rules.specs.Demands.{EveryInputGetsAnAnswer, OfALine, RefusedWithNumberLineField, RefusedJudgingChangesNothing, RefusedWritingChangesNothing, RefusedViewIsEmpty}
 
 pub every-input : EveryInputGetsAnAnswer
 every-input s = by (read base s) refl
@@ -30,9 +31,9 @@ every-input s = by (read base s) refl
     by (accepted log) e = inl (log, e)
     by (refused r) e = inr (r, e)
 
--- A refusal's number is 1 to 6 and its field none or one of fifteen; of a record line too.
+-- The number of a line's refusal is 2 to 6, and its field none or, in 5 alone, one of fifteen; of a record line too.
 abbrev Numbered : ℕ → ℕ → Type 0
-Numbered number field = (1 ≤ number) × (number ≤ 6) × (field ≤ 15)
+Numbered number field = (2 ≤ number) × (number ≤ 6) × (field ≤ 15) × ((number ≡ 5 → ⊥) → field ≡ 0)
 
 abbrev FieldIsOne : RecordRule → Type 0
 FieldIsOne keeps = Unit {0}
@@ -52,11 +53,21 @@ on-test : (b : Bool) (x y : Next) → StopsNumbered x → StopsNumbered y → St
 on-test true x y p q = p
 on-test false x y p q = q
 
+-- Any number but 5 comes with no field.
+no-field : (number : ℕ) → 2 ≤ number → number ≤ 6 → Numbered number 0
+no-field number h k = (h, k, omega arith, λ n. refl)
+
+two : Numbered 2 0
+two = no-field 2 (omega arith) (omega arith)
+
 three : Numbered 3 0
-three = omega arith
+three = no-field 3 (omega arith) (omega arith)
 
 four : Numbered 4 0
-four = omega arith
+four = no-field 4 (omega arith) (omega arith)
+
+six : Numbered 6 0
+six = no-field 6 (omega arith) (omega arith)
 
 module _ (R : Rules) where
   rule-field : (l : Text) → FieldIsOne (recordRule R l)
@@ -70,7 +81,7 @@ module _ (R : Rules) where
   after-numbered : (n : ℕ) (r : RecordRule) → FieldIsOne r → StopsNumbered (afterRecord n r)
   unfolding afterRecord
   after-numbered n keeps h = tt
-  after-numbered n (breaks field) h = (omega arith, omega arith, h)
+  after-numbered n (breaks field) h = (omega arith, omega arith, h, λ k. absurd (k refl))
 
   keyword-numbered : (e : Entry) (l : Text) (next : Due) → StopsNumbered (keywordLine R e l next)
   unfolding keywordLine
@@ -80,7 +91,7 @@ module _ (R : Rules) where
 
   due-numbered : (es : List Entry) (k : ℕ) (l : Text) → StopsNumbered (keywordDue R es k l)
   unfolding keywordDue
-  due-numbered [] k l = omega arith
+  due-numbered [] k l = three
   due-numbered (e ∷ []) k l = keyword-numbered e l Remarks
   due-numbered (e ∷ f ∷ es) k l = keyword-numbered e l (Keyword (k + 1))
 
@@ -103,23 +114,23 @@ module _ (R : Rules) where
       let t = drop (length countStart) l in
       on-test (begins countStart l) (countRule R t) (Goes Remark) (count-numbered t) tt
   step-numbered (Record n) l = after-numbered n (recordRule R l) (rule-field l)
-  step-numbered End l = omega arith
+  step-numbered End l = six
 
 -- The line is one of the text, or the one that is missing behind them.
 abbrev Placed : ℕ → Reading → Type 0
 Placed most (accepted log) = Unit {0}
-Placed most (refused r) = (1 ≤ r .number) × (r .number ≤ 6) × (r .line ≤ most) × (r .field ≤ 15)
+Placed most (refused r) = (1 ≤ r .line) × (r .line ≤ most) × Numbered (r .number) (r .field)
 
-rest-placed : (due : Due) (n : ℕ) (rest : Text) → Placed n (atRest due n rest)
+rest-placed : (due : Due) (n : ℕ) (rest : Text) → 1 ≤ n → Placed n (atRest due n rest)
 unfolding atRest
-rest-placed Identifier n rest = omega arith
-rest-placed (Keyword k) n rest = omega arith
-rest-placed Remarks n rest = omega arith
-rest-placed Remark n rest = omega arith
-rest-placed (Record m) n [] = omega arith
-rest-placed (Record m) n (c ∷ rest) = omega arith
-rest-placed End n [] = tt
-rest-placed End n (c ∷ rest) = omega arith
+rest-placed Identifier n rest h = (h, le-refl n, two)
+rest-placed (Keyword k) n rest h = (h, le-refl n, two)
+rest-placed Remarks n rest h = (h, le-refl n, two)
+rest-placed Remark n rest h = (h, le-refl n, two)
+rest-placed (Record m) n [] h = (h, le-refl n, six)
+rest-placed (Record m) n (c ∷ rest) h = (h, le-refl n, two)
+rest-placed End n [] h = tt
+rest-placed End n (c ∷ rest) h = (h, le-refl n, six)
 
 put-placed : (most : ℕ) (due : Due) (l : Text) (a : Reading) → Placed most a → Placed most (put due l a)
 unfolding put
@@ -128,32 +139,47 @@ put-placed most due l (refused r) p = p
 
 later-placed : (most more : ℕ) (a : Reading) → most ≤ more → Placed most a → Placed more a
 later-placed most more (accepted log) h p = tt
-later-placed most more (refused r) h p = omega arith
+later-placed most more (refused r) h p = (p .0, omega (arith, p .1), p .2)
 
 module _ (R : Rules) where
-  walk-placed : (due : Due) (n : ℕ) (ls : List Text) (rest : Text) → Placed (n + length ls) (walk R due n ls rest)
+  walk-placed : (due : Due) (n : ℕ) (ls : List Text) (rest : Text) → 1 ≤ n → Placed (n + length ls) (walk R due n ls rest)
   unfolding walk
-  walk-placed due n [] rest = later-placed n (n + 0) (atRest due n rest) (omega arith) (rest-placed due n rest)
-  walk-placed due n (l ∷ ls) rest = on (λ next. walk-placed next (n + 1) ls rest) (step R due l) (step-numbered R due l)
+  walk-placed due n [] rest h = later-placed n (n + 0) (atRest due n rest) (omega arith) (rest-placed due n rest h)
+  walk-placed due n (l ∷ ls) rest h = on (λ next. walk-placed next (n + 1) ls rest (omega arith)) (step R due l) (step-numbered R due l)
     where
       on : ((next : Due) → Placed (n + 1 + length ls) (walk R next (n + 1) ls rest)) → (m : Next) → StopsNumbered m → Placed (n + suc (length ls)) (onNext (λ next. walk R next (n + 1) ls rest) n due l m)
       on more (Goes next) p =
           let a = walk R next (n + 1) ls rest in
           put-placed (n + suc (length ls)) due l a (later-placed (n + 1 + length ls) (n + suc (length ls)) a (omega arith) (more next))
-      on more (Stops number field) p = omega arith
+      on more (Stops number field) p = (h, omega arith, p)
 
-  read-placed : (s : Text) → Placed (length ((lines R s) .whole) + 1) (read R s)
+  abbrev Told : Text → Reading → Type 0
+  Told s (accepted log) = Unit {0}
+  Told s (refused r) = (r ≡ refusal 1 0 0) ⊎ Placed (length ((lines R s) .whole) + 1) (refused r)
+
+  told-placed : (s : Text) (a : Reading) → Placed (length ((lines R s) .whole) + 1) a → Told s a
+  told-placed s (accepted log) p = tt
+  told-placed s (refused r) p = inr p
+
+  read-placed : (s : Text) → Told s (read R s)
   unfolding read
   read-placed s = by (ltb (R .longestLog) (length s))
     where
-      by : (b : Bool) → Placed (length ((lines R s) .whole) + 1) (cond b (refused (refusal 1 0 0)) (walk R Identifier 1 ((lines R s) .whole) ((lines R s) .rest)))
-      by true = omega arith
+      by : (b : Bool) → Told s (cond b (refused (refusal 1 0 0)) (walk R Identifier 1 ((lines R s) .whole) ((lines R s) .rest)))
+      by true = inl refl
       by false =
           let n = length ((lines R s) .whole) in
-          later-placed (1 + n) (n + 1) (walk R Identifier 1 ((lines R s) .whole) ((lines R s) .rest)) (omega arith) (walk-placed Identifier 1 ((lines R s) .whole) ((lines R s) .rest))
+          let a = walk R Identifier 1 ((lines R s) .whole) ((lines R s) .rest) in
+          told-placed s a
+          (later-placed (1 + n) (n + 1) a (omega arith) (walk-placed Identifier 1 ((lines R s) .whole) ((lines R s) .rest) (omega arith)))
 
 pub refused-with : RefusedWithNumberLineField
-refused-with s r e = subst (λ (a : Reading). Placed (length ((lines base s) .whole) + 1) a) e (read-placed base s)
+refused-with s r e = named (subst (λ (a : Reading). Told base s a) e (read-placed base s))
+  where
+    named : Told base s (refused r) → (r ≡ refusal 1 0 0) ⊎ OfALine (length ((lines base s) .whole)) r
+    named (inl p) = inl p
+    named (inr (low, high, (two, six, field, alone))) =
+        inr (record { number = (two, six); line = (low, high); field = field; inFiveAlone = alone })
 
 -- What a refused call leaves.
 pub refused-judging : RefusedJudgingChangesNothing

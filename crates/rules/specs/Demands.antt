@@ -30,16 +30,19 @@ abbrev pub EveryInputGetsAnAnswer : Type 0
 EveryInputGetsAnAnswer =
     (s : Text) → ((log : Log) × (read base s ≡ accepted log)) ⊎ ((r : Refusal) × (read base s ≡ refused r))
 
--- "A file that breaks the rules is refused with a number, a line and a field": 1 to 6, a line of the text or the one that is missing behind
--- them, and one of fifteen fields or none.
+-- "A file that breaks the rules is refused with a number, a line and a field": 1 with no line and no field, where it is too long; otherwise 2
+-- to 6 with a line of the text, or the one that is missing behind them, and with a field, one of fifteen or none, in 5 alone.
+pub record OfALine (lines : ℕ) (r : Refusal) : Type 0 where
+  pub number : (2 ≤ r .number) × (r .number ≤ 6)
+  pub line : (1 ≤ r .line) × (r .line ≤ lines + 1)
+  pub field : r .field ≤ 15
+  pub inFiveAlone : (r .number ≡ 5 → ⊥) → r .field ≡ 0
+
 abbrev pub RefusedWithNumberLineField : Type 0
 RefusedWithNumberLineField =
     (s : Text) (r : Refusal) →
     read base s ≡ refused r →
-    (1 ≤ r .number)
-    × (r .number ≤ 6)
-    × (r .line ≤ length ((lines base s) .whole) + 1)
-    × (r .field ≤ 15)
+    (r ≡ refusal 1 0 0) ⊎ OfALine (length ((lines base s) .whole)) r
 
 -- "the totals are then zero and lent memory is as it was handed over", of each call that can be refused.
 abbrev pub RefusedJudgingChangesNothing : Type 0
