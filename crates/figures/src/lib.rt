@@ -19,6 +19,7 @@ pub struct TimeOfDay {
 }
 
 impl TimeOfDay {
+    // The first and the last time of a day, as their digits read.
     pub const FIRST: u32 = 0;
 
     pub const LAST: u32 = 2359;
@@ -40,11 +41,11 @@ impl TimeOfDay {
             return TimeMade::Bad;
         }
         let hours = two_digits(a, b);
-        if 23 < hours {
+        if Self::LAST / 100 < hours {
             return TimeMade::Bad;
         }
         let minutes = two_digits(c, d);
-        if 59 < minutes {
+        if Self::LAST % 100 < minutes {
             return TimeMade::Bad;
         }
         TimeMade::Time(TimeOfDay {
@@ -52,11 +53,11 @@ impl TimeOfDay {
         })
     }
 
-    // The minutes from 0000 on.
+    // The minutes from the first time on.
     pub fn minutes(self) -> u32
         ensures { λ r. ⌜ r ≡ minutesOf self ⌝ }
     {
-        60 * (self.digits / 100) + self.digits % 100
+        60 * (self.digits / 100) + self.digits % 100 - Self::FIRST
     }
 }
 

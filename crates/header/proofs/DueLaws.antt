@@ -14,7 +14,7 @@ use Rattle.rules.specs.Text.{Text, span, all, parts}
 use Rattle.rules.specs.Arguments.{each}
 use Rattle.fields.specs.Field.{inField, textAt, endOf}
 use Rattle.fields.proofs.Picked.{Kept}
-use Rattle.header.proofs.PartLaws.{parts-split, end-by-span, end-within, at-end, parts-last, parts-more}
+use Rattle.header.proofs.PartLaws.{parts-split, end-by-span, end-within, at-end, parts-last, parts-more, whole-span}
 
 -- The rules that are left are those of the parts from this place on; beyond the end there are too few parts.
 pub record Due (rules left : List (Text → Bool)) (t : Text) (at : ℕ) : Type 0 where
@@ -70,16 +70,6 @@ module _ {rules : List (Text → Bool)} {rule : Text → Bool} {t : Text} {at : 
 
 -- A rule that lets no semicolon through: a text that keeps it is its only part.
 module _ (rule : Text → Bool) (apart : (t : Text) → rule t ≡ true → all inField t ≡ true) (t : Text) where
-  whole-span : (s : Text) → all inField s ≡ true → span inField s ≡ length s
-  unfolding all span
-  whole-span [] e = refl
-  whole-span (c ∷ s) e = by (inField c) (whole-span s) e
-    where
-      by : (b : Bool) → (all inField s ≡ true → span inField s ≡ length s) → (b && all inField s) ≡ true
-          → cond b (suc (span inField s)) 0 ≡ suc (length s)
-      by true h e = ap suc (h e)
-      by false h e = absurd (true≢false (sym e))
-
   whole-text : length t ≤ endOf t 0 → textAt t 0 ≡ t
   unfolding textAt
   whole-text h = take-all (span inField t) t (omega (arith, end-by-span t 0))
@@ -89,7 +79,7 @@ module _ (rule : Text → Bool) (apart : (t : Text) → rule t ≡ true → all 
   alone = by (decLt (endOf t 0) (length t))
     where
       broken : (b : Bool) → rule t ≡ b → endOf t 0 < length t → false ≡ b
-      broken true e h = absurd (omega (arith, end-by-span t 0, whole-span t (apart t e)))
+      broken true e h = absurd (omega (arith, end-by-span t 0, whole-span inField t (apart t e)))
       broken false e h = refl
 
       by : Dec (endOf t 0 < length t) → each (rule ∷ []) (parts t) ≡ rule t

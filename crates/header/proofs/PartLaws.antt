@@ -5,14 +5,14 @@ use native.Mathlib.Omega.{arith}
 use native.Mathlib.Nat.{add-zero, suc-add, add-suc}
 use native.Mathlib.Decide.{decLt, decLe}
 use mathlib.Core.Path.{_≡_, refl, sym, ap, _∙_}
-use mathlib.Core.Bool.{Bool, true, false, cond, not}
+use mathlib.Core.Bool.{Bool, true, false, cond, not, _&&_, true≢false}
 use mathlib.Core.List.{List, [], _∷_}
 use lib.Dec.{eqb}
 use lib.ListN.{length, take, drop, getD, drop-of-length-le, length-drop}
 use lib.Seq.{length-take-le, drop-drop, getD-drop}
 use borrow.Author.Tests.{eq-eqb, ne-eqb}
 use native.Mathlib.Numerals.{add-one}
-use Rattle.rules.specs.Text.{Text, semicolon, span, parts, before}
+use Rattle.rules.specs.Text.{Text, semicolon, span, parts, before, all}
 use Rattle.fields.specs.Field.{inField, textAt, endOf}
 use Rattle.fields.proofs.FieldLaws.{next}
 
@@ -25,6 +25,16 @@ span-short f (c ∷ s) = by (f c) (span-short f s)
     by : (b : Bool) → span f s ≤ length s → cond b (suc (span f s)) 0 ≤ suc (length s)
     by true h = omega arith
     by false h = omega arith
+
+-- A text of one kind of characters is one run.
+pub whole-span : (f : ℕ → Bool) (s : Text) → all f s ≡ true → span f s ≡ length s
+unfolding span all
+whole-span f [] e = refl
+whole-span f (c ∷ s) e = by (f c) e (whole-span f s)
+  where
+    by : (b : Bool) → (b && all f s) ≡ true → (all f s ≡ true → span f s ≡ length s) → cond b (suc (span f s)) 0 ≡ suc (length s)
+    by true k h = ap suc (h k)
+    by false k h = absurd (true≢false (sym k))
 
 -- What stands behind the semicolon at the front, if one does.
 abbrev rest : Text → List Text

@@ -31,7 +31,7 @@ kind-apart f apart c e = by (eqb c 59) refl
 both : {a b : Bool} → a ≡ true → b ≡ true → (a && b) ≡ true
 both e h = rw (e, h)
 
-all-apart : (f : ℕ → Bool) → f 59 ≡ false → (t : Text) → all f t ≡ true → all inField t ≡ true
+pub all-apart : (f : ℕ → Bool) → f 59 ≡ false → (t : Text) → all f t ≡ true → all inField t ≡ true
 unfolding all
 all-apart f apart [] e = refl
 all-apart f apart (c ∷ t) e =

@@ -17,6 +17,7 @@ use Rattle.rules.specs.Log.{Log, argument}
 use Rattle.rules.specs.Reading.{Reading, accepted, refused, refusal, read}
 use Rattle.rules.specs.Answers.{Viewing, seen, unseen, viewOfReading, argumentStart, view, viewed}
 use Rattle.header.proofs.PartLaws.{span-short}
+use Rattle.reader.proofs.DueLaws.{entries-length}
 use Rattle.reader.specs.declared.ReadAnswer.{ReadAnswer}
 use Rattle.reader.specs.declared.ReadAnswer.the-variants as ReadAnswer
 use Rattle.reader.specs.Read.{readTold, readOf}
@@ -49,10 +50,6 @@ told-unseen r = refl
 told-seen : (a : ℕ) (t : Text) → viewTold (seen a t) ≡ ViewRead.Seen a (length t)
 unfolding viewTold
 told-seen a t = refl
-
-entries-length : length entries ≡ 36
-unfolding entries
-entries-length = refl
 
 beyond : (k : ℕ) (r : Reading) → viewOfReading k [] r ≡ unseen (refusal 9 0 0)
 unfolding viewOfReading

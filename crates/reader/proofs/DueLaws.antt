@@ -25,7 +25,7 @@ use Rattle.header.specs.declared.ArgumentRead.{ArgumentRead}
 use Rattle.header.specs.declared.ArgumentRead.the-variants as ArgumentRead
 use Rattle.header.specs.Header.{firstKeyword, keywordAt, firstArgument, argumentOf}
 use Rattle.header.proofs.WordLaws.{begins-short}
-use Rattle.header.proofs.TableLaws.{word-length}
+use Rattle.header.proofs.TableLaws.{word-length, keyword-beyond}
 use Rattle.reader.specs.declared.RecordRead.{RecordRead}
 use Rattle.reader.specs.declared.RecordRead.the-variants as RecordRead
 use Rattle.reader.specs.Record.{recordTold, recordOf}
@@ -59,7 +59,7 @@ none = record { keyword = []; rule = anything }
 abbrev entryAt : ℕ → Entry
 entryAt k = getD entries k none
 
-entries-length : length entries ≡ 36
+pub entries-length : length entries ≡ 36
 unfolding entries
 entries-length = refl
 
@@ -77,10 +77,6 @@ differs-not p = let z : _≡_ {A = ℕ} 0 1 = cc in omega arith
 broken-not : ArgumentRead.Broken ≡ ArgumentRead.Kept → ⊥
 broken-not p = let z : _≡_ {A = ℕ} 0 1 = cc in omega arith
 
-keyword-beyond : (k : ℕ) (line : Text) → 36 ≤ k → keywordAt k line ≡ KeywordRead.Differs
-unfolding keywordAt firstKeyword
-keyword-beyond k line h = rw (drop-of-length-le entries {i = k} (omega (arith, entries-length)))
-
 keyword-by : (k : ℕ) (line : Text) → k < 36 → keywordAt k line ≡ cond (begins (keywordStart (entryAt k)) line) KeywordRead.Listed KeywordRead.Differs
 unfolding keywordAt firstKeyword
 keyword-by k line h = rw (entry-due k h)
@@ -94,7 +90,7 @@ listed-within k line e = by (decLt k 36)
   where
     by : Dec (k < 36) → k < 36
     by (yes h) = h
-    by (no h) = absurd (differs-not (sym (keyword-beyond k line (omega arith)) ∙ e))
+    by (no h) = absurd (differs-not (keyword-beyond k line (omega arith) ∙ e))
 
 due-one : (k : ℕ) (line : Text) → 35 ≤ k → k < 36 → keywordDue base (drop k entries) k line ≡ keywordLine base (entryAt k) line Due.Remarks
 unfolding keywordDue

@@ -17,7 +17,7 @@ use Rattle.rules.specs.declared.Due.the-variants as Due
 use Rattle.rules.specs.declared.Next.{Next}
 use Rattle.rules.specs.declared.Next.the-variants as Next
 use Rattle.rules.specs.Reading.{recordsDue, countRule}
-use Rattle.rules.proofs.TextLaws.{span-all, all-weaker, same-eq, same-refl}
+use Rattle.rules.proofs.TextLaws.{span-all, same-eq, same-refl}
 use Rattle.rules.proofs.Tests.{and-i}
 use Rattle.fields.specs.Field.{inField, textAt}
 use Rattle.fields.proofs.FieldLaws.{next}
@@ -25,7 +25,8 @@ use Rattle.figures.specs.declared.NumberRead.{NumberRead}
 use Rattle.figures.specs.declared.NumberRead.the-variants as NumberRead
 use Rattle.figures.specs.Figure.{numberAt}
 use Rattle.figures.proofs.Picked.{number-picked, number-refused}
-use Rattle.header.proofs.PartLaws.{span-short}
+use Rattle.header.proofs.PartLaws.{span-short, whole-span}
+use Rattle.header.proofs.RuleLaws.{all-apart}
 
 -- So many records.
 pub none-due : (n : ℕ) → n ≡ 0 → Due.End ≡ recordsDue n
@@ -38,26 +39,10 @@ some-due zero e = absurd (e refl)
 some-due (suc n) e = refl
 
 -- Digits are one field.
-whole-span : (f : ℕ → Bool) (s : Text) → all f s ≡ true → span f s ≡ length s
-unfolding span all
-whole-span f [] e = refl
-whole-span f (c ∷ s) e = by (f c) e (whole-span f s)
-  where
-    by : (b : Bool) → (b && all f s) ≡ true → (all f s ≡ true → span f s ≡ length s) → cond b (suc (span f s)) 0 ≡ suc (length s)
-    by true k h = ap suc (h k)
-    by false k h = absurd (true≢false (sym k))
-
-digit-in-field : (c : ℕ) → digit c ≡ true → inField c ≡ true
-digit-in-field c e = by (eqb c 59) refl
-  where
-    by : (b : Bool) → eqb c 59 ≡ b → not b ≡ true
-    by true k = absurd (true≢false (sym e ∙ ap digit (eqb-true c 59 k)))
-    by false k = refl
-
 digits-text : (s : Text) → all digit s ≡ true → textAt s 0 ≡ s
 unfolding textAt
 digits-text s e =
-    ap (λ (n : ℕ). take n s) (whole-span inField s (all-weaker digit inField digit-in-field s e)) ∙ take-length s
+    ap (λ (n : ℕ). take n s) (whole-span inField s (all-apart digit refl s e)) ∙ take-length s
 
 -- The count line behind its front, by the number of its digits.
 abbrev told-count : Text → ℕ → Next

@@ -1,6 +1,6 @@
-use mathlib.Core.Path.{refl}
-use Rattle.figures.specs.Figure.{minutesOf}
+use native.Mathlib.Omega.{arith}
 use borrow.Author.Needs.{needs}
+use Rattle.figures.specs.Figure.{minutesOf}
 use Rattle.figures.proofs.TimeOfDay.minutes.Statement.{statement}
 use Rattle.figures.proofs.TimeOfDay.minutes.Tie as tie
 
@@ -10,9 +10,12 @@ mul-result c = search needs
 add-result : tie.Need-add-result
 add-result c = search needs
 
+sub-result : tie.Need-sub-result
+sub-result c = search needs
+
 returns : tie.Need-returns
 unfolding minutesOf
-returns c = refl
+returns c = omega arith
 
 pub minutes-spec : {M : Type 1} → statement M
-minutes-spec = tie.close (tie.spec mul-result add-result returns)
+minutes-spec = tie.close (tie.spec mul-result add-result sub-result returns)
