@@ -1,3 +1,4 @@
 -- What is written over a lent slice, and where.
 pub mod Written
+pub mod ClaimsText
 pub mod RecordText
