@@ -5,7 +5,7 @@ use native.Mathlib.Omega.{arith}
 use native.Mathlib.Nat.{add-zero, add-suc}
 use native.Mathlib.Numerals.{add-one}
 use mathlib.Core.List.{List, [], _∷_}
-use mathlib.Core.Path.{_≡_, sym, ap, _∙_}
+use mathlib.Core.Path.{_≡_, refl, sym, ap, _∙_}
 use mathlib.Core.Bool.{Bool, false, and-true}
 use lib.Dec.{eqb}
 use lib.ListN.{length, take, drop, getD, length-drop}
@@ -21,7 +21,8 @@ use Rattle.header.proofs.WordLaws.{same-apart}
 use Rattle.header.proofs.PartLaws.{span-short}
 use Rattle.header.proofs.PartLaws.{end-by-span, end-within}
 use Rattle.places.specs.declared.Contact.{Contact}
-use Rattle.places.specs.Places.{fieldStart, valueBy, contactAt, Holds}
+use Rattle.places.specs.declared.Tail.{Tail}
+use Rattle.places.specs.Places.{fieldStart, valueBy, tailAt, contactAt, Holds}
 
 module _ (s : Text) where
   -- A run ends within the text, or where it begins.
@@ -86,6 +87,11 @@ module _ (s : Text) where
     new-by-byte n =
         rw (text-by-end a h, n, next s a (omega (arith, ends-inside a h (omega arith)))) (sym (and-true (eqb (getD s a 0) 78)))
 
+  -- The first field begins where the record does.
+  pub field-first : (at : ℕ) → at ≡ fieldStart s at 0
+  unfolding fieldStart
+  field-first at = refl
+
   -- One field after the other, from a place on.
   module _ (at k : ℕ) where
     pub field-ends : {a e : ℕ} → a ≡ fieldStart s at k → e ≡ a + span inField (drop a s) → e ≡ endOf s (fieldStart s at k)
@@ -99,23 +105,37 @@ module _ (s : Text) where
     fields-on j g h =
         h ∙ ap (λ (n : ℕ). fieldStart s n j) (next-start g) ∙ start-more at (suc k) j
 
-    pub ends-near : {e : ℕ} → at ≤ length s → e ≡ endOf s (fieldStart s at k) → e ≤ length s + k
-    ends-near h g = omega (arith, start-within at (suc k), next-start g)
+    pub ends-near : {e : ℕ} → e ≡ endOf s (fieldStart s at k) → e ≤ max at (length s) + k
+    ends-near g = omega (arith, start-within at (suc k), next-start g)
+
+  -- What is told from the points on, put together from its places.
+  pub tail-told : (at : ℕ) {pointsend country countryend next : ℕ} {new : Bool}
+      → pointsend ≡ endOf s (fieldStart s at 0)
+      → country ≡ fieldStart s at 3
+      → countryend ≡ endOf s (fieldStart s at 3)
+      → new ≡ same (textAt s country) newMark
+      → next ≡ countryend + 1 + span allowed (drop (countryend + 1) s)
+      → _≡_ {A = Tail} (record { pointsend = pointsend; country = new; next = next + 2 }) (tailAt s at)
+  unfolding tailAt fieldStart
+  tail-told at pe n ne nw nx = rw (nx, nw, pe, n, ne)
+
+  -- What is told of a record is told of its tail.
+  pub tail-of : (at : ℕ)
+      → tailAt s ((contactAt s at) .points)
+      ≡ record { pointsend = (contactAt s at) .pointsend; country = (contactAt s at) .country; next = (contactAt s at) .next }
+  unfolding tailAt contactAt fieldStart
+  tail-of at = refl
 
   -- What is told of a record, put together from its places.
-  pub told : (at : ℕ) {call callend exchange exchangeend locatorend pointsend country countryend next worth : ℕ} {error new : Bool}
+  pub told : (at : ℕ) {call callend exchange exchangeend locatorend worth : ℕ} {error : Bool} {tail : Tail}
       → call ≡ fieldStart s at 2
       → callend ≡ endOf s (fieldStart s at 2)
       → exchange ≡ fieldStart s at 8
       → exchangeend ≡ endOf s (fieldStart s at 8)
       → locatorend ≡ endOf s (fieldStart s at 9)
-      → pointsend ≡ endOf s (fieldStart s at 10)
-      → country ≡ fieldStart s at 13
-      → countryend ≡ endOf s (fieldStart s at 13)
       → error ≡ same (textAt s call) errorCall
-      → new ≡ same (textAt s country) newMark
       → worth ≡ valueBy (numberOf 6) (textAt s (locatorend + 1))
-      → next ≡ countryend + 1 + span allowed (drop (countryend + 1) s)
+      → tail ≡ tailAt s (locatorend + 1)
       → _≡_ {A = Contact}
       (record {
         call = call;
@@ -125,15 +145,15 @@ module _ (s : Text) where
         locator = exchangeend + 1;
         locatorend = locatorend;
         points = locatorend + 1;
-        pointsend = pointsend;
+        pointsend = tail .pointsend;
         worth = worth;
         error = error;
-        country = new;
-        next = next + 2;
+        country = tail .country;
+        next = tail .next;
       })
       (contactAt s at)
-  unfolding contactAt fieldStart
-  told at c ce x xe le pe n ne er nw w nx = rw (nx, w, nw, er, c, ce, x, xe, le, pe, n, ne)
+  unfolding contactAt tailAt fieldStart
+  told at c ce x xe le er w t = rw (t, w, er, c, ce, x, xe, le)
 
   -- The next record begins behind this one.
   starts-rise : (at k : ℕ) → at ≤ fieldStart s at k

@@ -17,6 +17,7 @@ use Rattle.rules.specs.Answers.{Viewing, seen, unseen, view}
 use Rattle.places.specs.declared.ViewRead.{ViewRead}
 use Rattle.places.specs.declared.ViewRead.the-variants as ViewRead
 use Rattle.places.specs.declared.Contact.{Contact}
+use Rattle.places.specs.declared.Tail.{Tail}
 use Rattle.places.specs.declared.Declared.{Declared}
 
 -- The allowed characters from a place on: in an accepted log, the line that begins there.
@@ -41,6 +42,16 @@ unfoldable pub valueBy : (Text → Bool) → Text → ℕ
 unfolding value
 valueBy rule t = cond (rule t) (value t) 0
 
+-- What is told of a record from its points on: where they end, whether a new country is claimed, and where the next record begins.
+unfoldable pub tailAt : Text → ℕ → Tail
+unfolding fieldStart endOf textAt same newMark span
+tailAt s at =
+    record {
+      pointsend = endOf s at;
+      country = same (textAt s (fieldStart s at 3)) newMark;
+      next = fieldStart s at 4 + span allowed (drop (fieldStart s at 4) s) + 2;
+    }
+
 -- What is told of the record that begins at a place: where its call, exchange, locator and points begin and end, what they are worth, and where
 -- the next record begins.
 unfoldable pub contactAt : Text → ℕ → Contact
@@ -60,6 +71,12 @@ contactAt s at =
       country = same (textAt s (fieldStart s at 13)) newMark;
       next = fieldStart s at 14 + span allowed (drop (fieldStart s at 14) s) + 2;
     }
+
+-- Where the points begin of each of so many records, the first of which begins at a place.
+unfoldable pub pointsPlaces : Text → ℕ → ℕ → List ℕ
+unfolding contactAt
+pointsPlaces s at zero = []
+pointsPlaces s at (suc n) = (contactAt s at) .points ∷ pointsPlaces s ((contactAt s at) .next) n
 
 -- The argument on the line behind so many lines: what stands behind the six characters of its keyword and `=`.
 unfoldable pub argumentAt : Text → ℕ → Text

@@ -13,7 +13,7 @@ ghost use Rattle.rules.specs.Answers.{view, viewed};
 ghost use Rattle.places.specs.Places.{partSeen, viewOf};
 use reader::ReadAnswer;
 use rules::Refusal;
-ghost use Rattle.places.specs.Places.{lineTextAt, lineStart, fieldStart, valueBy, contactAt, declaredAt};
+ghost use Rattle.places.specs.Places.{lineTextAt, lineStart, fieldStart, valueBy, tailAt, contactAt, declaredAt};
 use figures::NumberRead;
 use figures::bonus_of;
 use figures::multiplier_of;
@@ -34,6 +34,13 @@ pub struct Contact {
     pub pointsend: usize,
     pub worth: u64,
     pub error: bool,
+    pub country: bool,
+    pub next: usize,
+}
+
+// What is told of a record from its points on.
+pub struct Tail {
+    pub pointsend: usize,
     pub country: bool,
     pub next: usize,
 }
@@ -95,6 +102,33 @@ fn is_new(s: &[u8], at: usize, end: usize) -> bool
     s[at] == 78
 }
 
+// From the points at a place on. They are the eleventh field of a record, so that they may begin so far behind the log's end.
+fn tail_within(s: &[u8], at: usize) -> Tail
+    requires { ⌜ at ≤ length (now s) + 10 ⌝ }
+    ensures { λ r. ⌜ r ≡ tailAt (now (s .entry)) at ⌝ }
+{
+    let pointsend = field_end(s, at);
+    let country = skip_fields(s, pointsend + 1, 2);
+    let countryend = field_end(s, country);
+    let new = is_new(s, country, countryend);
+    let next = allowed_run(s, countryend + 1) + 2;
+    Tail {
+        pointsend,
+        country: new,
+        next,
+    }
+}
+
+// From the points at a place on. Behind the log's end nothing can be told, and what is told of the end itself serves.
+pub fn tail_at(s: &[u8], at: usize) -> Tail
+    ensures { λ r. ⌜ r ≡ tailAt (now (s .entry)) (min at (length (now (s .entry)))) ⌝ }
+{
+    if s.len() < at {
+        return tail_within(s, s.len());
+    }
+    tail_within(s, at)
+}
+
 // The record at a place of the log.
 fn contact_within(s: &[u8], at: usize) -> Contact
     requires { ⌜ at ≤ length (now s) ⌝ }
@@ -107,13 +141,9 @@ fn contact_within(s: &[u8], at: usize) -> Contact
     let locator = exchangeend + 1;
     let locatorend = field_end(s, locator);
     let points = locatorend + 1;
-    let pointsend = field_end(s, points);
-    let country = skip_fields(s, pointsend + 1, 2);
-    let countryend = field_end(s, country);
     let error = is_error(s, call, callend);
-    let new = is_new(s, country, countryend);
     let worth = worth(s, points);
-    let next = allowed_run(s, countryend + 1) + 2;
+    let tail = tail_within(s, points);
     Contact {
         call,
         callend,
@@ -122,11 +152,11 @@ fn contact_within(s: &[u8], at: usize) -> Contact
         locator,
         locatorend,
         points,
-        pointsend,
+        pointsend: tail.pointsend,
         worth,
         error,
-        country: new,
-        next,
+        country: tail.country,
+        next: tail.next,
     }
 }
 
