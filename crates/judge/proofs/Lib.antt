@@ -4,3 +4,4 @@ pub mod RememberLaws
 pub mod CountLaws
 pub mod WeighLaws
 pub mod JudgeLaws
+pub mod NumberLaws

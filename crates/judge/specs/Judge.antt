@@ -2,13 +2,14 @@
 -- Assumes nothing.
 use Prim.Native.Nat.{ℕ, _-_}
 use mathlib.Core.Path.{_≡_}
-use mathlib.Core.List.{List, map}
+use mathlib.Core.List.{List, [], map}
 use lib.ListN.{length}
 use Rattle.rules.specs.Text.{Text}
 use Rattle.rules.specs.Rules.{base}
 use Rattle.rules.specs.Log.{Log, recordLine, ended}
 use Rattle.rules.specs.Reading.{Reading, accepted, refused, read}
 use Rattle.rules.specs.Answers.{Judgement, judged, unjudged, judge, recordsOfReading, numbersOfJudgement, over}
+use Rattle.places.specs.Places.{pointsPlaces}
 use Rattle.judge.specs.declared.Weighed.{Weighed}
 use Rattle.judge.specs.declared.Weighed.the-variants as Weighed
 use Rattle.judge.specs.declared.Judged.{Judged}
@@ -41,6 +42,15 @@ judgedOf room s = judgedBy (judge base room s)
 -- What the verdict slice holds afterwards: on a refusal, what it held.
 abbrev pub verdictsAfterwards : Text → List ℕ → List ℕ
 verdictsAfterwards s slice = over (numbersOfJudgement (judge base (length slice) s)) slice
+
+-- Where the points of each record begin, for a caller that writes them again; on a refusal nothing is told.
+unfoldable pub pointsTold : Text → Weighed → List ℕ
+unfolding pointsPlaces
+pointsTold s (Weighed.Done t records first) = pointsPlaces s first records
+pointsTold s (Weighed.Refused r) = []
+
+abbrev pub pointsAfterwards : ℕ → Text → List ℕ → List ℕ
+pointsAfterwards room s slice = over (pointsTold s (weighedOf room s)) slice
 
 -- The log was read, and has so many records, the first at this place.
 pub record Accepts (s : Text) (records first : ℕ) : Type 0 where

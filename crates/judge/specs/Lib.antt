@@ -2,5 +2,6 @@
 pub mod Parts
 pub mod Memory
 pub mod Count
+pub mod Numbers
 pub mod Weigh
 pub mod Judge

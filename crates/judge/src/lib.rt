@@ -10,6 +10,7 @@ ghost use Rattle.places.specs.Places.{between};
 ghost use Rattle.rules.specs.Arguments.{among};
 ghost use Rattle.judge.specs.Parts.{squareEnd, seek, keptTexts, Lying};
 ghost use Rattle.judge.specs.Memory.{unseen, classBy, verdictBy, memory, Placed, Stays, Room, Keeps, Steps};
+ghost use Rattle.judge.specs.Numbers.{classFrom, verdictFrom};
 ghost use Rattle.judge.specs.Weigh.{Weighable, Shelves, Weighs};
 ghost use Rattle.judge.specs.Judge.{weighedOf, judgedOf, verdictsAfterwards, Accepts};
 ghost use Rattle.judge.specs.Count.{worthIf, addRecord, closing, Countable, Closable};
@@ -196,6 +197,33 @@ pub fn verdict_number(v: Verdict) -> u8
 {
     let class = v.class;
     class_number(class) + mark(v.exchange, 16) + mark(v.square, 32) + mark(v.country, 64)
+}
+
+fn class_from(n: u8) -> Class
+    ensures { λ r. ⌜ r ≡ classFrom n ⌝ }
+{
+    if n == 0 {
+        return Class::Credited;
+    }
+    if n == 1 {
+        return Class::Void;
+    }
+    if n == 2 {
+        return Class::Duplicate;
+    }
+    Class::Error
+}
+
+// The verdict that a number tells.
+pub fn verdict_from(n: u8) -> Verdict
+    ensures { λ r. ⌜ r ≡ verdictFrom n ⌝ }
+{
+    Verdict {
+        class: class_from(n % 16),
+        exchange: n / 16 % 2 == 1,
+        square: n / 32 % 2 == 1,
+        country: n / 64 % 2 == 1,
+    }
 }
 
 // A sum after one more record: what the record is worth is added where it counts.
