@@ -13,7 +13,7 @@ use Rattle.rules.specs.Fields.{newMark, duplicateMark}
 use Rattle.rules.specs.Log.{crlf}
 use Rattle.rules.specs.Judging.{is}
 use Rattle.rules.proofs.Tests.{never}
-use Rattle.places.specs.declared.Contact.{Contact}
+use Rattle.places.specs.declared.Tail.{Tail}
 use Rattle.places.specs.Places.{between}
 use Rattle.writer.specs.RecordText.{markText, pointsText, marksText, recordText}
 use Rattle.writer.proofs.WrittenLaws.{part-length}
@@ -79,27 +79,27 @@ module _ (exchange square country duplicate : Bool) (at n : ℕ) (fits : at + le
 
 -- # The whole record, by whether it is a duplicate and whether it keeps its country
 
-module _ (s : Text) (start : ℕ) (c : Contact) (v : Verdict) (duplicate country : Bool)
-    (isDuplicate : duplicate ≡ is Duplicate (v .class)) (keepsCountry : country ≡ (is Credited (v .class) && c .country)) where
-  pub record-parts : recordText s start c v
-      ≡ between s start (c .points) ++ pointsText s (c .points) (c .pointsend) duplicate ++ marksText (v .exchange) (v .square) country duplicate
+module _ (s : Text) (start p : ℕ) (t : Tail) (v : Verdict) (duplicate country : Bool)
+    (isDuplicate : duplicate ≡ is Duplicate (v .class)) (keepsCountry : country ≡ (is Credited (v .class) && t .country)) where
+  pub record-parts : recordText s start p t v
+      ≡ between s start p ++ pointsText s p (t .pointsend) duplicate ++ marksText (v .exchange) (v .square) country duplicate
   unfolding recordText
   record-parts = rw (isDuplicate, keepsCountry)
 
-  pub record-length : length (recordText s start c v)
-      ≡ length (between s start (c .points))
-      + length (pointsText s (c .points) (c .pointsend) duplicate)
+  pub record-length : length (recordText s start p t v)
+      ≡ length (between s start p)
+      + length (pointsText s p (t .pointsend) duplicate)
       + length (marksText (v .exchange) (v .square) country duplicate)
   record-length = rw record-parts (simp length-append)
 
   -- Each part has room, behind those before it, where there is room for all.
-  module _ (at n : ℕ) (fits : at + length (recordText s start c v) ≤ n) where
-    pub room-head : at + length (between s start (c .points)) ≤ n
+  module _ (at n : ℕ) (fits : at + length (recordText s start p t v) ≤ n) where
+    pub room-head : at + length (between s start p) ≤ n
     room-head = omega (arith, record-length)
 
-    pub room-points : at + (length (between s start (c .points)) + length (pointsText s (c .points) (c .pointsend) duplicate)) ≤ n
+    pub room-points : at + (length (between s start p) + length (pointsText s p (t .pointsend) duplicate)) ≤ n
     room-points = omega (arith, record-length)
 
     pub room-marks : at
-        + (length (between s start (c .points) ++ pointsText s (c .points) (c .pointsend) duplicate) + length (marksText (v .exchange) (v .square) country duplicate)) ≤ n
+        + (length (between s start p ++ pointsText s p (t .pointsend) duplicate) + length (marksText (v .exchange) (v .square) country duplicate)) ≤ n
     room-marks = simp length-append (omega (arith, record-length))

@@ -1,16 +1,18 @@
--- The text that a record is written back as, by its place in the log, what is told of it and its verdict.
+-- The text that records are written back as, by their places in the log, what is told of them and their verdicts.
 -- Assumes nothing.
-use Prim.Native.Nat.{ℕ}
+use Prim.Native.Nat.{ℕ, _≤_}
 use mathlib.Core.Bool.{Bool, cond, _&&_}
-use mathlib.Core.List.{[], _∷_, _++_}
+use mathlib.Core.List.{List, [], _∷_, _++_}
+use lib.ListN.{length}
 use Rattle.rules.specs.declared.Class.the-variants.{Credited, Duplicate}
 use Rattle.rules.specs.declared.Verdict.{Verdict}
 use Rattle.rules.specs.Text.{Text, bytes, semicolon}
 use Rattle.rules.specs.Fields.{newMark, duplicateMark}
 use Rattle.rules.specs.Log.{crlf}
 use Rattle.rules.specs.Judging.{is}
-use Rattle.places.specs.declared.Contact.{Contact}
-use Rattle.places.specs.Places.{between}
+use Rattle.places.specs.declared.Tail.{Tail}
+use Rattle.places.specs.Places.{tailAt, between}
+use Rattle.judge.specs.Numbers.{verdictFrom}
 
 -- A field that holds a mark or nothing, behind its semicolon.
 unfoldable pub markText : Bool → Text → Text
@@ -31,9 +33,22 @@ marksText exchange square country duplicate =
     ++ crlf
 
 -- The first ten fields are copied; a duplicate is worth nothing; New-DXCC is kept on credited records.
-unfoldable pub recordText : Text → ℕ → Contact → Verdict → Text
+unfoldable pub recordText : Text → ℕ → ℕ → Tail → Verdict → Text
 unfolding pointsText marksText is
-recordText s start c v =
-    between s start (c .points)
-    ++ pointsText s (c .points) (c .pointsend) (is Duplicate (v .class))
-    ++ marksText (v .exchange) (v .square) (is Credited (v .class) && c .country) (is Duplicate (v .class))
+recordText s start points t v =
+    between s start points
+    ++ pointsText s points (t .pointsend) (is Duplicate (v .class))
+    ++ marksText (v .exchange) (v .square) (is Credited (v .class) && t .country) (is Duplicate (v .class))
+
+-- The records that begin at a place, one behind the other, by where the points of each begin and by the number of its verdict.
+unfoldable pub recordsText : Text → ℕ → List ℕ → List ℕ → Text
+unfolding recordText tailAt verdictFrom
+recordsText s start [] ns = []
+recordsText s start (p ∷ ps) [] = []
+recordsText s start (p ∷ ps) (n ∷ ns) = recordText s start p (tailAt s p) (verdictFrom n) ++ recordsText s ((tailAt s p) .next) ps ns
+
+-- Records whose points begin at these places stand in order, from a place on.
+abbrev pub RecordsLie : Text → ℕ → List ℕ → Type 0
+RecordsLie s start [] = start ≤ length s
+RecordsLie s start (p ∷ ps) =
+    (start ≤ p) × ((tailAt s p) .pointsend ≤ length s) × RecordsLie s ((tailAt s p) .next) ps

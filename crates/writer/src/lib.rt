@@ -13,7 +13,7 @@ ghost use Rattle.rules.specs.Judging.{is};
 ghost use Rattle.places.specs.Places.{between};
 ghost use Rattle.writer.specs.Written.{Puts};
 ghost use Rattle.writer.specs.RecordText.{markText, marksText, pointsText, recordText};
-use places::Contact;
+use places::Tail;
 use rules::Class;
 use rules::Verdict;
 
@@ -146,16 +146,24 @@ fn keeps_country(class: Class, country: bool) -> bool
     }
 }
 
-// The record that begins at `start`, as it is written back.
-fn put_record(out: &mut [u8], at: usize, s: &[u8], start: usize, c: Contact, v: Verdict) -> usize
-    requires { ⌜ (start ≤ c .points) × (c .points ≤ c .pointsend) × (c .pointsend ≤ length (now s)) × (at + length (recordText (now s) start c v) ≤ length (now out)) ⌝ }
-    ensures { λ r. ⌜ Puts (now (out .entry)) at (recordText (now (s .entry)) start c v) (now (out .exit)) r ⌝ }
+// The record that begins at `start`, with its points at `points`, as it is written back.
+fn put_record(
+    out: &mut [u8],
+    at: usize,
+    s: &[u8],
+    start: usize,
+    points: usize,
+    t: Tail,
+    v: Verdict,
+) -> usize
+    requires { ⌜ (start ≤ points) × (points ≤ t .pointsend) × (t .pointsend ≤ length (now s)) × (at + length (recordText (now s) start points t v) ≤ length (now out)) ⌝ }
+    ensures { λ r. ⌜ Puts (now (out .entry)) at (recordText (now (s .entry)) start points t v) (now (out .exit)) r ⌝ }
 {
     let class = v.class;
     let duplicate = is_duplicate(class);
-    let country = keeps_country(class, c.country);
-    let points = put_part(out, at, s, start, c.points);
-    let marks = put_points(out, points, s, c.points, c.pointsend, duplicate);
+    let country = keeps_country(class, t.country);
+    let copied = put_part(out, at, s, start, points);
+    let marks = put_points(out, copied, s, points, t.pointsend, duplicate);
     put_marks(out, marks, v.exchange, v.square, country, duplicate)
 }
 
@@ -181,17 +189,17 @@ fn points_length(from: usize, to: usize, duplicate: bool) -> usize
 }
 
 // How many bytes `put_record` writes.
-fn record_length(s: &[u8], start: usize, c: Contact, v: Verdict) -> usize
-    requires { ⌜ (start ≤ c .points) × (c .points ≤ c .pointsend) × (c .pointsend ≤ length (now s)) ⌝ }
-    ensures { λ r. ⌜ r ≡ length (recordText (now (s .entry)) start c v) ⌝ }
+fn record_length(s: &[u8], start: usize, points: usize, t: Tail, v: Verdict) -> usize
+    requires { ⌜ (start ≤ points) × (points ≤ t .pointsend) × (t .pointsend ≤ length (now s)) ⌝ }
+    ensures { λ r. ⌜ r ≡ length (recordText (now (s .entry)) start points t v) ⌝ }
 {
     let class = v.class;
     let duplicate = is_duplicate(class);
-    let country = keeps_country(class, c.country);
-    let points = points_length(c.points, c.pointsend, duplicate);
+    let country = keeps_country(class, t.country);
+    let claimed = points_length(points, t.pointsend, duplicate);
     let marks = mark_length(v.exchange)
         + mark_length(v.square)
         + mark_length(country)
         + mark_length(duplicate);
-    c.points - start + points + marks + 2
+    points - start + claimed + marks + 2
 }

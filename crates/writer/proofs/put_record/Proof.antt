@@ -18,7 +18,7 @@ use Rattle.writer.proofs.put_record.Tie as tie
 -- The first ten fields and the points are written.
 upto-points : (c : tie.After-put-points)
     → let a = c .before .before .before .before .before .before .before .before .before .before .args in
-    Puts (now (a .out)) (a .at) (between (now (a .s)) (a .start) (a .c .points) ++ pointsText (now (a .s)) (a .c .points) (a .c .pointsend) (c .before .before .before .before .before .before .before .is-duplicate .result)) (c .put-points .last .0) (c .put-points .result)
+    Puts (now (a .out)) (a .at) (between (now (a .s)) (a .start) (a .points) ++ pointsText (now (a .s)) (a .points) (a .t .pointsend) (c .before .before .before .before .before .before .before .is-duplicate .result)) (c .put-points .last .0) (c .put-points .result)
 upto-points c = puts-then (c .before .before .before .before .put-part .ensures) (c .put-points .ensures)
 
 is-duplicate-requires : tie.Need-is-duplicate-requires
@@ -33,10 +33,10 @@ put-part-requires c κs =
     let a = at-start .args in
     let d = c .before .before .is-duplicate in
     let k = c .before .keeps-country in
-    let room : a .at + length (between (now (a .s)) (a .start) (a .c .points)) ≤ length (now (a .out)) =
-    room-head (now (a .s)) (a .start) (a .c) (a .v) (d .result) (k .result) (d .ensures) (k .ensures) (a .at) (length (now (a .out))) (at-start .pre .3) in
-    let l : length (between (now (a .s)) (a .start) (a .c .points)) ≡ a .c .points - a .start =
-    part-length (now (a .s)) (a .start) (a .c .points) (at-start .pre .0) (omega arith) in
+    let room : a .at + length (between (now (a .s)) (a .start) (a .points)) ≤ length (now (a .out)) =
+    room-head (now (a .s)) (a .start) (a .points) (a .t) (a .v) (d .result) (k .result) (d .ensures) (k .ensures) (a .at) (length (now (a .out))) (at-start .pre .3) in
+    let l : length (between (now (a .s)) (a .start) (a .points)) ≡ a .points - a .start =
+    part-length (now (a .s)) (a .start) (a .points) (at-start .pre .0) (omega arith) in
     (at-start .pre .0, omega arith, omega arith)
 
 put-points-requires : tie.Need-put-points-requires
@@ -47,7 +47,7 @@ put-points-requires c κs =
     let k = c .before .before .before .before .before .keeps-country in (
       at-start .pre .1,
       at-start .pre .2,
-      puts-room (c .before .before .before .put-part .ensures) (pointsText (now (a .s)) (a .c .points) (a .c .pointsend) (d .result)) (room-points (now (a .s)) (a .start) (a .c) (a .v) (d .result) (k .result) (d .ensures) (k .ensures) (a .at) (length (now (a .out))) (at-start .pre .3)),
+      puts-room (c .before .before .before .put-part .ensures) (pointsText (now (a .s)) (a .points) (a .t .pointsend) (d .result)) (room-points (now (a .s)) (a .start) (a .points) (a .t) (a .v) (d .result) (k .result) (d .ensures) (k .ensures) (a .at) (length (now (a .out))) (at-start .pre .3)),
     )
 
 put-marks-requires : tie.Need-put-marks-requires
@@ -56,7 +56,7 @@ put-marks-requires c κs =
     let a = at-start .args in
     let d = c .before .before .before .before .before .before .before .before .before .before .is-duplicate in
     let k = c .before .before .before .before .before .before .before .before .before .keeps-country in
-    puts-room (upto-points (c .before .before .before)) (marksText (a .v .exchange) (a .v .square) (k .result) (d .result)) (room-marks (now (a .s)) (a .start) (a .c) (a .v) (d .result) (k .result) (d .ensures) (k .ensures) (a .at) (length (now (a .out))) (at-start .pre .3))
+    puts-room (upto-points (c .before .before .before)) (marksText (a .v .exchange) (a .v .square) (k .result) (d .result)) (room-marks (now (a .s)) (a .start) (a .points) (a .t) (a .v) (d .result) (k .result) (d .ensures) (k .ensures) (a .at) (length (now (a .out))) (at-start .pre .3))
 
 same-length : tie.Need-same-length
 same-length c = search needs
@@ -67,7 +67,7 @@ returns c =
     let a = at-start .args in
     let d = c .before .before .before .before .before .before .before .before .before .before .before .before .before .is-duplicate in
     let k = c .before .before .before .before .before .before .before .before .before .before .before .before .keeps-country in
-    rw (record-parts (now (a .s)) (a .start) (a .c) (a .v) (d .result) (k .result) (d .ensures) (k .ensures)) (puts-then (upto-points (c .before .before .before .before .before .before)) (c .before .before .put-marks .ensures))
+    rw (record-parts (now (a .s)) (a .start) (a .points) (a .t) (a .v) (d .result) (k .result) (d .ensures) (k .ensures)) (puts-then (upto-points (c .before .before .before .before .before .before)) (c .before .before .put-marks .ensures))
 
 pub put-record-spec : {M : Type 1} → statement M
 put-record-spec =

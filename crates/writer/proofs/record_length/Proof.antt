@@ -16,13 +16,13 @@ use Rattle.writer.proofs.record_length.Tie as tie
 -- What the points take is known, and is small enough to be added.
 points-take : (c : tie.After-points-length)
     → let a = c .before .before .before .before .args in
-    (c .points-length .result ≡ length (pointsText (now (a .s)) (a .c .points) (a .c .pointsend) (c .before .before .is-duplicate .result)))
-    × (c .points-length .result ≤ a .c .pointsend - a .c .points + 1)
+    (c .points-length .result ≡ length (pointsText (now (a .s)) (a .points) (a .t .pointsend) (c .before .before .is-duplicate .result)))
+    × (c .points-length .result ≤ a .t .pointsend - a .points + 1)
 points-take c =
     let at-start = c .before .before .before .before in
     let a = at-start .args in
     let e = c .points-length .ensures (now (a .s)) (at-start .pre .2) in
-    (e, omega (arith, e, points-short (now (a .s)) (a .c .points) (a .c .pointsend) (c .before .before .is-duplicate .result) (at-start .pre .1) (at-start .pre .2)))
+    (e, omega (arith, e, points-short (now (a .s)) (a .points) (a .t .pointsend) (c .before .before .is-duplicate .result) (at-start .pre .1) (at-start .pre .2)))
 
 is-duplicate-requires : tie.Need-is-duplicate-requires
 is-duplicate-requires c κs = search needs
@@ -58,28 +58,28 @@ sub-result : tie.Need-sub-result
 sub-result c = search needs
 
 add-result : tie.Need-add-result
-add-result c = omega (arith, points-take (c .before .before .before .before .before) .1)
+add-result c = omega (arith, points-take (c .before .before .before .before) .1)
 
 add-result-2 : tie.Need-add-result-2
-add-result-2 c = omega (arith, points-take (c .before .before .before .before .before) .1)
+add-result-2 c = omega (arith, points-take (c .before .before .before .before) .1)
 
 add-result-3 : tie.Need-add-result-3
-add-result-3 c = omega (arith, points-take (c .before .before .before .before .before) .1)
+add-result-3 c = omega (arith, points-take (c .before .before .before .before) .1)
 
 returns : tie.Need-returns
 returns c =
-    let at-start = c .before .before .before .before .before .before .before .before .before in
+    let at-start = c .before .before .before .before .before .before .before .before in
     let a = at-start .args in
-    let d = c .before .before .before .before .before .before .before .is-duplicate in
-    let k = c .before .before .before .before .before .before .keeps-country in
-    let head : length (between (now (a .s)) (a .start) (a .c .points)) ≡ a .c .points - a .start =
-    part-length (now (a .s)) (a .start) (a .c .points) (at-start .pre .0) (omega arith) in
+    let d = c .before .before .before .before .before .before .is-duplicate in
+    let k = c .before .before .before .before .before .keeps-country in
+    let head : length (between (now (a .s)) (a .start) (a .points)) ≡ a .points - a .start =
+    part-length (now (a .s)) (a .start) (a .points) (at-start .pre .0) (omega arith) in
     omega (
       arith,
       head,
-      points-take (c .before .before .before .before .before) .0,
+      points-take (c .before .before .before .before) .0,
       marks-length (a .v .exchange) (a .v .square) (k .result) (d .result),
-      record-length (now (a .s)) (a .start) (a .c) (a .v) (d .result) (k .result) (d .ensures) (k .ensures),
+      record-length (now (a .s)) (a .start) (a .points) (a .t) (a .v) (d .result) (k .result) (d .ensures) (k .ensures),
     )
 
 pub record-length-spec : {M : Type 1} → statement M
