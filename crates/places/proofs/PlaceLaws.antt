@@ -156,7 +156,7 @@ module _ (s : Text) where
   told at c ce x xe le er w t = rw (t, w, er, c, ce, x, xe, le)
 
   -- The next record begins behind this one.
-  starts-rise : (at k : ℕ) → at ≤ fieldStart s at k
+  pub starts-rise : (at k : ℕ) → at ≤ fieldStart s at k
   unfolding fieldStart
   starts-rise at zero = omega arith
   starts-rise at (suc k) = omega (arith, starts-rise at k, end-by-span s (fieldStart s at k))

@@ -1,2 +1,5 @@
 pub mod WrittenLaws
 pub mod RecordWritten
+pub mod PuttingLaws
+pub mod ClaimLoops
+pub mod RecordLoops

@@ -34,6 +34,11 @@ pub mark-some : (b : Bool) (m : Text) → 1 ≤ length (markText b m)
 unfolding markText
 mark-some b m = omega arith
 
+pub mark-short : (b : Bool) (m : Text) → length m ≡ 1 → length (markText b m) ≤ 2
+unfolding markText
+mark-short true m h = omega arith
+mark-short false m h = omega arith
+
 -- A duplicate's points, and those of any other record.
 pub points-none : (s : Text) (from to : ℕ) (b : Bool) → b ≡ true → pointsText s from to b ≡ bytes "0"
 unfolding pointsText
@@ -103,3 +108,28 @@ module _ (s : Text) (start p : ℕ) (t : Tail) (v : Verdict) (duplicate country 
     pub room-marks : at
         + (length (between s start p ++ pointsText s p (t .pointsend) duplicate) + length (marksText (v .exchange) (v .square) country duplicate)) ≤ n
     room-marks = simp length-append (omega (arith, record-length))
+
+one-new : length newMark ≡ 1
+unfolding newMark
+one-new = refl
+
+one-duplicate : length duplicateMark ≡ 1
+unfolding duplicateMark
+one-duplicate = refl
+
+-- A record grows by eleven characters at most: `0` for no points, four marks with a semicolon before each, and the line's end.
+pub record-short : (s : Text) (start p : ℕ) (t : Tail) (v : Verdict) → start ≤ p → p ≤ t .pointsend → t .pointsend ≤ length s → length (recordText s start p t v) ≤ t .pointsend - start + 11
+record-short s start p t v a b c =
+    let duplicate = is Duplicate (v .class) in
+    let country = is Credited (v .class) && t .country in
+    omega (
+      arith,
+      record-length s start p t v duplicate country refl refl,
+      part-length s start p a (omega arith),
+      points-short s p (t .pointsend) duplicate b c,
+      marks-length (v .exchange) (v .square) country duplicate,
+      mark-short (v .exchange) newMark one-new,
+      mark-short (v .square) newMark one-new,
+      mark-short country newMark one-new,
+      mark-short duplicate duplicateMark one-duplicate,
+    )

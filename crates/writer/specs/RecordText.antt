@@ -40,15 +40,23 @@ recordText s start points t v =
     ++ pointsText s points (t .pointsend) (is Duplicate (v .class))
     ++ marksText (v .exchange) (v .square) (is Credited (v .class) && t .country) (is Duplicate (v .class))
 
--- The records that begin at a place, one behind the other, by where the points of each begin and by the number of its verdict.
+-- A record by where its points begin and by the number of its verdict.
+abbrev pub numberedText : Text → ℕ → ℕ → ℕ → Text
+numberedText s start p n = recordText s start p (tailAt s p) (verdictFrom n)
+
+-- The records that begin at a place, one behind the other.
 unfoldable pub recordsText : Text → ℕ → List ℕ → List ℕ → Text
 unfolding recordText tailAt verdictFrom
 recordsText s start [] ns = []
 recordsText s start (p ∷ ps) [] = []
-recordsText s start (p ∷ ps) (n ∷ ns) = recordText s start p (tailAt s p) (verdictFrom n) ++ recordsText s ((tailAt s p) .next) ps ns
+recordsText s start (p ∷ ps) (n ∷ ns) = numberedText s start p n ++ recordsText s ((tailAt s p) .next) ps ns
+
+-- A record that begins at a place has its points at another, within the text.
+pub record RecordLies (s : Text) (start p : ℕ) : Type 0 where
+  pub order : start ≤ p
+  pub inside : (tailAt s p) .pointsend ≤ length s
 
 -- Records whose points begin at these places stand in order, from a place on.
 abbrev pub RecordsLie : Text → ℕ → List ℕ → Type 0
 RecordsLie s start [] = start ≤ length s
-RecordsLie s start (p ∷ ps) =
-    (start ≤ p) × ((tailAt s p) .pointsend ≤ length s) × RecordsLie s ((tailAt s p) .next) ps
+RecordsLie s start (p ∷ ps) = RecordLies s start p × RecordsLie s ((tailAt s p) .next) ps

@@ -3,23 +3,25 @@
 ghost use mathlib.Core.Path.{_≡_};
 ghost use mathlib.Core.Bool.{_&&_};
 ghost use mathlib.Core.List.{List, [], _∷_};
-ghost use Prim.Native.Nat.{ℕ, _+_, _-_, _<_, _≤_};
+ghost use Prim.Native.Nat.{ℕ, _+_, _-_, _*_, _<_, _≤_};
 ghost use lib.ListN.{length};
 ghost use Rattle.rules.specs.Text.{digits};
 ghost use Rattle.rules.specs.declared.Class.the-variants.{Credited, Duplicate};
 ghost use Rattle.rules.specs.Fields.{newMark, duplicateMark};
 ghost use Rattle.rules.specs.Log.{crlf};
 ghost use Rattle.rules.specs.Judging.{is};
-ghost use Rattle.places.specs.Places.{between};
+ghost use mathlib.Core.List.{_++_};
+ghost use Rattle.places.specs.Places.{tailAt, between};
 ghost use Rattle.writer.specs.Written.{Puts};
-ghost use Rattle.writer.specs.RecordText.{markText, marksText, pointsText, recordText};
+ghost use Rattle.writer.specs.ClaimsText.{lineBehind, claimsText, ClaimsLie};
+ghost use Rattle.writer.specs.RecordText.{markText, marksText, pointsText, recordText, numberedText, recordsText, RecordLies, RecordsLie};
 use places::Tail;
 use rules::Class;
 use rules::Verdict;
 
-// How many digits write a number.
-pub fn digit_count(n: u64) -> usize
-    ensures { λ r. ⌜ r ≡ length (digits n) ⌝ }
+// How many digits write a number: twenty at most.
+fn digit_count(n: u64) -> usize
+    ensures { λ r. ⌜ (r ≡ length (digits n)) × (r ≤ 20) ⌝ }
 {
     let mut rest = n;
     let mut count: usize = 1;
@@ -202,4 +204,146 @@ fn record_length(s: &[u8], start: usize, points: usize, t: Tail, v: Verdict) -> 
         + mark_length(country)
         + mark_length(duplicate);
     points - start + claimed + marks + 2
+}
+
+// # The claims
+
+// The part of `s` from a place to a claimed number, and the right number in its place.
+fn put_claim(out: &mut [u8], at: usize, s: &[u8], from: usize, to: usize, n: u64) -> usize
+    requires { ⌜ (from ≤ to) × (to ≤ length (now s)) × (at + length (between (now s) from to ++ digits n) ≤ length (now out)) ⌝ }
+    ensures { λ r. ⌜ Puts (now (out .entry)) at (between (now (s .entry)) from to ++ digits n) (now (out .exit)) r ⌝ }
+{
+    let start = put_part(out, at, s, from, to);
+    put_number(out, start, n)
+}
+
+// The place behind the line that goes on at this place.
+fn line_behind(s: &[u8], at: usize) -> usize
+    requires { ⌜ at ≤ length (now s) ⌝ }
+    ensures { λ r. ⌜ r ≡ lineBehind (now (s .entry)) at ⌝ }
+{
+    reader::allowed_run(s, at) + 2
+}
+
+// The log in front of its first record, with these numbers for those on as many lines, the first of which begins at `line`.
+fn put_claims(out: &mut [u8], s: &[u8], first: usize, line: usize, claims: &[u64]) -> usize
+    requires { ⌜ ClaimsLie (now s) first 0 line (length (now claims)) ⌝ }
+    requires { ⌜ length (claimsText (now s) first 0 line (now claims)) ≤ length (now out) ⌝ }
+    ensures { λ r. ⌜ Puts (now (out .entry)) 0 (claimsText (now (s .entry)) first 0 line (now (claims .entry))) (now (out .exit)) r ⌝ }
+{
+    let mut at = 0;
+    let mut from = 0;
+    let mut next = line;
+    let mut i = 0;
+    while i < claims.len() {
+        let start = next + 6;
+        at = put_claim(out, at, s, from, start, claims[i]);
+        from = fields::digit_run(s, start);
+        next = line_behind(s, from);
+        i += 1;
+    }
+    put_part(out, at, s, from, first)
+}
+
+// How many bytes `put_claims` writes.
+fn claims_length(s: &[u8], first: usize, line: usize, claims: &[u64]) -> usize
+    requires { ⌜ ClaimsLie (now s) first 0 line (length (now claims)) × (length (now claims) ≤ 9) ⌝ }
+    ensures { λ r. ⌜ r ≡ length (claimsText (now (s .entry)) first 0 line (now (claims .entry))) ⌝ }
+{
+    let mut sum = 0;
+    let mut from = 0;
+    let mut next = line;
+    let mut i = 0;
+    while i < claims.len() {
+        let start = next + 6;
+        sum += start - from + digit_count(claims[i]);
+        from = fields::digit_run(s, start);
+        next = line_behind(s, from);
+        i += 1;
+    }
+    sum + (first - from)
+}
+
+// # The records
+
+// What a record takes: the place behind its text, or how long that is, and where the next record begins.
+struct Passed {
+    at: usize,
+    next: usize,
+}
+
+// A record by where its points begin and by the number of its verdict.
+fn put_next(out: &mut [u8], at: usize, s: &[u8], start: usize, points: u16, number: u8) -> Passed
+    requires { ⌜ RecordLies (now s) start points ⌝ }
+    requires { ⌜ at + length (numberedText (now s) start points number) ≤ length (now out) ⌝ }
+    ensures text { λ r. ⌜ Puts (now (out .entry)) at (numberedText (now (s .entry)) start points number) (now (out .exit)) (r .at) ⌝ }
+    ensures next { λ r. ⌜ r .next ≡ (tailAt (now (s .entry)) points) .next ⌝ }
+{
+    let p = points as usize;
+    let tail = places::tail_at(s, p);
+    let next = tail.next;
+    let v = judge::verdict_from(number);
+    Passed {
+        at: put_record(out, at, s, start, p, tail, v),
+        next,
+    }
+}
+
+// How many bytes `put_next` writes.
+fn length_next(s: &[u8], start: usize, points: u16, number: u8) -> Passed
+    requires { ⌜ RecordLies (now s) start points ⌝ }
+    ensures length { λ r. ⌜ r .at ≡ length (numberedText (now (s .entry)) start points number) ⌝ }
+    ensures next { λ r. ⌜ r .next ≡ (tailAt (now (s .entry)) points) .next ⌝ }
+{
+    let p = points as usize;
+    let tail = places::tail_at(s, p);
+    let next = tail.next;
+    let v = judge::verdict_from(number);
+    Passed {
+        at: record_length(s, start, p, tail, v),
+        next,
+    }
+}
+
+// The records that begin at `first`, by where the points of each begin and by the number of its verdict.
+fn put_records(
+    out: &mut [u8],
+    at: usize,
+    s: &[u8],
+    first: usize,
+    points: &[u16],
+    numbers: &[u8],
+) -> usize
+    requires { ⌜ RecordsLie (now s) first (now points) × (length (now numbers) ≡ length (now points)) ⌝ }
+    requires { ⌜ at + length (recordsText (now s) first (now points) (now numbers)) ≤ length (now out) ⌝ }
+    ensures { λ r. ⌜ Puts (now (out .entry)) at (recordsText (now (s .entry)) first (now (points .entry)) (now (numbers .entry))) (now (out .exit)) r ⌝ }
+{
+    let mut end = at;
+    let mut start = first;
+    let mut i = 0;
+    while i < points.len() {
+        let passed = put_next(out, end, s, start, points[i], numbers[i]);
+        end = passed.at;
+        start = passed.next;
+        i += 1;
+    }
+    end
+}
+
+// How many bytes `put_records` writes.
+fn records_length(s: &[u8], first: usize, points: &[u16], numbers: &[u8]) -> usize
+    requires { ⌜ RecordsLie (now s) first (now points) × (length (now numbers) ≡ length (now points)) × (length (now points) ≤ 999) ⌝ }
+    ensures { λ r. ⌜ r ≡ length (recordsText (now (s .entry)) first (now (points .entry)) (now (numbers .entry))) ⌝ }
+    ensures small { λ r. ⌜ r ≤ length (now (s .entry)) + 11 * 999 ⌝ }
+{
+    let mut sum = 0;
+    let mut start = first;
+    let mut i = 0;
+    while i < points.len() {
+        let passed = length_next(s, start, points[i], numbers[i]);
+        sum += passed.at;
+        start = passed.next;
+        i += 1;
+    }
+    sum
 }

@@ -30,7 +30,9 @@ loop-again : tie.Need-loop-again Inv-loop μ-loop
 loop-again c = omega (arith, count-more (c .before .loop .rest) (c .loop-test .taken))
 
 returns : tie.Need-returns Inv-loop μ-loop
-returns c = omega (arith, count-one (c .before .loop .rest) (omega arith))
+returns c =
+    let counted : c .before .loop .count ≡ length (digits (c .before .before .args .n)) = omega (arith, count-one (c .before .loop .rest) (omega arith)) in
+    (counted, omega arith)
 
 pub digit-count-spec : {M : Type 1} → statement M
 digit-count-spec =
