@@ -155,8 +155,8 @@ module _ (s : Text) where
   unfolding contactAt tailAt fieldStart
   told at c ce x xe le er w t = rw (t, w, er, c, ce, x, xe, le)
 
-  -- The next record begins behind this one.
-  starts-rise : (at k : ℕ) → at ≤ fieldStart s at k
+  -- The next record begins behind this one, and behind its points.
+  pub starts-rise : (at k : ℕ) → at ≤ fieldStart s at k
   unfolding fieldStart
   starts-rise at zero = omega arith
   starts-rise at (suc k) = omega (arith, starts-rise at k, end-by-span s (fieldStart s at k))
@@ -164,6 +164,10 @@ module _ (s : Text) where
   pub next-behind : (at : ℕ) → at ≤ (contactAt s at) .next
   unfolding contactAt
   next-behind at = omega (arith, starts-rise at 14)
+
+  pub points-inside : (at : ℕ) → (contactAt s at) .pointsend ≤ (contactAt s at) .next
+  unfolding contactAt
+  points-inside at = omega (arith, next-start at 10 refl, starts-rise (fieldStart s at 11) 3, start-more at 11 3)
 
   -- So where a text holds records, they begin within it, and what is told there is told of that very place.
   pub held-within : (qs : List Qso) (at : ℕ) → Holds s at qs → at ≤ length s

@@ -1,2 +1,3 @@
 pub mod WrittenLaws
 pub mod RecordWritten
+pub mod RecordsWritten
