@@ -155,7 +155,7 @@ module _ (s : Text) where
   unfolding contactAt tailAt fieldStart
   told at c ce x xe le er w t = rw (t, w, er, c, ce, x, xe, le)
 
-  -- The next record begins behind this one.
+  -- The next record begins behind this one, and behind its points.
   pub starts-rise : (at k : ℕ) → at ≤ fieldStart s at k
   unfolding fieldStart
   starts-rise at zero = omega arith
@@ -164,6 +164,10 @@ module _ (s : Text) where
   pub next-behind : (at : ℕ) → at ≤ (contactAt s at) .next
   unfolding contactAt
   next-behind at = omega (arith, starts-rise at 14)
+
+  pub tail-rises : (at : ℕ) → (tailAt s at) .pointsend ≤ (tailAt s at) .next
+  unfolding tailAt fieldStart
+  tail-rises at = omega (arith, starts-rise (fieldStart s at 1) 3)
 
   -- So where a text holds records, they begin within it, and what is told there is told of that very place.
   pub held-within : (qs : List Qso) (at : ℕ) → Holds s at qs → at ≤ length s

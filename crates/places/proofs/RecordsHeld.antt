@@ -24,30 +24,49 @@ use Rattle.places.specs.Places.{fieldStart, valueBy, contactAt, between,
 use Rattle.places.proofs.PlaceLaws.{text-by-end}
 use Rattle.places.proofs.FieldsHeld.{texts-held, starts-held}
 
--- A record's line stands at a place, with its end, and more behind it.
-module _ (s : Text) (at : ℕ) (q : Qso) (rest : Text) (r : conjunction (fieldRules base q) ≡ true) (e : drop at s ≡ recordLine q ++ crlf ++ rest) where
-  stands : drop at s ≡ joined (fieldsOf q) ++ (crlf ++ rest)
-  unfolding recordLine
-  stands = e ∙ append-assoc (joined (fieldsOf q)) crlf rest
+-- The lines of records, each with its end.
+abbrev pub recordLines : List Qso → Text
+recordLines qs = ended (map recordLine qs)
+
+-- Records that keep their rules stand at a place, one behind the other, to the end of the text.
+pub record Stand (s : Text) (at : ℕ) (qs : List Qso) : Type 0 where
+  pub rules : recordRules base qs ≡ true
+  pub lines : drop at s ≡ recordLines qs
+  pub end : at + length (recordLines qs) ≡ length s
+
+-- The first of them.
+module _ (s : Text) (at : ℕ) (q : Qso) (qs : List Qso) (h : Stand s at (q ∷ qs)) where
+  pub rules-kept : conjunction (fieldRules base q) ≡ true
+  unfolding recordRules
+  rules-kept = and-l (conjunction (fieldRules base q)) (recordRules base qs) (h .rules)
+
+  pub stands : drop at s ≡ joined (fieldsOf q) ++ (crlf ++ recordLines qs)
+  unfolding ended recordLine
+  stands = h .lines ∙ append-assoc (joined (fieldsOf q)) crlf (recordLines qs)
+
+  -- What stands where one of its fields begins.
+  pub starts-at : (k : ℕ) → k < 15 → drop (fieldStart s at k) s ≡ joined (drop k (fieldsOf q)) ++ (crlf ++ recordLines qs)
+  unfolding fieldsOf
+  starts-at k g = starts-held s at (fieldsOf q) (crlf ++ recordLines qs) (fields-plain base q rules-kept) stands k g
 
   field-is : (k : ℕ) → suc k < 15 → textAt s (fieldStart s at k) ≡ getD (fieldsOf q) k []
   unfolding fieldsOf
-  field-is k h = texts-held s at (fieldsOf q) (crlf ++ rest) (fields-plain base q r) stands k h
+  field-is k g = texts-held s at (fieldsOf q) (crlf ++ recordLines qs) (fields-plain base q rules-kept) stands k g
 
   between-is : (k : ℕ) → suc k < 15 → between s (fieldStart s at k) (endOf s (fieldStart s at k)) ≡ getD (fieldsOf q) k []
-  between-is k h = sym (text-by-end s (fieldStart s at k) refl) ∙ field-is k h
+  between-is k g = sym (text-by-end s (fieldStart s at k) refl) ∙ field-is k g
 
   points-number : numberOf 6 (q .points) ≡ true
   unfolding pointsRule base
   points-number =
-      let p = so (pointsRule base q) (points-ruled base q (holds r)) in
+      let p = so (pointsRule base q) (points-ruled base q (holds rules-kept)) in
       and-l (numberOf 6 (q .points)) (not (isError q) || same (q .points) (bytes "0")) p
 
   worth-is : valueBy (numberOf 6) (textAt s (fieldStart s at 10)) ≡ value (q .points)
   unfolding valueBy fieldsOf
   worth-is = rw (field-is 10 (omega arith), points-number)
 
-  describes : Describes s (contactAt s at) q
+  pub describes : Describes s (contactAt s at) q
   unfolding contactAt fieldsOf isError claimsCountry
   describes =
       record {
@@ -60,51 +79,53 @@ module _ (s : Text) (at : ℕ) (q : Qso) (rest : Text) (r : conjunction (fieldRu
         countryIs = ap (λ (t : Text). same t newMark) (field-is 13 (omega arith));
       }
 
-  last-stands : drop (fieldStart s at 14) s ≡ q .duplicate ++ 13 ∷ 10 ∷ rest
+  last-stands : drop (fieldStart s at 14) s ≡ q .duplicate ++ 13 ∷ 10 ∷ recordLines qs
   unfolding fieldsOf joined crlf
-  last-stands =
-      starts-held s at (fieldsOf q) (crlf ++ rest) (fields-plain base q r) stands 14 (omega arith)
+  last-stands = starts-at 14 (omega arith)
 
   last-allowed : all allowed (q .duplicate) ≡ true
   unfolding fieldsOf
   last-allowed =
-      let f = fields-fit base q r in
+      let f = fields-fit base q rules-kept in
       fits-allowed (f .1 .1 .1 .1 .1 .1 .1 .1 .1 .1 .1 .1 .1 .1 .0)
 
   next-is : (contactAt s at) .next ≡ fieldStart s at 14 + (length (q .duplicate) + 2)
   unfolding contactAt
   next-is =
-      let n : span allowed (drop (fieldStart s at 14) s) ≡ length (q .duplicate) = ap (span allowed) last-stands ∙ span-run allowed (q .duplicate) 13 (10 ∷ rest) last-allowed refl in
+      let n : span allowed (drop (fieldStart s at 14) s) ≡ length (q .duplicate) = ap (span allowed) last-stands ∙ span-run allowed (q .duplicate) 13 (10 ∷ recordLines qs) last-allowed refl in
       omega arith
 
   -- The next line begins behind the end of this one, within the text.
-  next-stands : drop ((contactAt s at) .next) s ≡ rest
+  next-stands : drop ((contactAt s at) .next) s ≡ recordLines qs
   next-stands =
       ap (λ (n : ℕ). drop n s) next-is
       ∙ sym (drop-drop (length (q .duplicate) + 2) (fieldStart s at 14) s)
       ∙ ap (drop (length (q .duplicate) + 2)) last-stands
-      ∙ drop-append-add (q .duplicate) (13 ∷ 10 ∷ rest) 2
+      ∙ drop-append-add (q .duplicate) (13 ∷ 10 ∷ recordLines qs) 2
 
-  next-within : (contactAt s at) .next + length rest ≡ length s
+  next-within : (contactAt s at) .next + length (recordLines qs) ≡ length s
   next-within =
-      let n : length s - fieldStart s at 14 ≡ length (q .duplicate ++ 13 ∷ 10 ∷ rest) = sym (length-drop (fieldStart s at 14) s) ∙ ap length last-stands in
-      omega (arith, length-append (q .duplicate) (13 ∷ 10 ∷ rest), next-is)
+      let n : length s - fieldStart s at 14 ≡ length (q .duplicate ++ 13 ∷ 10 ∷ recordLines qs) = sym (length-drop (fieldStart s at 14) s) ∙ ap length last-stands in
+      omega (arith, length-append (q .duplicate) (13 ∷ 10 ∷ recordLines qs), next-is)
 
--- Records stand at a place to the end of the text.
-module _ (s : Text) where
-  held : (qs : List Qso) (at : ℕ) → recordRules base qs ≡ true → drop at s ≡ ended (map recordLine qs) → at + length (ended (map recordLine qs)) ≡ length s → Holds s at qs
-  unfolding ended recordRules
-  held [] at r e n = omega arith
-  held (q ∷ qs) at r e n =
-      let rest = ended (map recordLine qs) in
-      let rules : conjunction (fieldRules base q) ≡ true = and-l (conjunction (fieldRules base q)) (recordRules base qs) r in (
-        describes s at q rest rules e,
-        held qs ((contactAt s at) .next) (and-r (conjunction (fieldRules base q)) (recordRules base qs) r) (next-stands s at q rest rules e) (next-within s at q rest rules e),
-      )
+  -- The others stand there.
+  pub others-stand : Stand s ((contactAt s at) .next) qs
+  unfolding recordRules
+  others-stand =
+      record {
+        rules = and-r (conjunction (fieldRules base q)) (recordRules base qs) (h .rules);
+        lines = next-stands;
+        end = next-within;
+      }
+
+held : (s : Text) (qs : List Qso) (at : ℕ) → Stand s at qs → Holds s at qs
+unfolding ended
+held s [] at h = omega arith
+held s (q ∷ qs) at h = (describes s at q qs h, held s qs ((contactAt s at) .next) (others-stand s at q qs h))
 
 -- Where the first record of a log that is written begins.
 abbrev pub recordsStart : Text → Log → ℕ
-recordsStart s log = length s - length (ended (map recordLine (log .records)))
+recordsStart s log = length s - length (recordLines (log .records))
 
 pub ended-append : (a b : List Text) → ended (a ++ b) ≡ ended a ++ ended b
 unfolding ended
@@ -132,9 +153,13 @@ module _ (s : Text) (log : Log) (w : read base s ≡ accepted log) where
   pub records-within : recordsStart s log ≤ length s
   records-within = omega arith
 
+  pub records-stand : Stand s (recordsStart s log) (log .records)
+  records-stand =
+      record {
+        rules = so (recordRules base (log .records)) (records-valid base log (accepted-exactly s log .0 w .0));
+        lines = ap (drop (recordsStart s log)) split ∙ drop-at (ended header) (ended records) (recordsStart s log) (sym starts);
+        end = omega (arith, starts, ap length split, length-append (ended header) (ended records));
+      }
+
   pub records-held : Holds s (recordsStart s log) (log .records)
-  records-held =
-      held s (log .records) (recordsStart s log)
-      (so (recordRules base (log .records)) (records-valid base log (accepted-exactly s log .0 w .0)))
-      (ap (drop (recordsStart s log)) split ∙ drop-at (ended header) (ended records) (recordsStart s log) (sym starts))
-      (omega (arith, starts, ap length split, length-append (ended header) (ended records)))
+  records-held = held s (log .records) (recordsStart s log) records-stand

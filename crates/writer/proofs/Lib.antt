@@ -3,3 +3,4 @@ pub mod RecordWritten
 pub mod PuttingLaws
 pub mod ClaimLoops
 pub mod RecordLoops
+pub mod RecordsWritten

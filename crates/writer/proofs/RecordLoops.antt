@@ -12,8 +12,8 @@ use lib.Seq.{drop-cons}
 use Rattle.rules.specs.declared.Verdict.{Verdict}
 use Rattle.rules.specs.Text.{Text}
 use Rattle.places.specs.declared.Tail.{Tail}
-use Rattle.places.specs.Places.{fieldStart, tailAt}
-use Rattle.places.proofs.PlaceLaws.{ends-behind, starts-rise}
+use Rattle.places.specs.Places.{tailAt}
+use Rattle.places.proofs.PlaceLaws.{ends-behind, tail-rises}
 use Rattle.judge.specs.Numbers.{verdictFrom}
 use Rattle.writer.specs.Written.{Puts}
 use Rattle.writer.specs.RecordText.{recordText, numberedText, recordsText, RecordLies, RecordsLie}
@@ -26,11 +26,6 @@ module _ (s : Text) (p : ℕ) where
   pub points-before : p ≤ (tailAt s p) .pointsend
   unfolding tailAt
   points-before = ends-behind s p refl
-
-  -- The next record begins behind the points of this one.
-  pub next-later : (tailAt s p) .pointsend ≤ (tailAt s p) .next
-  unfolding tailAt fieldStart
-  next-later = omega (arith, starts-rise s (fieldStart s p 1) 3)
 
 module _ {s : Text} {start p : ℕ} (lies : RecordLies s start p) where
   -- What is told at the points of a record within the text is told of that very place.
@@ -157,7 +152,7 @@ module _ {s : Text} {first : ℕ} {ps ns : List ℕ} {sum start i : ℕ} (r : Co
         within = omega arith;
         lie = lie-later s ps ns (r .same) start i h (r .lie);
         counted = omega (arith, r .counted, all);
-        small = omega (arith, r .small, few, l .order, points-before s (getD ps i 0), next-later s (getD ps i 0));
+        small = omega (arith, r .small, few, l .order, points-before s (getD ps i 0), tail-rises s (getD ps i 0));
       })
 
   pub records-counted : length ps ≤ i → sum ≡ length (recordsText s first ps ns)
