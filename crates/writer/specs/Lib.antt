@@ -2,3 +2,4 @@
 pub mod Written
 pub mod ClaimsText
 pub mod RecordText
+pub mod LogText

@@ -15,8 +15,11 @@ ghost use Rattle.places.specs.Places.{tailAt, between};
 ghost use Rattle.writer.specs.Written.{Puts};
 ghost use Rattle.writer.specs.ClaimsText.{lineBehind, claimsText, ClaimsLie};
 ghost use Rattle.writer.specs.RecordText.{markText, marksText, pointsText, recordText, numberedText, recordsText, RecordLies, RecordsLie};
+ghost use Rattle.writer.specs.LogText.{wroteOf, writtenAfterwards, Writable};
 use places::Tail;
 use rules::Class;
+use rules::Refusal;
+use rules::Totals;
 use rules::Verdict;
 
 // How many digits write a number: twenty at most.
@@ -346,4 +349,58 @@ fn records_length(s: &[u8], first: usize, points: &[u16], numbers: &[u8]) -> usi
         i += 1;
     }
     sum
+}
+
+// # The log
+
+// How long the result is, or why nothing was written.
+pub enum Wrote {
+    Length(usize),
+    Refused(Refusal),
+}
+
+// A judged log is written back, if the slice has room for the result; otherwise the slice is left as it is. The result is measured before its
+// first byte is written.
+fn write_weighed(
+    log: &[u8],
+    t: Totals,
+    first: usize,
+    points: &[u16],
+    numbers: &[u8],
+    out: &mut [u8],
+) -> Wrote
+    requires { ⌜ Writable (now log) t first (now points) (now numbers) ⌝ }
+    ensures answer { λ r. ⌜ r ≡ wroteOf (length (now (out .entry))) (now (log .entry)) ⌝ }
+    ensures slice { λ r. ⌜ now (out .exit) ≡ writtenAfterwards (now (log .entry)) (now (out .entry)) ⌝ }
+{
+    let claims = [
+        t.credited,
+        t.points,
+        t.squares,
+        t.squarebonus,
+        t.exchanges,
+        t.exchangebonus,
+        t.countries,
+        t.countrybonus,
+        t.total,
+    ];
+    let line = places::line_start(log, 27);
+    let head = claims_length(log, first, line, &claims);
+    let length = head + records_length(log, first, points, numbers);
+    if 65535 < length {
+        return Wrote::Refused(Refusal {
+            number: 8,
+            line: 0,
+            field: 0,
+        });
+    }
+    if out.len() < length {
+        return Wrote::Refused(Refusal {
+            number: 8,
+            line: 0,
+            field: 0,
+        });
+    }
+    let at = put_claims(out, log, first, line, &claims);
+    Wrote::Length(put_records(out, at, log, first, points, numbers))
 }
