@@ -1,6 +1,6 @@
 -- Laws of dates.
 -- Assumes nothing.
-use Prim.Native.Nat.{ℕ, zero, suc, _+_, _*_, _-_, _/_, _%_, _≤_, _<_}
+use Prim.Native.Nat.{ℕ, _+_, _*_, _-_, _/_, _%_, _≤_, _<_}
 use native.Mathlib.Omega.{arith}
 use mathlib.Core.Path.{_≡_, refl, sym, ap, _∙_}
 use mathlib.Core.Bool.{Bool, true, false, not, _&&_, true≢false}
@@ -11,6 +11,7 @@ use lib.Seq.{drop-drop}
 use borrow.Author.Tests.{not-true, not-false, eq-eqb, ne-eqb, eqb-true, le-leb, lt-leb}
 use Rattle.rules.specs.Text.{Text, digit, all, empty, value}
 use Rattle.rules.specs.Fields.{dayExists, fullYear, shortDate, longDate}
+use Rattle.rules.proofs.TextLaws.{all-drop}
 use Rattle.fields.specs.Field.{textAt, endsAt}
 use Rattle.figures.specs.declared.DigitsRead.{DigitsRead}
 use Rattle.figures.specs.declared.DateRead.{DateRead}
@@ -18,14 +19,7 @@ use Rattle.figures.specs.declared.DateRead.the-variants as DateRead
 use Rattle.figures.specs.declared.LongDateRead.{LongDateRead}
 use Rattle.figures.specs.declared.LongDateRead.the-variants as LongDateRead
 use Rattle.figures.specs.Figure.{digitsAt, dateAt, longDateAt}
-use Rattle.figures.proofs.Choices.{both-second}
 use Rattle.figures.proofs.NumberLaws.{value-split, value-below, is-read, not-read, end-is-length}
-
-all-drop : (k : ℕ) (t : Text) → all digit t ≡ true → all digit (drop k t) ≡ true
-unfolding all
-all-drop zero t h = h
-all-drop (suc k) [] h = refl
-all-drop (suc k) (c ∷ t) h = all-drop k t (both-second (digit c) (all digit t) h)
 
 -- The year, the month and the day of a date's digits, from the number that they write.
 module _ (k : ℕ) (t : Text) (l : length t ≡ k + 4) (h : all digit t ≡ true) where
@@ -42,10 +36,10 @@ module _ (k : ℕ) (t : Text) (l : length t ≡ k + 4) (h : all digit t ≡ true
   rest-is = rw (drop-drop, last) at (value-split 2 (drop k t))
 
   rest-below : value (drop k t) < 10000
-  rest-below = rw rest at (value-below (drop k t) (all-drop k t h))
+  rest-below = rw rest at (value-below (drop k t) (all-drop digit k t h))
 
   last-below : value (drop (k + 2) t) < 100
-  last-below = rw last at (value-below (drop (k + 2) t) (all-drop (k + 2) t h))
+  last-below = rw last at (value-below (drop (k + 2) t) (all-drop digit (k + 2) t h))
 
   pub year-is : value (take k t) ≡ value t / 10000
   year-is = omega (arith, whole-is, rest-below)

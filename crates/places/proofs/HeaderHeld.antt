@@ -29,7 +29,7 @@ none-left zero e rest h = let z : _≡_ {A = ℕ} 0 1 = cc in absurd (omega arit
 none-left (suc j) e rest h = let z : _≡_ {A = ℕ} 0 1 = cc in absurd (omega arith)
 
 -- What holds of every entry of a table holds of the one at a place.
-everyEntry : (Entry → Bool) → List Entry → Bool
+unfoldable pub everyEntry : (Entry → Bool) → List Entry → Bool
 everyEntry f [] = true
 everyEntry f (e ∷ es) = f e && everyEntry f es
 
@@ -86,7 +86,7 @@ module _ (R : Rules) where
       rw b
       (argument-at es ts j e rest (and-r (everyEntry (λ f. not (same (d .keyword) (f .keyword))) es) (apart es) a) (and-r (meets R (d .rule) t) (argumentRules R es ts) r) h)
 
-  keyword-count : (es : List Entry) (ts : List Text) → argumentRules R es ts ≡ true → length (keywordLines es ts) ≡ length es
+  pub keyword-count : (es : List Entry) (ts : List Text) → argumentRules R es ts ≡ true → length (keywordLines es ts) ≡ length es
   unfolding argumentRules keywordLines
   keyword-count [] ts r = refl
   keyword-count (d ∷ es) [] r = never r
@@ -112,13 +112,13 @@ pub record Declares (d : Declared) (of : Judged) : Type 0 where
   pub countrymultiplier : d .countrymultiplier ≡ of .countryMultiplier
 
 module _ (s : Text) (log : Log) (w : read base s ≡ accepted log) where
-  is-valid : T (valid base log)
+  pub is-valid : T (valid base log)
   is-valid = accepted-exactly s log .0 w .0
 
-  is-written : render log ≡ s
+  pub is-written : render log ≡ s
   is-written = accepted-exactly s log .0 w .1
 
-  ruled : argumentRules base entries (log .arguments) ≡ true
+  pub ruled : argumentRules base entries (log .arguments) ≡ true
   ruled = (of-valid base log (so (valid base log) is-valid)) .rulesOfArguments
 
   abbrev behind : List Text

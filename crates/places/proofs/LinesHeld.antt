@@ -73,7 +73,7 @@ module _ (s : Text) (ls : List Text) (r : every (lineRule base) ls ≡ true) (e 
 
 -- A valid log, and the text that it is written as.
 module _ (s : Text) (log : Log) (v : T (valid base log)) (w : render log ≡ s) where
-  ruled : every (lineRule base) (linesOf log) ≡ true
+  pub ruled : every (lineRule base) (linesOf log) ≡ true
   ruled = (of-valid base log (so (valid base log) v)) .lineRules
 
   pub start-of-line : (i : ℕ) → i ≤ length (linesOf log) → lineStart s i ≡ length (ended (take i (linesOf log)))

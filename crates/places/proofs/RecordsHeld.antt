@@ -134,20 +134,20 @@ ended-append (l ∷ a) b =
     ap (λ (t : Text). l ++ crlf ++ t) (ended-append a b) ∙ sym (append-assoc (l ++ crlf) (ended a) (ended b))
 
 module _ (s : Text) (log : Log) (w : read base s ≡ accepted log) where
-  abbrev records : List Text
+  abbrev pub records : List Text
   records = map recordLine (log .records)
 
-  abbrev header : List Text
+  abbrev pub header : List Text
   header = front log ++ (countLine (length (log .records)) ∷ [])
 
-  split : s ≡ ended header ++ ended records
+  pub split : s ≡ ended header ++ ended records
   split =
       sym (accepted-exactly s log .0 w .1)
       ∙ render-law log
       ∙ ap ended (lines-split log ∙ sym (append-assoc (front log) (countLine (length (log .records)) ∷ []) records))
       ∙ ended-append header records
 
-  starts : recordsStart s log ≡ length (ended header)
+  pub starts : recordsStart s log ≡ length (ended header)
   starts = omega (arith, ap length split, length-append (ended header) (ended records))
 
   pub records-within : recordsStart s log ≤ length s

@@ -28,6 +28,9 @@ module _ (f : ℕ → Bool) where
   all-back [] t e = e
   all-back (c ∷ s) t e = all-back s t (and-r (f c) (all f (s ++ t)) e)
 
+  pub all-drop : (n : ℕ) (s : Text) → all f s ≡ true → all f (drop n s) ≡ true
+  all-drop n s e = all-back (take n s) (drop n s) (rw (take-append-drop n s) e)
+
   -- A text keeps a rule of its characters if its front and its back do.
   pub all-halves : (n : ℕ) (s : Text) → all f (take n s) ≡ true → all f (drop n s) ≡ true → all f s ≡ true
   all-halves n s e g = rw (take-append-drop n s) at (all-append (take n s) (drop n s) e g)
@@ -43,6 +46,12 @@ module _ (f : ℕ → Bool) where
   unfolding all span
   span-all [] = refl
   span-all (c ∷ s) = ⊎-elim (λ (e : f c ≡ true). rw (e, e) (span-all s)) (λ (e : f c ≡ false). rw e) (either (f c))
+
+  -- So what stands behind such a character does not matter.
+  pub span-stops : (l : Text) (c : ℕ) (r : Text) → f c ≡ false → span f (l ++ c ∷ r) ≡ span f l
+  unfolding span
+  span-stops [] c r e = rw e
+  span-stops (d ∷ l) c r e = rw (span-stops l c r e)
 
   pub span-run : (l : Text) (c : ℕ) (r : Text) → all f l ≡ true → f c ≡ false → span f (l ++ c ∷ r) ≡ length l
   unfolding all span

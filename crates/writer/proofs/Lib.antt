@@ -4,3 +4,6 @@ pub mod PuttingLaws
 pub mod ClaimLoops
 pub mod RecordLoops
 pub mod RecordsWritten
+pub mod NumberedLines
+pub mod ClaimLines
+pub mod ClaimsWritten

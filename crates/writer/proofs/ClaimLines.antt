@@ -1,0 +1,281 @@
+-- The lines of the keywords when a log is written back: those of the nine claims with other numbers, and the others as they were.
+-- Assumes nothing.
+use Prim.Native.Nat.{ℕ, _+_, _≤_}
+use native.Mathlib.Omega.{arith}
+use mathlib.Core.Path.{_≡_, refl, sym, ap, _∙_}
+use mathlib.Core.Bool.{Bool, true, false, cond, not, _||_}
+use mathlib.Core.List.{List, [], _∷_, _++_, append-nil}
+use lib.Dec.{leb, eqb}
+use lib.ListN.{length, take, drop, length-append}
+use lib.Seq.{take-at, drop-at, drop-length, drop-append-seam}
+use Rattle.rules.specs.declared.Totals.{Totals}
+use Rattle.rules.specs.Text.{Text, digit, semicolon, all, span, same, number, numberOf, parts, joined, digits}
+use Rattle.rules.specs.Rules.{Rules, base}
+use Rattle.rules.specs.Arguments.{Entry, entries, each, count, bonus, multiplier, meets, every}
+use Rattle.rules.specs.Log.{keywordStart, keywordLines, argumentRules}
+use Rattle.rules.specs.Writing.{recounted, Claim, claims, claimed, writtenArguments}
+use Rattle.rules.proofs.Tests.{never, and-l, and-r, and-i, not-true, test-of-le, eq-of-test}
+use Rattle.rules.proofs.TextLaws.{parts-some, joined-parts, span-run}
+use Rattle.rules.proofs.NumberLaws.{number-from}
+use Rattle.rules.proofs.FieldLaws.{number-digits}
+use Rattle.header.proofs.PartLaws.{whole-span}
+use Rattle.places.proofs.HeaderHeld.{everyEntry, keyword-count}
+use Rattle.writer.specs.ClaimsText.{claimNumbers}
+use Rattle.writer.proofs.NumberedLines.{behindNumber, renumbered, keyworded, renumberedLine, renumberedLines}
+
+-- # One argument
+
+none-behind : (t : Text) → all digit t ≡ true → behindNumber t ≡ []
+none-behind t e = ap (λ (n : ℕ). drop n t) (whole-span digit t e) ∙ drop-length t
+
+-- A number that is the whole argument gives way to another.
+whole-renumbered : (most n : ℕ) (t : Text) → numberOf most t ≡ true → digits n ≡ renumbered n t
+unfolding numberOf
+whole-renumbered most n t e =
+    let d : all digit t ≡ true = number-digits t (and-l (number t) (leb (length t) most) e) in
+    sym (ap (λ (r : Text). digits n ++ r) (none-behind t d) ∙ append-nil (digits n))
+
+-- So does a number that is the first of several arguments: the others stand behind its digits.
+first-renumbered : (new u : Text) (us : List Text) → all digit u ≡ true → joined (new ∷ us) ≡ new ++ behindNumber (joined (u ∷ us))
+unfolding joined
+first-renumbered new u [] d = sym (ap (λ (r : Text). new ++ r) (none-behind u d) ∙ append-nil new)
+first-renumbered new u (v ∷ us) d =
+    let rest = semicolon ∷ joined (v ∷ us) in
+    let n : span digit (u ++ rest) ≡ length u = span-run digit u semicolon (joined (v ∷ us)) d refl in
+    sym (ap (λ (r : Text). new ++ r) (ap (λ (k : ℕ). drop k (u ++ rest)) n ∙ drop-append-seam u rest))
+
+count-renumbered : (rules : List (Text → Bool)) (n : ℕ) (t : Text) → each (count base ∷ rules) (parts t) ≡ true → recounted (digits n) t ≡ renumbered n t
+unfolding recounted each count
+count-renumbered rules n t e =
+    let k = parts-some t in
+    let u = k .first in
+    let us = k .others in
+    let c : count base u ≡ true = and-l (count base u) (each rules us) (rw (k .are) at e) in
+    let d : all digit u ≡ true = number-digits u ((number-from 0 (base .mostCount) u c) .isNumber) in
+    ap (λ (ts : List Text). joined (digits n ∷ drop 1 ts)) (k .are)
+    ∙ first-renumbered (digits n) u us d
+    ∙ ap (λ (r : Text). digits n ++ behindNumber r) (ap joined (sym (k .are)) ∙ joined-parts t)
+
+-- # The lines of keywords that no claim names
+
+-- Some claim names this keyword.
+named : List Claim → Text → Bool
+named [] keyword = false
+named (c ∷ cs) keyword = same (c .keyword) keyword || named cs keyword
+
+abbrev unnamed : List Claim → Entry → Bool
+unnamed cs e = not (named cs (e .keyword))
+
+unnamed-stays : (cs : List Claim) (keyword t : Text) → named cs keyword ≡ false → claimed cs keyword t ≡ t
+unfolding named claimed
+unnamed-stays [] keyword t h = refl
+unnamed-stays (c ∷ cs) keyword t h = by (same (c .keyword) keyword) h (unnamed-stays cs keyword t)
+  where
+    by : (b : Bool) → (b || named cs keyword) ≡ false → (named cs keyword ≡ false → claimed cs keyword t ≡ t) → cond b ((c .becomes) t) (claimed cs keyword t) ≡ t
+    by true k more = never (sym k)
+    by false k more = more k
+
+arguments-stay : (cs : List Claim) (es : List Entry) (ts : List Text) → everyEntry (unnamed cs) es ≡ true → writtenArguments cs es ts ≡ ts
+unfolding everyEntry writtenArguments
+arguments-stay cs [] ts h = refl
+arguments-stay cs (e ∷ es) [] h = refl
+arguments-stay cs (e ∷ es) (t ∷ ts) h =
+    let none : named cs (e .keyword) ≡ false = not-true (named cs (e .keyword)) (and-l (unnamed cs e) (everyEntry (unnamed cs) es) h) in
+    rw (unnamed-stays cs (e .keyword) t none, arguments-stay cs es ts (and-r (unnamed cs e) (everyEntry (unnamed cs) es) h))
+
+-- The lines of keywords as they are written with these claims.
+abbrev newLines : List Claim → List Entry → List Text → List Text
+newLines cs es ts = keywordLines es (writtenArguments cs es ts)
+
+lines-stay : (cs : List Claim) (es : List Entry) (ts : List Text) → everyEntry (unnamed cs) es ≡ true → newLines cs es ts ≡ keywordLines es ts
+lines-stay cs es ts h = ap (keywordLines es) (arguments-stay cs es ts h)
+
+-- Without claims every line stays.
+none-named : (es : List Entry) → everyEntry (unnamed []) es ≡ true
+unfolding everyEntry named
+none-named [] = refl
+none-named (e ∷ es) = none-named es
+
+unclaimed-stay : (es : List Entry) (ts : List Text) → newLines [] es ts ≡ keywordLines es ts
+unclaimed-stay es ts = lines-stay [] es ts (none-named es)
+
+-- # The lines of keywords that a claim names
+
+abbrev six : Entry → Bool
+six e = eqb (length (keywordStart e)) 6
+
+-- The claims put these numbers in the places of those that the arguments of these keywords begin with.
+abbrev Renumber : List Claim → List Entry → List ℕ → Type 0
+Renumber cs [] [] = Unit {0}
+Renumber cs [] (n ∷ ns) = ⊥
+Renumber cs (e ∷ es) [] = ⊥
+Renumber cs (e ∷ es) (n ∷ ns) =
+    ((t : Text) → meets base (e .rule) t ≡ true → claimed cs (e .keyword) t ≡ renumbered n t) × Renumber cs es ns
+
+line-renumbered : (n : ℕ) (e : Entry) (t u : Text) → six e ≡ true → u ≡ renumbered n t → keywordStart e ++ u ≡ renumberedLine n (keywordStart e ++ t)
+line-renumbered n e t u h g =
+    let k : length (keywordStart e) ≡ 6 = eq-of-test (length (keywordStart e)) 6 h in
+    rw (g, take-at (keywordStart e) t 6 k, drop-at (keywordStart e) t 6 k)
+
+lines-renumber : (cs : List Claim) (es : List Entry) (ns : List ℕ) (ts : List Text) → Renumber cs es ns → everyEntry six es ≡ true → argumentRules base es ts ≡ true
+    → newLines cs es ts ≡ renumberedLines ns (keywordLines es ts)
+unfolding everyEntry argumentRules keywordLines writtenArguments renumberedLines
+lines-renumber cs [] [] ts k h r = refl
+lines-renumber cs [] (n ∷ ns) ts k h r = absurd k
+lines-renumber cs (e ∷ es) [] ts k h r = absurd k
+lines-renumber cs (e ∷ es) (n ∷ ns) [] k h r = never r
+lines-renumber cs (e ∷ es) (n ∷ ns) (t ∷ ts) k h r =
+    let a = meets base (e .rule) t in
+    let b = argumentRules base es ts in
+    let here = line-renumbered n e t (claimed cs (e .keyword) t) (and-l (six e) (everyEntry six es) h) (k .0 t (and-l a b r)) in
+    let later = lines-renumber cs es ns ts (k .1) (and-r (six e) (everyEntry six es) h) (and-r a b r) in
+    rw (here, later)
+
+lines-keyworded : (es : List Entry) (ts : List Text) → everyEntry six es ≡ true → every keyworded (keywordLines es ts) ≡ true
+unfolding everyEntry keywordLines every
+lines-keyworded [] ts h = refl
+lines-keyworded (e ∷ es) [] h = refl
+lines-keyworded (e ∷ es) (t ∷ ts) h =
+    let k : length (keywordStart e) ≡ 6 = eq-of-test (length (keywordStart e)) 6 (and-l (six e) (everyEntry six es) h) in
+    let long : 6 ≤ length (keywordStart e ++ t) = omega (arith, length-append (keywordStart e) t) in
+    and-i (test-of-le 6 (length (keywordStart e ++ t)) long) (lines-keyworded es ts (and-r (six e) (everyEntry six es) h))
+
+-- # Two tables, one behind the other
+
+no-lines : (cs : List Claim) (es : List Entry) → newLines cs es [] ≡ []
+unfolding keywordLines writtenArguments
+no-lines cs [] = refl
+no-lines cs (e ∷ es) = refl
+
+lines-append : (cs : List Claim) (es fs : List Entry) (ts : List Text) → newLines cs (es ++ fs) ts ≡ newLines cs es (take (length es) ts) ++ newLines cs fs (drop (length es) ts)
+unfolding keywordLines writtenArguments
+lines-append cs [] fs ts = refl
+lines-append cs (e ∷ es) fs [] = sym (no-lines cs fs)
+lines-append cs (e ∷ es) fs (t ∷ ts) =
+    ap {B = List Text} (λ r. (keywordStart e ++ claimed cs (e .keyword) t) ∷ r) (lines-append cs es fs ts)
+
+module _ (R : Rules) where
+  rules-front : (es fs : List Entry) (ts : List Text) → argumentRules R (es ++ fs) ts ≡ true → argumentRules R es (take (length es) ts) ≡ true
+  unfolding argumentRules
+  rules-front [] fs ts r = refl
+  rules-front (e ∷ es) fs [] r = r
+  rules-front (e ∷ es) fs (t ∷ ts) r =
+      let a = meets R (e .rule) t in
+      let b = argumentRules R (es ++ fs) ts in
+      and-i (and-l a b r) (rules-front es fs ts (and-r a b r))
+
+  rules-back : (es fs : List Entry) (ts : List Text) → argumentRules R (es ++ fs) ts ≡ true → argumentRules R fs (drop (length es) ts) ≡ true
+  unfolding argumentRules
+  rules-back [] fs ts r = r
+  rules-back (e ∷ es) fs [] r = never r
+  rules-back (e ∷ es) fs (t ∷ ts) r = rules-back es fs ts (and-r (meets R (e .rule) t) (argumentRules R (es ++ fs) ts) r)
+
+-- # The table, cut in three: the keywords in front of the claims, the nine of the claims, and CODXC
+
+abbrev pub before : List Entry
+before = take 26 entries
+
+abbrev pub claiming : List Entry
+claiming = take 9 (drop 26 entries)
+
+abbrev pub behind : List Entry
+behind = drop 9 (drop 26 entries)
+
+claiming-six : everyEntry six claiming ≡ true
+unfolding everyEntry entries keywordStart
+claiming-six = refl
+
+module _ (t : Totals) where
+  before-unnamed : everyEntry (unnamed (claims digits t)) before ≡ true
+  unfolding everyEntry named entries claims same
+  before-unnamed = refl
+
+  behind-unnamed : everyEntry (unnamed (claims digits t)) behind ≡ true
+  unfolding everyEntry named entries claims same
+  behind-unnamed = refl
+
+  claims-renumber : Renumber (claims digits t) claiming (claimNumbers t)
+  unfolding entries claims claimed same claimNumbers meets base
+  claims-renumber = (
+    count-renumbered (multiplier base ∷ []) (t .credited),
+    (
+      whole-renumbered (base .claimedPointsDigits) (t .points),
+      (
+        count-renumbered (bonus base ∷ multiplier base ∷ []) (t .squares),
+        (
+          whole-renumbered (base .claimedBonusDigits) (t .squarebonus),
+          (
+            count-renumbered (bonus base ∷ multiplier base ∷ []) (t .exchanges),
+            (
+              whole-renumbered (base .claimedBonusDigits) (t .exchangebonus),
+              (
+                count-renumbered (bonus base ∷ multiplier base ∷ []) (t .countries),
+                (
+                  whole-renumbered (base .claimedBonusDigits) (t .countrybonus),
+                  (whole-renumbered (base .claimedTotalDigits) (t .total), tt),
+                ),
+              ),
+            ),
+          ),
+        ),
+      ),
+    ),
+  )
+
+-- The lines of each of the three, as they are and as they are written.
+module _ (ts : List Text) where
+  abbrev pub linesBefore : List Text
+  linesBefore = keywordLines before (take 26 ts)
+
+  abbrev pub linesClaiming : List Text
+  linesClaiming = keywordLines claiming (take 9 (drop 26 ts))
+
+  abbrev pub linesBehind : List Text
+  linesBehind = keywordLines behind (drop 9 (drop 26 ts))
+
+  table-lines : (cs : List Claim) → newLines cs entries ts
+      ≡ newLines cs before (take 26 ts) ++ (newLines cs claiming (take 9 (drop 26 ts)) ++ newLines cs behind (drop 9 (drop 26 ts)))
+  unfolding entries
+  table-lines cs =
+      lines-append cs before (claiming ++ behind) ts
+      ∙ ap (λ (ls : List Text). newLines cs before (take 26 ts) ++ ls) (lines-append cs claiming behind (drop 26 ts))
+
+  pub old-lines : keywordLines entries ts ≡ linesBefore ++ (linesClaiming ++ linesBehind)
+  old-lines =
+      sym (unclaimed-stay entries ts)
+      ∙ table-lines []
+      ∙ rw (
+        unclaimed-stay before (take 26 ts),
+        unclaimed-stay claiming (take 9 (drop 26 ts)),
+        unclaimed-stay behind (drop 9 (drop 26 ts)),
+      )
+
+  pub claiming-keyworded : every keyworded linesClaiming ≡ true
+  claiming-keyworded = lines-keyworded claiming (take 9 (drop 26 ts)) claiming-six
+
+  module _ (r : argumentRules base entries ts ≡ true) where
+    before-ruled : argumentRules base before (take 26 ts) ≡ true
+    unfolding entries
+    before-ruled = rules-front base before (claiming ++ behind) ts r
+
+    claiming-ruled : argumentRules base claiming (take 9 (drop 26 ts)) ≡ true
+    unfolding entries
+    claiming-ruled = rules-front base claiming behind (drop 26 ts) (rules-back base before (claiming ++ behind) ts r)
+
+    pub before-count : length linesBefore ≡ 26
+    unfolding entries
+    before-count = keyword-count base before (take 26 ts) before-ruled
+
+    pub claiming-count : length linesClaiming ≡ 9
+    unfolding entries
+    claiming-count = keyword-count base claiming (take 9 (drop 26 ts)) claiming-ruled
+
+    pub new-lines : (t : Totals) → keywordLines entries (writtenArguments (claims digits t) entries ts)
+        ≡ linesBefore ++ (renumberedLines (claimNumbers t) linesClaiming ++ linesBehind)
+    new-lines t =
+        table-lines (claims digits t)
+        ∙ rw (
+          lines-stay (claims digits t) before (take 26 ts) (before-unnamed t),
+          lines-renumber (claims digits t) claiming (claimNumbers t) (take 9 (drop 26 ts)) (claims-renumber t) claiming-six claiming-ruled,
+          lines-stay (claims digits t) behind (drop 9 (drop 26 ts)) (behind-unnamed t),
+        )
