@@ -4,7 +4,7 @@ use Prim.Native.Nat.{ℕ, _≤_, _<_}
 use native.Mathlib.Omega.{arith}
 use mathlib.Core.Path.{_≡_, refl, sym, ap, subst, _∙_}
 use mathlib.Core.Bool.{false}
-use mathlib.Core.List.{List, []}
+use mathlib.Core.List.{List}
 use lib.Dec.{ltb}
 use lib.ListN.{length}
 use borrow.Author.Tests.{lt-ltb, le-ltb}
@@ -13,25 +13,27 @@ use Rattle.rules.specs.declared.Totals.{Totals}
 use Rattle.rules.specs.Text.{Text}
 use Rattle.rules.specs.Rules.{base}
 use Rattle.rules.specs.Fields.{Qso}
-use Rattle.rules.specs.Log.{Log}
+use Rattle.rules.specs.Log.{Log, valid}
 use Rattle.rules.specs.Judging.{declared, verdicts, verdictsOfLog, totals, totalsOf, totalsOfLog}
 use Rattle.rules.specs.Reading.{Reading, accepted, refused, refusal, read}
 use Rattle.rules.specs.Answers.{Judgement, judged, unjudged, judge, judgeReading, judgeLog, recordsOfReading, numbersOfJudgement, over}
-use Rattle.rules.proofs.Format.{accepted-exactly}
+use Rattle.rules.proofs.Tests.{so}
+use Rattle.rules.proofs.Format.{of-valid, accepted-exactly}
 use Rattle.rules.proofs.ValidLogs.{count-valid}
 use Rattle.rules.proofs.Classes.{length-verdicts}
 use Rattle.places.specs.declared.Declared.{Declared}
-use Rattle.places.specs.Places.{declaredAt, Holds}
+use Rattle.places.specs.Places.{declaredAt, pointsPlaces, Holds}
 use Rattle.places.proofs.RecordsHeld.{records-held}
 use Rattle.places.proofs.HeaderHeld.{declared-held}
 use Rattle.places.proofs.ToldBounds.{declared-below}
+use Rattle.judge.specs.declared.Weighed.{Weighed}
 use Rattle.judge.specs.declared.Weighed.the-variants as Weighed
 use Rattle.judge.specs.declared.Judged.the-variants as Judged
 use Rattle.reader.specs.declared.ReadAnswer.the-variants as ReadAnswer
 use Rattle.reader.specs.Read.{readTold, readOf}
 use Rattle.judge.specs.Count.{closing, asDeclared, Small, Closable}
 use Rattle.judge.specs.Weigh.{recordsIn, recordsOf, numbersOf, Weighable, Weighs}
-use Rattle.judge.specs.Judge.{firstOf, weighedBy, weighedOf, judgedBy, judgedOf, verdictsAfterwards, Accepts}
+use Rattle.judge.specs.Judge.{firstOf, weighedBy, weighedOf, judgedBy, judgedOf, verdictsAfterwards, pointsTold, pointsAfterwards, Accepts}
 use Rattle.judge.proofs.CountLaws.{closed-totals}
 
 -- What is declared keeps its rules, whatever the log.
@@ -47,13 +49,8 @@ declared-small s =
       countrymultiplier = d .countrymultiplier;
     }
 
-pub closable : {s : Text} {slice slice' : List ℕ} {t : Totals} {d : Declared} → Weighs s slice t slice' → d ≡ declaredAt s → Closable t d
+pub closable : {s : Text} {first n : ℕ} {slice points slice' points' : List ℕ} {t : Totals} {d : Declared} → Weighs s first n slice points t slice' points' → d ≡ declaredAt s → Closable t d
 closable {s = s} w e = record { few = w .few; small = rw e (declared-small s) }
-
--- On a refusal the slice holds what it held.
-pub nothing-over : (slice : List ℕ) → slice ≡ over [] slice
-unfolding over
-nothing-over slice = refl
 
 module _ {s : Text} {records first : ℕ} (a : Accepts s records first) where
   abbrev log : Log
@@ -67,7 +64,10 @@ module _ {s : Text} {records first : ℕ} (a : Accepts s records first) where
   unfolding firstOf base
   weighable h =
       let all : records ≡ length (recordsOf s) = a .count ∙ ap length (sym records-are) in
-      let few = count-valid base log (accepted-exactly s log .0 (a .isRead) .0) in
+      let written = accepted-exactly s log .0 (a .isRead) in
+      let few = count-valid base log (written .0) in
+      let short = of-valid base log (so (valid base log) (written .0)) .short in
+      let same = ap length (written .1) in
       let count = a .count in
       record {
         held =
@@ -75,6 +75,7 @@ module _ {s : Text} {records first : ℕ} (a : Accepts s records first) where
             (subst (λ (n : ℕ). Holds s n (log .records)) (sym (a .place)) (records-held s log (a .isRead)));
         all = all;
         few = omega arith;
+        short = omega arith;
         room = h;
       }
 
@@ -110,7 +111,7 @@ module _ {s : Text} {records first : ℕ} (a : Accepts s records first) where
           countryMultiplier = d .countrymultiplier i;
         }
 
-    totals-are : {t u : Totals} {d : Declared} {slice' : List ℕ} → Weighs s slice t slice' → d ≡ declaredAt s → u ≡ closing t d → u ≡ totalsOfLog base log
+    totals-are : {t u : Totals} {d : Declared} {points slice' points' : List ℕ} → Weighs s first records slice points t slice' points' → d ≡ declaredAt s → u ≡ closing t d → u ≡ totalsOfLog base log
     unfolding totalsOfLog totals
     totals-are w e f =
         f
@@ -118,14 +119,25 @@ module _ {s : Text} {records first : ℕ} (a : Accepts s records first) where
         ∙ closed-totals (declaredAt s) (recordsOf s) (verdicts base (recordsOf s)) (length-verdicts base (recordsOf s))
         ∙ (λ i. totalsOf (declared-are i) (records-are i) (verdicts base (records-are i)))
 
-    pub done : {t u : Totals} {d : Declared} {slice' : List ℕ} → Weighs s slice t slice' → d ≡ declaredAt s → u ≡ closing t d → Weighed.Done u records first ≡ weighedOf (length slice) s
+    pub done : {t u : Totals} {d : Declared} {points slice' points' : List ℕ} → Weighs s first records slice points t slice' points' → d ≡ declaredAt s → u ≡ closing t d → Weighed.Done u records first ≡ weighedOf (length slice) s
     unfolding weighedOf weighedBy judge judgeReading judgeLog recordsOfReading
     done w e f =
         rw (a .isRead, enough) (λ i. Weighed.Done (totals-are w e f i) (a .count i) (a .place i))
 
-    pub written-done : {t : Totals} {slice' : List ℕ} → Weighs s slice t slice' → slice' ≡ verdictsAfterwards s slice
+    pub written-done : {t : Totals} {points slice' points' : List ℕ} → Weighs s first records slice points t slice' points' → slice' ≡ verdictsAfterwards s slice
     unfolding judge judgeReading judgeLog numbersOfJudgement verdictsOfLog
     written-done w = w .written ∙ rw (a .isRead, enough) (ap (λ (qs : List Qso). over (numbersOf qs) slice) records-are)
+
+-- # Where the points begin, by the answer
+
+module _ (s : Text) (room : ℕ) (points : List ℕ) where
+  pub places-refused : {r : Refusal} → Weighed.Refused r ≡ weighedOf room s → points ≡ pointsAfterwards room s points
+  unfolding pointsTold over
+  places-refused e = ap (λ (x : Weighed). over (pointsTold s x) points) e
+
+  pub places-done : {t : Totals} {records first : ℕ} {points' : List ℕ} → points' ≡ over (pointsPlaces s first records) points → Weighed.Done t records first ≡ weighedOf room s → points' ≡ pointsAfterwards room s points
+  unfolding pointsTold
+  places-done p e = p ∙ ap (λ (x : Weighed). over (pointsTold s x) points) e
 
 -- # From the reader's answer
 

@@ -1,8 +1,8 @@
 -- Laws of the walk over the records: where it begins, one record more, and where it ends.
 -- Assumes nothing.
-use Prim.Native.Nat.{ℕ, zero, suc, _+_, _≤_, _<_, min}
+use Prim.Native.Nat.{ℕ, zero, suc, _+_, _-_, _≤_, _<_, min}
 use native.Mathlib.Omega.{arith}
-use native.Mathlib.Nat.{le-trans, le-refl, add-zero, add-suc}
+use native.Mathlib.Nat.{le-refl, add-zero, add-suc}
 use native.Mathlib.Numerals.{add-one}
 use mathlib.Core.Path.{_≡_, refl, sym, ap, _∙_}
 use mathlib.Core.List.{List, [], _∷_, _++_, map, append-assoc}
@@ -19,7 +19,8 @@ use Rattle.rules.proofs.Tests.{holds}
 use Rattle.rules.proofs.Classes.{length-verdicts}
 use Rattle.fields.specs.Field.{endOf}
 use Rattle.places.specs.declared.Contact.{Contact}
-use Rattle.places.specs.Places.{fieldStart, contactAt, Holds}
+use Rattle.places.specs.Places.{fieldStart, contactAt, pointsPlaces, Holds}
+use Rattle.places.proofs.PlaceLaws.{held-within, told-inside}
 use Rattle.places.proofs.ToldBounds.{worth-below}
 use Rattle.judge.specs.declared.Kept.{Kept}
 use Rattle.judge.specs.declared.Step.{Step}
@@ -33,19 +34,6 @@ use Rattle.judge.proofs.RememberLaws.{Remembers, nothing-kept, verdict-
 -- # Places
 
 module _ (s : Text) where
-  fields-behind : (at k : ℕ) → at ≤ fieldStart s at k
-  unfolding fieldStart endOf
-  fields-behind at zero = le-refl at
-  fields-behind at (suc k) = omega (arith, fields-behind at k)
-
-  next-behind : (at : ℕ) → at ≤ (contactAt s at) .next
-  unfolding contactAt
-  next-behind at = omega (arith, fields-behind at 14)
-
-  pub held-within : (at : ℕ) (qs : List Qso) → Holds s at qs → at ≤ length s
-  held-within at [] h = omega arith
-  held-within at (q ∷ qs) h = le-trans (next-behind at) (held-within ((contactAt s at) .next) qs (h .1))
-
   -- The fields of a record that is held lie within the log, for the next record does.
   fields-more : (at j k : ℕ) → fieldStart s at j ≤ fieldStart s at (j + k)
   unfolding fieldStart endOf
@@ -59,7 +47,7 @@ module _ (s : Text) where
   pub placed : (at : ℕ) (q : Qso) (qs : List Qso) → Holds s at (q ∷ qs) → Placed s (contactAt s at)
   unfolding contactAt
   placed at q qs h =
-      let next = held-within ((contactAt s at) .next) qs (h .1) in
+      let next = held-within s qs ((contactAt s at) .next) (h .1) in
       record {
         call = field-ends at 2 .0;
         callend = omega (arith, field-ends at 2 .1, fields-more at 3 11);
@@ -67,6 +55,7 @@ module _ (s : Text) where
         exchangeend = omega (arith, field-ends at 8 .1, fields-more at 9 5);
         locator = field-ends at 9 .0;
         locatorend = omega (arith, field-ends at 9 .1, fields-more at 10 4);
+        points = omega (arith, fields-more at 10 4);
       }
 
 -- # The walk
@@ -100,7 +89,7 @@ module _ (s : Text) (qs : List Qso) where
 
   module _ (i at : ℕ) (m : Memory) (t : Totals) (g : Going i at m t) where
     pub at-within : at ≤ length s
-    at-within = held-within s at (g .rest) (g .held)
+    at-within = held-within s (g .rest) at (g .held)
 
     pub all-seen : length qs ≤ i → t ≡ addRecords zeroTotals qs (verdicts base qs)
     unfolding addRecords
@@ -183,36 +172,67 @@ module _ (numbers slice : List ℕ) where
   unfolding over
   written-all i e = rw (e, take-length numbers)
 
+-- # Where the points begin
+
+pub length-places : (s : Text) (at n : ℕ) → length (pointsPlaces s at n) ≡ n
+unfolding pointsPlaces
+length-places s at zero = refl
+length-places s at (suc n) = ap suc (length-places s ((contactAt s at) .next) n)
+
+-- After so many records, at the place of the next: the places of the rest are those from there on.
+module _ (s : Text) (first n i at : ℕ) (h : i < n) (e : drop i (pointsPlaces s first n) ≡ pointsPlaces s at (n - i)) where
+  next-place : drop i (pointsPlaces s first n) ≡ (contactAt s at) .points ∷ pointsPlaces s ((contactAt s at) .next) (n - (i + 1))
+  unfolding pointsPlaces
+  next-place =
+      let m : n - i ≡ suc (n - (i + 1)) = omega arith in
+      e ∙ ap (pointsPlaces s at) m
+
+  pub place-there : (contactAt s at) .points ≡ getD (pointsPlaces s first n) i 0
+  place-there =
+      ap (λ (x : List ℕ). getD x 0 0) (sym next-place)
+      ∙ getD-drop i (pointsPlaces s first n) 0 0
+      ∙ ap (λ (x : ℕ). getD (pointsPlaces s first n) x 0) (add-zero i)
+
+  pub places-on : drop (i + 1) (pointsPlaces s first n) ≡ pointsPlaces s ((contactAt s at) .next) (n - (i + 1))
+  places-on = sym (drop-drop 1 i (pointsPlaces s first n)) ∙ ap (drop 1) next-place
+
 -- # The loop
 
 -- What holds whenever the next record is looked at.
 pub record Walks
-    (s : Text) (n : ℕ) (slice out cs ce ss se xs xe : List ℕ) (kept : Kept) (t : Totals) (at i : ℕ) : Type 0 where
+    (s : Text) (first n : ℕ) (slice points out places cs ce ss se xs xe : List ℕ) (kept : Kept) (t : Totals) (at i : ℕ) : Type 0 where
   pub going : Going s (recordsOf s) i at (memory s kept cs ce ss se xs xe) t
   pub within : i ≤ n
   pub told : out ≡ written (numbersOf (recordsOf s)) slice i
   pub size : length out ≡ length slice
+  pub rest : drop i (pointsPlaces s first n) ≡ pointsPlaces s at (n - i)
+  pub placed : places ≡ written (pointsPlaces s first n) points i
+  pub whole : length places ≡ length points
   pub calls : kept .calls ≤ i
   pub squares : kept .squares ≤ i
   pub exchanges : kept .exchanges ≤ i
   pub stays : Stays s kept cs ce ss se xs xe
-  pub shelves : Shelves n cs ce ss se xs xe
+  pub shelves : Shelves n places cs ce ss se xs xe
 
 none-lie : (s : Text) {starts ends : List ℕ} → Lying s starts ends 0
 none-lie s = record { manyStarts = omega arith; manyEnds = omega arith; inside = λ k h. absurd (omega arith) }
 
 module _ {s : Text} {first n : ℕ} {slice : List ℕ} (w : Weighable s first n slice) where
-  pub walks-begin : {cs ce ss se xs xe : List ℕ} {t : Totals} →
+  pub walks-begin : {points cs ce ss se xs xe : List ℕ} {t : Totals} →
       t ≡ zeroTotals →
-      Shelves n cs ce ss se xs xe →
-      Walks s n slice slice cs ce ss se xs xe (record { calls = 0; squares = 0; exchanges = 0 }) t first 0
+      Shelves n points cs ce ss se xs xe →
+      Walks s first n slice points slice points cs ce ss se xs xe (record { calls = 0; squares = 0; exchanges = 0 }) t first 0
   unfolding memory keptTexts
   walks-begin e shelves =
+      let all : n ≡ n - 0 = omega arith in
       record {
         going = rw e (begins s (recordsOf s) first (w .held));
         within = omega arith;
         told = refl;
         size = refl;
+        rest = ap (pointsPlaces s first) all;
+        placed = refl;
+        whole = refl;
         calls = omega arith;
         squares = omega arith;
         exchanges = omega arith;
@@ -220,8 +240,8 @@ module _ {s : Text} {first n : ℕ} {slice : List ℕ} (w : Weighable s first n 
         shelves = shelves;
       }
 
-  module _ {out cs ce ss se xs xe : List ℕ} {kept : Kept} {t : Totals} {at i : ℕ} (h : Walks s n slice out cs ce ss se xs xe kept t at i) where
-    pub walks-end : n ≤ i → Weighs s slice t out
+  module _ {points out places cs ce ss se xs xe : List ℕ} {kept : Kept} {t : Totals} {at i : ℕ} (h : Walks s first n slice points out places cs ce ss se xs xe kept t at i) where
+    pub walks-end : n ≤ i → Weighs s first n slice points t out places
     walks-end k =
         let few = w .few in
         let all = w .all in
@@ -231,6 +251,7 @@ module _ {s : Text} {first n : ℕ} {slice : List ℕ} (w : Weighable s first n 
           totals = all-seen s (recordsOf s) i at (memory s kept cs ce ss se xs xe) t (h .going) (omega arith);
           few = omega (arith, h .within);
           written = h .told ∙ written-all (numbersOf (recordsOf s)) slice i l;
+          places = h .placed ∙ written-all (pointsPlaces s first n) points i (omega (arith, length-places s first n, h .within));
         }
 
     pub has-room : i < n → Room s kept cs ce ss se xs xe
@@ -248,14 +269,15 @@ module _ {s : Text} {first n : ℕ} {slice : List ℕ} (w : Weighable s first n 
     module _ {c : Contact} (e : c ≡ contactAt s (min at (length s))) (k : i < n) where
       contact-there : c ≡ contactAt s at
       contact-there =
-          let l = at-within s (recordsOf s) i at (memory s kept cs ce ss se xs xe) t (h .going) in
-          let m : min at (length s) ≡ at = omega arith in
-          e ∙ ap (contactAt s) m
+          e ∙ told-inside s at (at-within s (recordsOf s) i at (memory s kept cs ce ss se xs xe) t (h .going))
 
       pub placed-here : Placed s c
       placed-here =
           let all = w .all in
           rw contact-there (placed-there s (recordsOf s) i at (memory s kept cs ce ss se xs xe) t (h .going) (omega arith))
+
+      pub place-fits : c .points < 65_536
+      place-fits = omega (arith, placed-here .points, w .short)
 
       pub countable : Countable t (c .worth)
       countable =
@@ -277,7 +299,7 @@ module _ {s : Text} {first n : ℕ} {slice : List ℕ} (w : Weighable s first n 
           length se' ≡ length se →
           length xs' ≡ length xs →
           length xe' ≡ length xe →
-          Walks s n slice (set out i number) cs' ce' ss' se' xs' xe' (r .kept) t' (c .next) (i + 1)
+          Walks s first n slice points (set out i number) (set places i (c .points)) cs' ce' ss' se' xs' xe' (r .kept) t' (c .next) (i + 1)
       walks-on {r = r} {cs' = cs'} {ce' = ce'} {ss' = ss'} {se' = se'} {xs' = xs'} {xe' = xe'} {t' = t'} st et en stays a b f g p q =
           let m = memory s kept cs ce ss se xs xe in
           let here = contactAt s at in
@@ -285,6 +307,8 @@ module _ {s : Text} {first n : ℕ} {slice : List ℕ} (w : Weighable s first n 
           let m' : memory s (r .kept) cs' ce' ss' se' xs' xe' ≡ after m s here (verdictBy m s here) = st .memory ∙ (λ j. after m s (contact-there j) (v j)) in
           let t'' : t' ≡ addRecord t (here .worth) (verdictBy m s here) = et ∙ (λ j. addRecord t ((contact-there j) .worth) (v j)) in
           let next : c .next ≡ here .next = ap (λ (x : Contact). x .next) contact-there in
+          let point : c .points ≡ getD (pointsPlaces s first n) i 0 =
+          ap (λ (x : Contact). x .points) contact-there ∙ place-there s first n i at k (h .rest) in
           let all = w .all in
           let room = w .room in
           let short : i < length (recordsOf s) = omega arith in
@@ -294,12 +318,16 @@ module _ {s : Text} {first n : ℕ} {slice : List ℕ} (w : Weighable s first n 
             within = omega arith;
             told = written-more (numbersOf (recordsOf s)) slice i long (omega arith) (h .told) (en ∙ ap verdictNumber v ∙ number-there s (recordsOf s) i at m t (h .going) short);
             size = length-set out i _ ∙ h .size;
+            rest = rw next (places-on s first n i at k (h .rest));
+            placed = written-more (pointsPlaces s first n) points i (omega (arith, length-places s first n)) (omega (arith, h .whole, h .shelves .place)) (h .placed) point;
+            whole = length-set places i _ ∙ h .whole;
             calls = omega (arith, st .calls, h .calls);
             squares = omega (arith, st .squares, h .squares);
             exchanges = omega (arith, st .exchanges, h .exchanges);
             stays = stays;
             shelves =
                 record {
+                  place = omega (arith, length-set places i (c .points), h .shelves .place);
                   callStart = omega (arith, h .shelves .callStart);
                   callEnd = omega (arith, h .shelves .callEnd);
                   squareStart = omega (arith, h .shelves .squareStart);

@@ -91,6 +91,7 @@ pub record Placed (s : Text) (c : Contact) : Type 0 where
   pub exchangeend : c .exchangeend ≤ length s
   pub locator : c .locator ≤ c .locatorend
   pub locatorend : c .locatorend ≤ length s
+  pub points : c .points ≤ length s
 
 -- All that is kept lies within the log.
 pub record Stays (s : Text) (kept : Kept) (callStarts callEnds squareStarts squareEnds exchangeStarts exchangeEnds : List ℕ) : Type 0 where

@@ -11,7 +11,7 @@ use Rattle.rules.specs.Fields.{Qso}
 use Rattle.rules.specs.Judging.{verdicts, verdictNumber, zeroTotals}
 use Rattle.rules.specs.Reading.{Reading, accepted, refused, read}
 use Rattle.rules.specs.Answers.{over}
-use Rattle.places.specs.Places.{Holds}
+use Rattle.places.specs.Places.{pointsPlaces, Holds}
 use Rattle.judge.specs.Count.{addRecords, Counts}
 
 -- The records of a log; none where it is refused.
@@ -32,10 +32,12 @@ pub record Weighable (s : Text) (first n : ℕ) (slice : List ℕ) : Type 0 wher
   pub held : Holds s first (recordsOf s)
   pub all : n ≡ length (recordsOf s)
   pub few : n ≤ 999
+  pub short : length s ≤ 65_535
   pub room : n ≤ length slice
 
--- There is a place for each record in the six lists.
-pub record Shelves (n : ℕ) (callStarts callEnds squareStarts squareEnds exchangeStarts exchangeEnds : List ℕ) : Type 0 where
+-- There is a place for each record in the list of the points and in the six of what is kept.
+pub record Shelves (n : ℕ) (places callStarts callEnds squareStarts squareEnds exchangeStarts exchangeEnds : List ℕ) : Type 0 where
+  pub place : n ≤ length places
   pub callStart : n ≤ length callStarts
   pub callEnd : n ≤ length callEnds
   pub squareStart : n ≤ length squareStarts
@@ -43,8 +45,9 @@ pub record Shelves (n : ℕ) (callStarts callEnds squareStarts squareEnds exchan
   pub exchangeStart : n ≤ length exchangeStarts
   pub exchangeEnd : n ≤ length exchangeEnds
 
--- The totals are those of the records, and their verdicts are written.
-pub record Weighs (s : Text) (slice : List ℕ) (r : Totals) (slice' : List ℕ) : Type 0 where
+-- The totals are those of the records, their verdicts are written, and so is where the points of each begin.
+pub record Weighs (s : Text) (first n : ℕ) (slice points : List ℕ) (r : Totals) (slice' points' : List ℕ) : Type 0 where
   pub totals : r ≡ addRecords zeroTotals (recordsOf s) (verdicts base (recordsOf s))
   pub few : Counts 999 r
   pub written : slice' ≡ over (numbersOf (recordsOf s)) slice
+  pub places : points' ≡ over (pointsPlaces s first n) points

@@ -12,7 +12,7 @@ ghost use Rattle.judge.specs.Parts.{squareEnd, seek, keptTexts, Lying};
 ghost use Rattle.judge.specs.Memory.{unseen, classBy, verdictBy, memory, Placed, Stays, Room, Keeps, Steps};
 ghost use Rattle.judge.specs.Numbers.{classFrom, verdictFrom};
 ghost use Rattle.judge.specs.Weigh.{Weighable, Shelves, Weighs};
-ghost use Rattle.judge.specs.Judge.{weighedOf, judgedOf, verdictsAfterwards, Accepts};
+ghost use Rattle.judge.specs.Judge.{weighedOf, judgedOf, verdictsAfterwards, pointsAfterwards, Accepts};
 ghost use Rattle.judge.specs.Count.{worthIf, addRecord, closing, Countable, Closable};
 use places::Contact;
 use places::Declared;
@@ -402,13 +402,14 @@ fn no_totals() -> Totals
     }
 }
 
-// The n records from a place on are judged, each in one step, and their verdicts written. Of the credited ones only places are kept, so that no
-// record is read twice.
+// The n records from a place on are judged, each in one step, and their verdicts written, and where the points of each begin. Of the credited
+// ones only places are kept, so that no record is read twice.
 fn walk_records(
     log: &[u8],
     first: usize,
     n: usize,
     verdicts: &mut [u8],
+    points: &mut [u16],
     callstarts: &mut [usize],
     callends: &mut [usize],
     squarestarts: &mut [usize],
@@ -417,8 +418,8 @@ fn walk_records(
     exchangeends: &mut [usize],
 ) -> Totals
     requires { ⌜ Weighable (now log) first n (now verdicts) ⌝ }
-    requires { ⌜ Shelves n (now callstarts) (now callends) (now squarestarts) (now squareends) (now exchangestarts) (now exchangeends) ⌝ }
-    ensures { λ r. ⌜ Weighs (now (log .entry)) (now (verdicts .entry)) r (now (verdicts .exit)) ⌝ }
+    requires { ⌜ Shelves n (now points) (now callstarts) (now callends) (now squarestarts) (now squareends) (now exchangestarts) (now exchangeends) ⌝ }
+    ensures { λ r. ⌜ Weighs (now (log .entry)) first n (now (verdicts .entry)) (now (points .entry)) r (now (verdicts .exit)) (now (points .exit)) ⌝ }
 {
     let mut kept = Kept {
         calls: 0,
@@ -430,6 +431,7 @@ fn walk_records(
     let mut i = 0;
     while i < n {
         let c = places::contact_at(log, at);
+        points[i] = c.points as u16;
         let step = judge_next(
             log,
             c,
@@ -452,9 +454,15 @@ fn walk_records(
 }
 
 // Where there are few records, few places are set aside, for setting them aside costs as much as judging them.
-fn weigh_few(log: &[u8], first: usize, n: usize, verdicts: &mut [u8]) -> Totals
+fn weigh_few(
+    log: &[u8],
+    first: usize,
+    n: usize,
+    verdicts: &mut [u8],
+    points: &mut [u16; 999],
+) -> Totals
     requires { ⌜ Weighable (now log) first n (now verdicts) × (n ≤ 128) ⌝ }
-    ensures { λ r. ⌜ Weighs (now (log .entry)) (now (verdicts .entry)) r (now (verdicts .exit)) ⌝ }
+    ensures { λ r. ⌜ Weighs (now (log .entry)) first n (now (verdicts .entry)) (now (points .entry)) r (now (verdicts .exit)) (now (points .exit)) ⌝ }
 {
     let mut callstarts = [0usize; 128];
     let mut callends = [0usize; 128];
@@ -467,6 +475,7 @@ fn weigh_few(log: &[u8], first: usize, n: usize, verdicts: &mut [u8]) -> Totals
         first,
         n,
         verdicts,
+        points,
         &mut callstarts,
         &mut callends,
         &mut squarestarts,
@@ -476,9 +485,15 @@ fn weigh_few(log: &[u8], first: usize, n: usize, verdicts: &mut [u8]) -> Totals
     )
 }
 
-fn weigh_many(log: &[u8], first: usize, n: usize, verdicts: &mut [u8]) -> Totals
+fn weigh_many(
+    log: &[u8],
+    first: usize,
+    n: usize,
+    verdicts: &mut [u8],
+    points: &mut [u16; 999],
+) -> Totals
     requires { ⌜ Weighable (now log) first n (now verdicts) ⌝ }
-    ensures { λ r. ⌜ Weighs (now (log .entry)) (now (verdicts .entry)) r (now (verdicts .exit)) ⌝ }
+    ensures { λ r. ⌜ Weighs (now (log .entry)) first n (now (verdicts .entry)) (now (points .entry)) r (now (verdicts .exit)) (now (points .exit)) ⌝ }
 {
     let mut callstarts = [0usize; 999];
     let mut callends = [0usize; 999];
@@ -491,6 +506,7 @@ fn weigh_many(log: &[u8], first: usize, n: usize, verdicts: &mut [u8]) -> Totals
         first,
         n,
         verdicts,
+        points,
         &mut callstarts,
         &mut callends,
         &mut squarestarts,
@@ -500,14 +516,20 @@ fn weigh_many(log: &[u8], first: usize, n: usize, verdicts: &mut [u8]) -> Totals
     )
 }
 
-fn weigh_records(log: &[u8], first: usize, n: usize, verdicts: &mut [u8]) -> Totals
+fn weigh_records(
+    log: &[u8],
+    first: usize,
+    n: usize,
+    verdicts: &mut [u8],
+    points: &mut [u16; 999],
+) -> Totals
     requires { ⌜ Weighable (now log) first n (now verdicts) ⌝ }
-    ensures { λ r. ⌜ Weighs (now (log .entry)) (now (verdicts .entry)) r (now (verdicts .exit)) ⌝ }
+    ensures { λ r. ⌜ Weighs (now (log .entry)) first n (now (verdicts .entry)) (now (points .entry)) r (now (verdicts .exit)) (now (points .exit)) ⌝ }
 {
     if n <= 128 {
-        return weigh_few(log, first, n, verdicts);
+        return weigh_few(log, first, n, verdicts, points);
     }
-    weigh_many(log, first, n, verdicts)
+    weigh_many(log, first, n, verdicts, points)
 }
 
 // What a log is judged to be, with how many records it has and where the first begins, for a caller that walks them again.
@@ -526,11 +548,18 @@ pub enum Judged {
     Refused(Refusal),
 }
 
-// An accepted log is judged, if the slice has room for its verdicts; otherwise the slice is left as it is.
-fn weigh_accepted(log: &[u8], records: usize, first: usize, verdicts: &mut [u8]) -> Weighed
+// An accepted log is judged, if the slice has room for its verdicts; otherwise both lists are left as they are.
+fn weigh_accepted(
+    log: &[u8],
+    records: usize,
+    first: usize,
+    verdicts: &mut [u8],
+    points: &mut [u16; 999],
+) -> Weighed
     requires { ⌜ Accepts (now log) records first ⌝ }
     ensures answer { λ r. ⌜ r ≡ weighedOf (length (now (verdicts .entry))) (now (log .entry)) ⌝ }
     ensures slice { λ r. ⌜ now (verdicts .exit) ≡ verdictsAfterwards (now (log .entry)) (now (verdicts .entry)) ⌝ }
+    ensures places { λ r. ⌜ now (points .exit) ≡ pointsAfterwards (length (now (verdicts .entry))) (now (log .entry)) (now (points .entry)) ⌝ }
 {
     if verdicts.len() < records {
         return Weighed::Refused(Refusal {
@@ -539,7 +568,7 @@ fn weigh_accepted(log: &[u8], records: usize, first: usize, verdicts: &mut [u8])
             field: 0,
         });
     }
-    let sums = weigh_records(log, first, records, verdicts);
+    let sums = weigh_records(log, first, records, verdicts, points);
     let totals = closed(sums, places::declared_at(log));
     Weighed::Done {
         totals,
@@ -548,23 +577,32 @@ fn weigh_accepted(log: &[u8], records: usize, first: usize, verdicts: &mut [u8])
     }
 }
 
-// A log is read and judged: its verdicts are written to the front of the slice. On a refusal no byte of the slice is changed.
-pub fn weigh(log: &[u8], verdicts: &mut [u8]) -> Weighed
+// A log is read and judged: its verdicts are written to the front of the slice, and where the points of each record begin to the front of the
+// other list, for a caller that writes them anew. On a refusal nothing of either is changed.
+pub fn weigh(log: &[u8], verdicts: &mut [u8], points: &mut [u16; 999]) -> Weighed
     ensures answer { λ r. ⌜ r ≡ weighedOf (length (now (verdicts .entry))) (now (log .entry)) ⌝ }
     ensures slice { λ r. ⌜ now (verdicts .exit) ≡ verdictsAfterwards (now (log .entry)) (now (verdicts .entry)) ⌝ }
+    ensures places { λ r. ⌜ now (points .exit) ≡ pointsAfterwards (length (now (verdicts .entry))) (now (log .entry)) (now (points .entry)) ⌝ }
 {
     match reader::read(log) {
-        ReadAnswer::Accepted { records, first } => weigh_accepted(log, records, first, verdicts),
+        ReadAnswer::Accepted { records, first } => weigh_accepted(
+            log,
+            records,
+            first,
+            verdicts,
+            points,
+        ),
         ReadAnswer::Refused(r) => Weighed::Refused(r),
     }
 }
 
-// The same, where the totals are all that is asked for.
+// The same, where the totals and the verdicts are all that is asked for.
 pub fn judge(log: &[u8], verdicts: &mut [u8]) -> Judged
     ensures answer { λ r. ⌜ r ≡ judgedOf (length (now (verdicts .entry))) (now (log .entry)) ⌝ }
     ensures slice { λ r. ⌜ now (verdicts .exit) ≡ verdictsAfterwards (now (log .entry)) (now (verdicts .entry)) ⌝ }
 {
-    match weigh(log, verdicts) {
+    let mut points = [0u16; 999];
+    match weigh(log, verdicts, &mut points) {
         Weighed::Done {
             totals,
             records: _,

@@ -17,13 +17,13 @@ same-length : tie.Need-same-length
 same-length c = search needs
 
 returns : tie.Need-returns
-returns c = (totals-alone _ _ (sym (c .before .before .before .before .before .weigh .ensures .0) ∙ c .before .totals .given .1), c .before .before .before .before .before .weigh .ensures .1)
+returns c = (totals-alone _ _ (sym (c .before .before .before .before .before .weigh .ensures .0) ∙ c .before .totals .given .1), c .before .before .before .before .before .weigh .ensures .1 .0)
 
 same-length-2 : tie.Need-same-length-2
 same-length-2 c = search needs
 
 returns-2 : tie.Need-returns-2
-returns-2 c = (refusal-alone _ _ (sym (c .before .before .before .before .before .weigh .ensures .0) ∙ c .before .r .given .1), c .before .before .before .before .before .weigh .ensures .1)
+returns-2 c = (refusal-alone _ _ (sym (c .before .before .before .before .before .weigh .ensures .0) ∙ c .before .r .given .1), c .before .before .before .before .before .weigh .ensures .1 .0)
 
 pub judge-spec : {M : Type 1} → statement M
 judge-spec =

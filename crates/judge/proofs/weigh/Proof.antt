@@ -1,4 +1,4 @@
-use Rattle.judge.proofs.JudgeLaws.{accepts, refused-unread, kept-unread}
+use Rattle.judge.proofs.JudgeLaws.{accepts, refused-unread, kept-unread, places-refused}
 use mathlib.Core.Path.{sym, _∙_}
 use denote.Ref.{now}
 use borrow.Author.Needs.{needs}
@@ -12,7 +12,7 @@ enum-known-records : tie.Need-enum-known-records
 enum-known-records c = search needs
 
 weigh-accepted-requires : tie.Need-weigh-accepted-requires
-weigh-accepted-requires c κs = accepts (now (c .before .before .before .before .before .before .before .args .log)) (sym (c .before .before .before .before .read .ensures) ∙ c .before .before .records .given .1)
+weigh-accepted-requires c κs = accepts (now (c .before .before .before .before .before .before .before .before .args .log)) (sym (c .before .before .before .before .before .read .ensures) ∙ c .before .before .before .records .given .1)
 
 enum-known-r : tie.Need-enum-known-r
 enum-known-r c = search needs
@@ -25,8 +25,12 @@ returns c = c .before .before .weigh-accepted .ensures
 
 returns-2 : tie.Need-returns-2
 returns-2 c =
+    let start = c .before .before .before .before .before .before in
+    let log = now (start .args .log) in
+    let slice = now (start .args .verdicts) in
     let unread = sym (c .before .before .before .read .ensures) ∙ c .before .r .given .1 in
-    (refused-unread (now (c .before .before .before .before .before .before .args .log)) (now (c .before .before .before .before .before .before .args .verdicts)) unread, kept-unread (now (c .before .before .before .before .before .before .args .log)) (now (c .before .before .before .before .before .before .args .verdicts)) unread)
+    let answer = refused-unread log slice unread in
+    (answer, (kept-unread log slice unread, places-refused _ _ _ answer))
 
 pub weigh-spec : {M : Type 1} → statement M
 weigh-spec =

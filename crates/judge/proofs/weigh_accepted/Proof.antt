@@ -1,4 +1,4 @@
-use Rattle.judge.proofs.JudgeLaws.{closable, weighable, refused-short, kept-short, done, written-done}
+use Rattle.judge.proofs.JudgeLaws.{closable, weighable, refused-short, kept-short, done, written-done, places-refused, places-done}
 use denote.Ref.{now}
 use borrow.Author.Needs.{needs}
 use Rattle.judge.proofs.weigh_accepted.Statement.{statement}
@@ -6,10 +6,13 @@ use Rattle.judge.proofs.weigh_accepted.Tie as tie
 
 returns : tie.Need-returns
 returns c =
-    (refused-short (c .before .before .before .pre) (now (c .before .before .before .args .verdicts)) (c .if1 .taken), kept-short (c .before .before .before .pre) (now (c .before .before .before .args .verdicts)) (c .if1 .taken))
+    let start = c .before .before .before in
+    let slice = now (start .args .verdicts) in
+    let answer = refused-short (start .pre) slice (c .if1 .taken) in
+    (answer, (kept-short (start .pre) slice (c .if1 .taken), places-refused _ _ _ answer))
 
 weigh-records-requires : tie.Need-weigh-records-requires
-weigh-records-requires c κs = weighable (c .before .before .before .before .pre) (c .before .if1 .left)
+weigh-records-requires c κs = weighable (c .before .before .before .before .before .pre) (c .before .before .if1 .left)
 
 declared-at-requires : tie.Need-declared-at-requires
 declared-at-requires c κs = search needs
@@ -21,10 +24,13 @@ same-length : tie.Need-same-length
 same-length c = search needs
 
 returns-2 : tie.Need-returns-2
-returns-2 c = (
-  done (c .before .before .before .before .before .before .before .before .before .pre) (now (c .before .before .before .before .before .before .before .before .before .args .verdicts)) (c .before .before .before .before .before .before .if1 .left) (c .before .before .before .before .weigh-records .ensures) (c .before .declared-at .ensures) (c .closed .ensures),
-  written-done (c .before .before .before .before .before .before .before .before .before .pre) (now (c .before .before .before .before .before .before .before .before .before .args .verdicts)) (c .before .before .before .before .before .before .if1 .left) (c .before .before .before .before .weigh-records .ensures),
-)
+returns-2 c =
+    let start = c .before .before .before .before .before .before .before .before .before .before in
+    let slice = now (start .args .verdicts) in
+    let room = c .before .before .before .before .before .before .before .if1 .left in
+    let weighed = c .before .before .before .before .weigh-records .ensures in
+    let answer = done (start .pre) slice room weighed (c .before .declared-at .ensures) (c .closed .ensures) in
+    (answer, (written-done (start .pre) slice room weighed, places-done _ _ _ (weighed .places) answer))
 
 pub weigh-accepted-spec : {M : Type 1} → statement M
 weigh-accepted-spec =

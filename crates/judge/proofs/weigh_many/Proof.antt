@@ -22,7 +22,7 @@ slice-aggregate-walk-records-6 : tie.Need-slice-aggregate-walk-records-6
 slice-aggregate-walk-records-6 c = search needs
 
 walk-records-requires : tie.Need-walk-records-requires
-walk-records-requires c κs = let few = c .before .before .before .before .before .before .before .before .before .pre .few in (c .before .before .before .before .before .before .before .before .before .pre, omega arith)
+walk-records-requires c κs = let few = c .before .before .before .before .before .before .before .before .before .before .pre .few in (c .before .before .before .before .before .before .before .before .before .before .pre, omega arith)
 
 same-length : tie.Need-same-length
 same-length c = search needs
