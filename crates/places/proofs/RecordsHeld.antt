@@ -10,7 +10,7 @@ use lib.Seq.{drop-drop, drop-append-add, drop-at}
 use Rattle.rules.specs.Text.{Text, bytes, allowed, all, span, same, joined, value, numberOf}
 use Rattle.rules.specs.Rules.{base}
 use Rattle.rules.specs.Fields.{Qso, errorCall, newMark, isError, pointsRule, fieldsOf, fieldRules}
-use Rattle.rules.specs.Log.{Log, countLine, recordLine, crlf, ended, conjunction, recordRules}
+use Rattle.rules.specs.Log.{Log, render, countLine, recordLine, crlf, ended, conjunction, recordRules}
 use Rattle.rules.specs.Reading.{read, accepted}
 use Rattle.rules.specs.Judging.{claimsCountry}
 use Rattle.rules.proofs.TextLaws.{span-run}
@@ -133,22 +133,26 @@ ended-append [] b = refl
 ended-append (l ∷ a) b =
     ap (λ (t : Text). l ++ crlf ++ t) (ended-append a b) ∙ sym (append-assoc (l ++ crlf) (ended a) (ended b))
 
-module _ (s : Text) (log : Log) (w : read base s ≡ accepted log) where
+-- The lines of the records, and those in front of them, of which the count line is the last.
+module _ (log : Log) where
   abbrev pub records : List Text
   records = map recordLine (log .records)
 
   abbrev pub header : List Text
   header = front log ++ (countLine (length (log .records)) ∷ [])
 
-  pub split : s ≡ ended header ++ ended records
-  split =
-      sym (accepted-exactly s log .0 w .1)
-      ∙ render-law log
+  pub rendered : render log ≡ ended header ++ ended records
+  rendered =
+      render-law log
       ∙ ap ended (lines-split log ∙ sym (append-assoc (front log) (countLine (length (log .records)) ∷ []) records))
       ∙ ended-append header records
 
-  pub starts : recordsStart s log ≡ length (ended header)
-  starts = omega (arith, ap length split, length-append (ended header) (ended records))
+module _ (s : Text) (log : Log) (w : read base s ≡ accepted log) where
+  pub split : s ≡ ended (header log) ++ ended (records log)
+  split = sym (accepted-exactly s log .0 w .1) ∙ rendered log
+
+  pub starts : recordsStart s log ≡ length (ended (header log))
+  starts = omega (arith, ap length split, length-append (ended (header log)) (ended (records log)))
 
   pub records-within : recordsStart s log ≤ length s
   records-within = omega arith
@@ -157,8 +161,8 @@ module _ (s : Text) (log : Log) (w : read base s ≡ accepted log) where
   records-stand =
       record {
         rules = so (recordRules base (log .records)) (records-valid base log (accepted-exactly s log .0 w .0));
-        lines = ap (drop (recordsStart s log)) split ∙ drop-at (ended header) (ended records) (recordsStart s log) (sym starts);
-        end = omega (arith, starts, ap length split, length-append (ended header) (ended records));
+        lines = ap (drop (recordsStart s log)) split ∙ drop-at (ended (header log)) (ended (records log)) (recordsStart s log) (sym starts);
+        end = omega (arith, starts, ap length split, length-append (ended (header log)) (ended (records log)));
       }
 
   pub records-held : Holds s (recordsStart s log) (log .records)

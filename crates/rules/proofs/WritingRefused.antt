@@ -66,3 +66,12 @@ writing-is-refused-for-length s log room e =
     let t = render (writtenBack base log) in
     let law = write-law room s log e in
     (λ q. which (length t) room t (sym law ∙ q), λ h. law ∙ either-way (length t) room t h)
+
+-- Otherwise the result is written.
+pub writing-fits : (s : Text) (log : Log) (room : ℕ) → read base s ≡ accepted log →
+    length (render (writtenBack base log)) ≤ 65_535 →
+    length (render (writtenBack base log)) ≤ room →
+    write base room s ≡ written (render (writtenBack base log))
+writing-fits s log room e h k =
+    let t = render (writtenBack base log) in
+    write-law room s log e ∙ fits (length t) room t h k

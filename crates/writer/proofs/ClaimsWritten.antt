@@ -43,22 +43,22 @@ module _ (s : Text) (log : Log) (w : read base s ≡ accepted log) where
   ended-in-order : (ls : List Text) → ended (leading ++ (ls ++ trailing)) ≡ ended leading ++ (ended ls ++ ended trailing)
   ended-in-order ls = ended-append leading (ls ++ trailing) ∙ ap (λ (t : Text). ended leading ++ t) (ended-append ls trailing)
 
-  header-is : header s log w ≡ leading ++ (claiming ++ trailing)
+  header-is : header log ≡ leading ++ (claiming ++ trailing)
   unfolding front
   header-is = in-order (keywordLines entries (log .arguments)) claiming (old-lines (log .arguments))
 
-  header-text : ended (header s log w) ≡ ended leading ++ (ended claiming ++ ended trailing)
+  header-text : ended (header log) ≡ ended leading ++ (ended claiming ++ ended trailing)
   header-text = ap ended header-is ∙ ended-in-order claiming
 
   -- The lines of the whole log.
   abbrev behind : List Text
-  behind = claiming ++ (trailing ++ records s log w)
+  behind = claiming ++ (trailing ++ records log)
 
   lines-are : linesOf log ≡ leading ++ behind
   lines-are =
       lines-split log
-      ∙ sym (append-assoc (front log) (countLine (length (log .records)) ∷ []) (records s log w))
-      ∙ ap (λ (ls : List Text). ls ++ records s log w) header-is
+      ∙ sym (append-assoc (front log) (countLine (length (log .records)) ∷ []) (records log))
+      ∙ ap (λ (ls : List Text). ls ++ records log) header-is
       ∙ simp append-assoc
 
   leading-count : length leading ≡ 27
@@ -73,14 +73,14 @@ module _ (s : Text) (log : Log) (w : read base s ≡ accepted log) where
       ∙ ap (λ (ls : List Text). length (ended ls)) lines
       ∙ omega arith
 
-  claims-stand : Stand s (recordsStart s log) (ended trailing) (ended (records s log w)) 0 (ended leading) claiming
+  claims-stand : Stand s (recordsStart s log) (ended trailing) (ended (records log)) 0 (ended leading) claiming
   claims-stand =
       record {
         rules =
-            every-front (lineRule base) claiming (trailing ++ records s log w)
+            every-front (lineRule base) claiming (trailing ++ records log)
             (every-back (lineRule base) leading behind (rw lines-are at (lines-ruled s log (is-valid s log w) (is-written s log w))));
         keywords = claiming-keyworded (log .arguments);
-        there = split s log w ∙ ap (λ (t : Text). t ++ ended (records s log w)) header-text ∙ simp append-assoc;
+        there = split s log w ∙ ap (λ (t : Text). t ++ ended (records log)) header-text ∙ simp append-assoc;
         places =
             omega (
               arith,
@@ -93,7 +93,7 @@ module _ (s : Text) (log : Log) (w : read base s ≡ accepted log) where
 
   pub claims-lie : ClaimsLie s (recordsStart s log) 0 (lineStart s 27) 9
   claims-lie =
-      let lie = lines-lie s (recordsStart s log) (ended trailing) (ended (records s log w)) claiming 0 (ended leading) claims-stand (records-within s log w) in
+      let lie = lines-lie s (recordsStart s log) (ended trailing) (ended (records log)) claiming 0 (ended leading) claims-stand (records-within s log w) in
       rw claims-start (rw (claiming-count (log .arguments) (ruled s log w)) at lie)
 
   module _ (t : Totals) where
@@ -107,7 +107,7 @@ module _ (s : Text) (log : Log) (w : read base s ≡ accepted log) where
     unfolding headText
     head-text =
         ap (λ (k : ℕ). claimsText s (recordsStart s log) 0 k (claimNumbers t)) claims-start
-        ∙ lines-renumbered s (recordsStart s log) (ended trailing) (ended (records s log w)) (claimNumbers t) claiming 0 (ended leading) (claiming-count (log .arguments) (ruled s log w)) claims-stand
+        ∙ lines-renumbered s (recordsStart s log) (ended trailing) (ended (records log)) (claimNumbers t) claiming 0 (ended leading) (claiming-count (log .arguments) (ruled s log w)) claims-stand
 
     pub head-written : headText s (recordsStart s log) t
         ≡ ended (front (record { arguments = writtenArguments (claims digits t) entries (log .arguments); remarks = log .remarks; records = log .records }) ++ (countLine (length (log .records)) ∷ []))

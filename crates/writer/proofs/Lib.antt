@@ -7,3 +7,4 @@ pub mod RecordsWritten
 pub mod NumberedLines
 pub mod ClaimLines
 pub mod ClaimsWritten
+pub mod WriteLaws

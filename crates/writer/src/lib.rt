@@ -251,7 +251,7 @@ fn put_claims(out: &mut [u8], s: &[u8], first: usize, line: usize, claims: &[u64
 // How many bytes `put_claims` writes.
 fn claims_length(s: &[u8], first: usize, line: usize, claims: &[u64]) -> usize
     requires { ⌜ ClaimsLie (now s) first 0 line (length (now claims)) × (length (now claims) ≤ 9) ⌝ }
-    ensures { λ r. ⌜ r ≡ length (claimsText (now (s .entry)) first 0 line (now (claims .entry))) ⌝ }
+    ensures { λ r. ⌜ (r ≡ length (claimsText (now (s .entry)) first 0 line (now (claims .entry)))) × (r ≤ length (now (s .entry)) + 20 * 9) ⌝ }
 {
     let mut sum = 0;
     let mut from = 0;
@@ -336,8 +336,7 @@ fn put_records(
 // How many bytes `put_records` writes.
 fn records_length(s: &[u8], first: usize, points: &[u16], numbers: &[u8]) -> usize
     requires { ⌜ RecordsLie (now s) first (now points) × (length (now numbers) ≡ length (now points)) × (length (now points) ≤ 999) ⌝ }
-    ensures { λ r. ⌜ r ≡ length (recordsText (now (s .entry)) first (now (points .entry)) (now (numbers .entry))) ⌝ }
-    ensures small { λ r. ⌜ r ≤ length (now (s .entry)) + 11 * 999 ⌝ }
+    ensures { λ r. ⌜ (r ≡ length (recordsText (now (s .entry)) first (now (points .entry)) (now (numbers .entry)))) × (r ≤ length (now (s .entry)) + 11 * 999) ⌝ }
 {
     let mut sum = 0;
     let mut start = first;

@@ -112,7 +112,19 @@ add-result c =
     )
 
 returns : tie.Need-returns Inv-loop μ-loop
-returns c = claims-measured (c .before .loop .inv) (omega arith)
+returns c =
+    let a = c .before .before .before .before .args in
+    let k = c .before .loop in (
+      claims-measured (k .inv) (omega arith),
+      omega (
+        arith,
+        k .inv .small,
+        k .inv .within,
+        c .before .before .before .before .pre .1,
+        order-last (now (a .s)) (a .first) (now (a .claims)) (k .from) (k .next) (k .i) (omega arith) (k .inv .lies),
+        inside-last (now (a .s)) (a .first) (now (a .claims)) (k .from) (k .next) (k .i) (omega arith) (k .inv .lies),
+      ),
+    )
 
 pub claims-length-spec : {M : Type 1} → statement M
 claims-length-spec =

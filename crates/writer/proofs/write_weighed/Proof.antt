@@ -1,67 +1,89 @@
+-- `writer::write_weighed` meets its contract: the result is measured, and where it fits the claims and the records are written one behind the other.
+-- Assumes nothing.
 use native.Mathlib.Omega.{arith}
-use mathlib.Core.Path.{_≡_, refl, sym, ap, _∙_}
-use mathlib.Core.Bool.{true, false}
-use Prim.Native.Nat.{ℕ, _+_, _-_, _*_, _≤_, _<_}
-use lib.ListN.{length, drop, take, getD, set}
+use mathlib.Core.Path.{_≡_}
+use mathlib.Core.Logic.{inl, inr}
+use Prim.Native.Nat.{_+_}
+use lib.ListN.{length}
 use denote.Ref.{now}
+use Rattle.writer.specs.ClaimsText.{claimNumbers}
+use Rattle.writer.specs.RecordText.{recordsText}
+use Rattle.writer.proofs.WrittenLaws.{puts-room, puts-then}
+use Rattle.writer.proofs.WriteLaws.{nine-lie, all-lie, same-many, few, short, whole-length, refused-answer, refused-slice, written-answer, written-slice}
 use borrow.Author.Needs.{needs}
 use Rattle.writer.proofs.write_weighed.Statement.{statement}
 use Rattle.writer.proofs.write_weighed.Tie as tie
-use Rattle.writer.proofs.write_weighed.Reads as reads
-use Rattle.writer.proofs.write_weighed.Lts as lts
-use Rattle.places.proofs.line_start.Reads as line-start-reads
-use Rattle.writer.proofs.claims_length.Reads as claims-length-reads
-use Rattle.writer.proofs.put_claims.Reads as put-claims-reads
-use Rattle.writer.proofs.put_records.Reads as put-records-reads
-use Rattle.writer.proofs.records_length.Reads as records-length-reads
 
--- src/lib.rt:387:9
 line-start-requires : tie.Need-line-start-requires
 line-start-requires c κs = search needs
 
--- src/lib.rt:388:48
 slice-aggregate-claims-length : tie.Need-slice-aggregate-claims-length
 slice-aggregate-claims-length c = search needs
 
--- src/lib.rt:388:9
 claims-length-requires : tie.Need-claims-length-requires
-claims-length-requires c κs = search needs
+claims-length-requires c κs = (nine-lie (c .before .before .before .before .before .before .pre) (c .before .line-start .ensures), search needs)
 
--- src/lib.rt:389:25
 records-length-requires : tie.Need-records-length-requires
-records-length-requires c κs = search needs
+records-length-requires c κs = let w = c .before .before .before .before .before .before .before .pre in (all-lie w, same-many w, few w)
 
--- src/lib.rt:389:18
 add-length : tie.Need-add-length
-add-length c = search needs
+add-length c = omega (arith, short (c .before .before .before .before .before .before .before .before .pre), c .before .claims-length .ensures .1, c .records-length .ensures .1)
 
--- src/lib.rt:391:9
 returns : tie.Need-returns
-returns c = search needs
+unfolding claimNumbers
+returns c =
+    let w = c .before .before .before .before .before .before .before .before .before .pre in
+    let e = c .before .before .before .before .line-start .ensures in
+    let out = now (c .before .before .before .before .before .before .before .before .before .args .out) in
+    let h = whole-length w e in
+    let m = c .before .before .claims-length .ensures .0 in
+    let n = c .before .records-length .ensures .0 in
+    (refused-answer w e out (inl (omega (arith, c .if1 .taken, h, m, n))), refused-slice w e out (inl (omega (arith, c .if1 .taken, h, m, n))))
 
--- src/lib.rt:398:9
 returns-2 : tie.Need-returns-2
-returns-2 c = search needs
+unfolding claimNumbers
+returns-2 c =
+    let w = c .before .before .before .before .before .before .before .before .before .before .pre in
+    let e = c .before .before .before .before .before .line-start .ensures in
+    let out = now (c .before .before .before .before .before .before .before .before .before .before .args .out) in
+    let h = whole-length w e in
+    let m = c .before .before .before .claims-length .ensures .0 in
+    let n = c .before .before .records-length .ensures .0 in
+    (refused-answer w e out (inr (omega (arith, c .if2 .taken, h, m, n))), refused-slice w e out (inr (omega (arith, c .if2 .taken, h, m, n))))
 
--- src/lib.rt:404:48
 slice-aggregate-put-claims : tie.Need-slice-aggregate-put-claims
 slice-aggregate-put-claims c = search needs
 
--- src/lib.rt:404:9
 put-claims-requires : tie.Need-put-claims-requires
-put-claims-requires c κs = search needs
+put-claims-requires c κs = (
+  nine-lie (c .before .before .before .before .before .before .before .before .before .before .before .before .pre) (c .before .before .before .before .before .before .before .line-start .ensures),
+  omega (arith, c .before .before .if2 .left, c .before .before .before .before .before .claims-length .ensures .0),
+)
 
--- src/lib.rt:405:19
 put-records-requires : tie.Need-put-records-requires
-put-records-requires c κs = search needs
+put-records-requires c κs =
+    let at-start = c .before .before .before .before .before .before .before .before .before .before .before .before .before .before .before .before in
+    let w = at-start .pre in
+    let a = at-start .args in
+    let put = c .before .before .before .put-claims .ensures in (
+      (all-lie w, same-many w),
+      puts-room put (recordsText (now (a .log)) (a .first) (now (a .points)) (now (a .numbers)))
+      (omega (arith, c .before .before .before .before .before .before .if2 .left, c .before .before .before .before .before .before .before .before .before .claims-length .ensures .0, c .before .before .before .before .before .before .before .before .records-length .ensures .0)),
+    )
 
--- src/lib.rt:364:1
 same-length : tie.Need-same-length
 same-length c = search needs
 
--- src/lib.rt:364:1
 returns-3 : tie.Need-returns-3
-returns-3 c = search needs
+unfolding claimNumbers
+returns-3 c =
+    let w = c .before .before .before .before .before .before .before .before .before .before .before .before .before .before .before .before .before .before .before .pre in
+    let e = c .before .before .before .before .before .before .before .before .before .before .before .before .before .before .line-start .ensures in
+    let h = whole-length w e in
+    let m = c .before .before .before .before .before .before .before .before .before .before .before .before .claims-length .ensures .0 in
+    let n = c .before .before .before .before .before .before .before .before .before .before .before .records-length .ensures .0 in
+    let p = puts-then (c .before .before .before .before .before .before .put-claims .ensures) (c .before .before .put-records .ensures) in
+    (written-answer w e (omega (arith, c .before .before .before .before .before .before .before .before .before .before .if1 .left, h, m, n)) p, written-slice w e (omega (arith, c .before .before .before .before .before .before .before .before .before .before .if1 .left, h, m, n)) p)
 
 pub write-weighed-spec : {M : Type 1} → statement M
 write-weighed-spec =

@@ -1,0 +1,181 @@
+-- From what was judged to what is answered: the result's text by its places is the log written back, and where it does not fit nothing is written.
+-- Assumes nothing.
+use Prim.Native.Nat.{ℕ, zero, suc, _+_, _-_, _≤_, _<_, min}
+use native.Mathlib.Omega.{arith}
+use native.Mathlib.Nat.{zero-add}
+use mathlib.Core.Path.{_≡_, refl, sym, ap, ap₂, subst, _∙_}
+use mathlib.Core.Bool.{Bool, true, false, cond}
+use mathlib.Core.List.{List, [], _∷_, _++_, map}
+use mathlib.Core.Logic.{_⊎_, inl, inr}
+use lib.Dec.{ltb}
+use lib.ListN.{length, take, drop, length-append}
+use lib.Seq.{take-at}
+use lib.ListN.{length-map}
+use borrow.Author.Tests.{le-ltb}
+use Rattle.rules.specs.declared.Refusal.{Refusal}
+use Rattle.rules.specs.declared.Totals.{Totals}
+use Rattle.rules.specs.declared.Verdict.{Verdict}
+use Rattle.rules.specs.Text.{Text, digits}
+use Rattle.rules.specs.Rules.{base}
+use Rattle.rules.specs.Fields.{Qso}
+use Rattle.rules.specs.Arguments.{entries}
+use Rattle.rules.specs.Log.{Log, render, ended, countLine, valid}
+use Rattle.rules.specs.Judging.{verdicts, verdictNumber, verdictsOfLog, totalsOfLog}
+use Rattle.rules.specs.Writing.{writtenArguments, claims, writtenRecords, writtenBack}
+use Rattle.rules.specs.Reading.{Reading, accepted, refused, refusal, read}
+use Rattle.rules.specs.Answers.{Judgement, judge, judgeReading, judgeLog, numbersOfJudgement, recordsOfReading, Writing, written, unwritten, write, writeReading, bytesOfWriting, over}
+use Rattle.rules.proofs.LogLaws.{front}
+use Rattle.rules.proofs.Tests.{so}
+use Rattle.rules.proofs.Format.{of-valid, accepted-exactly}
+use Rattle.rules.proofs.ValidLogs.{count-valid}
+use Rattle.rules.proofs.Classes.{length-verdicts}
+use Rattle.rules.proofs.WrittenValid.{written-length}
+use Rattle.rules.proofs.WritingRefused.{writing-fits, writing-is-refused-for-length}
+use Rattle.places.specs.Places.{lineStart, pointsPlaces}
+use Rattle.places.proofs.RecordsHeld.{recordsStart, header, records, rendered}
+use Rattle.places.proofs.HeaderHeld.{argument-inside}
+use Rattle.judge.specs.declared.Weighed.{Weighed}
+use Rattle.judge.specs.declared.Weighed.the-variants as Weighed
+use Rattle.judge.specs.Judge.{firstOf, weighedBy, weighedOf, verdictsAfterwards, pointsTold, pointsAfterwards}
+use Rattle.judge.proofs.WeighLaws.{length-places}
+use Rattle.writer.specs.declared.Wrote.the-variants as Wrote
+use Rattle.writer.specs.Written.{Puts}
+use Rattle.writer.specs.Written as Over
+use Rattle.writer.specs.ClaimsText.{claimNumbers, claimsText, headText, ClaimsLie}
+use Rattle.writer.specs.RecordText.{recordsText, RecordsLie}
+use Rattle.writer.specs.LogText.{wroteBy, wroteOf, writtenAfterwards, Writable}
+use Rattle.writer.proofs.ClaimsWritten.{claims-lie, head-written}
+use Rattle.writer.proofs.RecordsWritten.{records-written, records-lie}
+use Rattle.writer.proofs.WrittenLaws.{puts-room, puts-then}
+
+-- # A judged log
+
+module _ {s : Text} {t : Totals} {first : ℕ} {ps ns : List ℕ} (w : Writable s t first ps ns) where
+  abbrev log : Log
+  log = w .log
+
+  -- The log as it is written back, and its text.
+  abbrev after : Log
+  after = writtenBack base log
+
+  abbrev result : Text
+  result = render after
+
+  place-is : first ≡ recordsStart s log
+  unfolding firstOf
+  place-is = w .place
+
+  places-are : ps ≡ pointsPlaces s (recordsStart s log) (length (log .records))
+  places-are = w .places ∙ ap (λ (n : ℕ). pointsPlaces s n (length (log .records))) place-is
+
+  as-many : length (verdictsOfLog base log) ≡ length (log .records)
+  unfolding verdictsOfLog
+  as-many = length-verdicts base (log .records)
+
+  -- The places of the claims and of the records.
+  pub line-is : {line : ℕ} → line ≡ min (lineStart s 27) (length s) → line ≡ lineStart s 27
+  unfolding entries
+  line-is e = e ∙ argument-inside s log (w .isRead) 27 _ _ (omega arith) refl
+
+  pub nine-lie : {line : ℕ} → line ≡ min (lineStart s 27) (length s) → ClaimsLie s first 0 line 9
+  nine-lie e =
+      subst (λ (n : ℕ). ClaimsLie s first 0 n 9) (sym (line-is e))
+      (subst (λ (n : ℕ). ClaimsLie s n 0 (lineStart s 27) 9) (sym place-is) (claims-lie s log (w .isRead)))
+
+  pub all-lie : RecordsLie s first ps
+  all-lie =
+      subst (λ (n : ℕ). RecordsLie s n ps) (sym place-is)
+      (subst (λ (l : List ℕ). RecordsLie s (recordsStart s log) l) (sym places-are) (records-lie s log (w .isRead)))
+
+  pub same-many : length ns ≡ length ps
+  same-many =
+      ap length (w .verdicts)
+      ∙ length-map (verdictsOfLog base log) verdictNumber
+      ∙ as-many
+      ∙ sym (ap length (w .places) ∙ length-places s first (length (log .records)))
+
+  pub few : length ps ≤ 999
+  unfolding base
+  few =
+      let most = count-valid base log (accepted-exactly s log .0 (w .isRead) .0) in
+      omega (arith, ap length (w .places), length-places s first (length (log .records)))
+
+  pub short : length s ≤ 65_535
+  unfolding base
+  short =
+      let v = accepted-exactly s log .0 (w .isRead) in
+      omega (arith, (of-valid base log (so (valid base log) (v .0))) .short, ap length (v .1))
+
+  -- # The result
+
+  -- In front of the records only the claims change: the remarks stay, and there are as many records.
+  front-is : front (record { arguments = writtenArguments (claims digits (totalsOfLog base log)) entries (log .arguments); remarks = log .remarks; records = log .records }) ≡ front after
+  unfolding front writtenBack
+  front-is = refl
+
+  many-after : length (log .records) ≡ length (after .records)
+  unfolding writtenBack
+  many-after = sym (written-length (verdictsOfLog base log) (log .records))
+
+  head-is : headText s first t ≡ ended (header after)
+  head-is =
+      ap₂ (headText s) place-is (w .totals)
+      ∙ head-written s log (w .isRead) (totalsOfLog base log)
+      ∙ (λ i. ended (front-is i ++ (countLine (many-after i) ∷ [])))
+
+  records-are : recordsText s first ps ns ≡ ended (records after)
+  unfolding writtenBack
+  records-are =
+      (λ i. recordsText s (place-is i) (places-are i) (w .verdicts i))
+      ∙ records-written s log (w .isRead) (verdictsOfLog base log) as-many
+
+  pub result-is : headText s first t ++ recordsText s first ps ns ≡ result
+  result-is = ap₂ (λ (a b : Text). a ++ b) head-is records-are ∙ sym (rendered after)
+
+  -- The text as the code puts it together.
+  module _ {line : ℕ} (e : line ≡ min (lineStart s 27) (length s)) where
+    pub head-text : claimsText s first 0 line (claimNumbers t) ≡ headText s first t
+    unfolding headText
+    head-text = ap (λ (n : ℕ). claimsText s first 0 n (claimNumbers t)) (line-is e)
+
+    whole-text : claimsText s first 0 line (claimNumbers t) ++ recordsText s first ps ns ≡ result
+    whole-text = ap (λ (a : Text). a ++ recordsText s first ps ns) head-text ∙ result-is
+
+    pub whole-length : length (claimsText s first 0 line (claimNumbers t)) + length (recordsText s first ps ns) ≡ length result
+    whole-length = sym (length-append (claimsText s first 0 line (claimNumbers t)) (recordsText s first ps ns)) ∙ ap length whole-text
+
+    -- # The answers
+
+    -- Where the result is too long, for a log or for the slice, nothing is written.
+    module _ (slice : List ℕ) (h : (65_535 < length result) ⊎ (length slice < length result)) where
+      refuses : write base (length slice) s ≡ unwritten (refusal 8 0 0)
+      refuses = writing-is-refused-for-length s log (length slice) (w .isRead) .1 h
+
+      pub refused-answer : Wrote.Refused (refusal 8 0 0) ≡ wroteOf (length slice) s
+      unfolding wroteOf wroteBy
+      refused-answer = rw refuses
+
+      pub refused-slice : slice ≡ writtenAfterwards s slice
+      unfolding bytesOfWriting over
+      refused-slice = rw refuses
+
+    -- Otherwise the text that was put together is the answer.
+    module _ {slice slice' : List ℕ} {end : ℕ} (h : length result ≤ 65_535)
+        (p : Puts slice 0 (claimsText s first 0 line (claimNumbers t) ++ recordsText s first ps ns) slice' end) where
+      put-result : Puts slice 0 result slice' end
+      put-result = subst (λ (x : Text). Puts slice 0 x slice' end) whole-text p
+
+      writes : write base (length slice) s ≡ written result
+      writes = writing-fits s log (length slice) (w .isRead) h (omega (arith, put-result .fits))
+
+      pub written-answer : Wrote.Length end ≡ wroteOf (length slice) s
+      unfolding wroteOf wroteBy
+      written-answer = rw writes (ap Wrote.Length (put-result .place ∙ zero-add (length result)))
+
+      laid-over : Over.written slice 0 result ≡ over result slice
+      unfolding Over.written over
+      laid-over = ap (λ (n : ℕ). result ++ drop n slice) (zero-add (length result))
+
+      pub written-slice : slice' ≡ writtenAfterwards s slice
+      unfolding bytesOfWriting
+      written-slice = rw writes (put-result .list ∙ laid-over)
