@@ -8,7 +8,7 @@ use mathlib.Core.Bool.{Bool, true, false, cond}
 use mathlib.Core.List.{List, [], _∷_, _++_, map}
 use mathlib.Core.Logic.{_⊎_, inl, inr}
 use lib.Dec.{ltb}
-use lib.ListN.{length, take, drop, length-append}
+use lib.ListN.{length, take, drop, length-append, length-take}
 use lib.Seq.{take-at}
 use lib.ListN.{length-map}
 use borrow.Author.Tests.{le-ltb}
@@ -23,7 +23,7 @@ use Rattle.rules.specs.Log.{Log, render, ended, countLine, valid}
 use Rattle.rules.specs.Judging.{verdicts, verdictNumber, verdictsOfLog, totalsOfLog}
 use Rattle.rules.specs.Writing.{writtenArguments, claims, writtenRecords, writtenBack}
 use Rattle.rules.specs.Reading.{Reading, accepted, refused, refusal, read}
-use Rattle.rules.specs.Answers.{Judgement, judge, judgeReading, judgeLog, numbersOfJudgement, recordsOfReading, Writing, written, unwritten, write, writeReading, bytesOfWriting, over}
+use Rattle.rules.specs.Answers.{Judgement, judged, unjudged, judge, judgeReading, judgeLog, numbersOfJudgement, recordsOfReading, Writing, written, unwritten, write, writeReading, bytesOfWriting, over}
 use Rattle.rules.proofs.LogLaws.{front}
 use Rattle.rules.proofs.Tests.{so}
 use Rattle.rules.proofs.Format.{of-valid, accepted-exactly}
@@ -179,3 +179,117 @@ module _ {s : Text} {t : Totals} {first : ℕ} {ps ns : List ℕ} (w : Writable 
       pub written-slice : slice' ≡ writtenAfterwards s slice
       unfolding bytesOfWriting
       written-slice = rw writes (put-result .list ∙ laid-over)
+
+-- # From the judge's answer
+
+-- What is laid over a slice is its front.
+front-over : (new slice : List ℕ) (n : ℕ) → n ≡ length new → take n (over new slice) ≡ new
+unfolding over
+front-over new slice n e = take-at new (drop (length new) slice) n (sym e)
+
+not-done : {t : Totals} {records first : ℕ} {r : Refusal} → Weighed.Refused r ≡ Weighed.Done t records first → ⊥
+not-done e = let z : _≡_ {A = ℕ} 0 1 = cc in omega arith
+
+-- With room for 999 verdicts a log is refused by the judge only where it is refused by the reader.
+module _ (s : Text) (room : ℕ) (enough : 999 ≤ room) where
+  judged-by : (log : Log) → read base s ≡ accepted log → judge base room s ≡ judged (totalsOfLog base log) (map verdictNumber (verdictsOfLog base log))
+  unfolding judge judgeReading judgeLog base
+  judged-by log e =
+      let most = count-valid base log (accepted-exactly s log .0 e .0) in
+      rw (e, le-ltb room (length (log .records)) (omega arith))
+
+  weighed-by : (log : Log) → read base s ≡ accepted log → weighedOf room s ≡ Weighed.Done (totalsOfLog base log) (length (log .records)) (firstOf s (accepted log))
+  unfolding weighedOf weighedBy recordsOfReading
+  weighed-by log e = rw (judged-by log e, e)
+
+  refused-by : (r : Refusal) → read base s ≡ refused r → weighedOf room s ≡ Weighed.Refused r
+  unfolding weighedOf weighedBy judge judgeReading
+  refused-by r e = rw e
+
+  -- What the judge has told of a log is what writing asks for.
+  module _ {t : Totals} {n first : ℕ} (h : weighedOf room s ≡ Weighed.Done t n first) where
+    log-read : (log : Log) × (read base s ≡ accepted log)
+    log-read = by (read base s) refl
+      where
+        by : (x : Reading) → read base s ≡ x → (log : Log) × (read base s ≡ accepted log)
+        by (accepted log) e = (log, e)
+        by (refused r) e = absurd (not-done {r = r} (sym (refused-by r e) ∙ h))
+
+    abbrev known : Weighed.Done t n first ≡ Weighed.Done (totalsOfLog base (log-read .0)) (length ((log-read .0) .records)) (firstOf s (accepted (log-read .0)))
+    known = sym h ∙ weighed-by (log-read .0) (log-read .1)
+
+    many : n ≡ length ((log-read .0) .records)
+    many = let e = known in cc
+
+    pub few-told : n ≤ 999
+    unfolding base
+    few-told =
+        let most = count-valid base (log-read .0) (accepted-exactly s (log-read .0) .0 (log-read .1) .0) in
+        omega (arith, many)
+
+    as-told : length (verdictsOfLog base (log-read .0)) ≡ length ((log-read .0) .records)
+    unfolding verdictsOfLog
+    as-told = length-verdicts base ((log-read .0) .records)
+
+    numbers-are : (slice : List ℕ) {numbers : List ℕ} → length slice ≡ room → numbers ≡ verdictsAfterwards s slice → take n numbers ≡ map verdictNumber (verdictsOfLog base (log-read .0))
+    unfolding numbersOfJudgement
+    numbers-are slice l e =
+        let log = log-read .0 in
+        let new : List ℕ = map verdictNumber (verdictsOfLog base log) in
+        let told : numbersOfJudgement (judge base (length slice) s) ≡ new = ap (λ (m : ℕ). numbersOfJudgement (judge base m s)) l ∙ ap numbersOfJudgement (judged-by log (log-read .1)) in
+        ap (take n) (e ∙ ap (λ (x : List ℕ). over x slice) told)
+        ∙ front-over new slice n (many ∙ sym (length-map (verdictsOfLog base log) verdictNumber ∙ as-told))
+
+    places-told : (slice : List ℕ) {points : List ℕ} → points ≡ pointsAfterwards room s slice → take n points ≡ pointsPlaces s first n
+    unfolding pointsTold
+    places-told slice e =
+        ap (take n) (e ∙ ap (λ (x : Weighed). over (pointsTold s x) slice) h)
+        ∙ front-over (pointsPlaces s first n) slice n (sym (length-places s first n))
+
+    -- So many verdicts and places are there.
+    pub many-numbers : (slice : List ℕ) {numbers : List ℕ} → length slice ≡ room → numbers ≡ verdictsAfterwards s slice → n ≤ length numbers
+    many-numbers slice {numbers} l e =
+        let log = log-read .0 in
+        omega (
+          arith,
+          ap length (numbers-are slice l e),
+          length-take n numbers,
+          many,
+          length-map (verdictsOfLog base log) verdictNumber,
+          as-told,
+        )
+
+    pub many-points : (slice : List ℕ) {points : List ℕ} → points ≡ pointsAfterwards room s slice → n ≤ length points
+    many-points slice {points} e = omega (arith, ap length (places-told slice e), length-take n points, length-places s first n)
+
+    pub writable : (slice places : List ℕ) {numbers points : List ℕ} →
+        length slice ≡ room →
+        numbers ≡ verdictsAfterwards s slice →
+        points ≡ pointsAfterwards room s places →
+        Writable s t first (take n points) (take n numbers)
+    writable slice places l v p =
+        record {
+          log = log-read .0;
+          isRead = log-read .1;
+          totals = let e = known in cc;
+          place = let e = known in cc;
+          places = places-told places p ∙ ap (pointsPlaces s first) many;
+          verdicts = numbers-are slice l v;
+        }
+
+  -- The refusal is the reader's.
+  module _ {r : Refusal} (h : weighedOf room s ≡ Weighed.Refused r) where
+    unread : read base s ≡ refused r
+    unread = by (read base s) refl
+      where
+        by : (x : Reading) → read base s ≡ x → read base s ≡ refused r
+        by (accepted log) e = absurd (not-done {r = r} (sym h ∙ weighed-by log e))
+        by (refused q) e = let k : Weighed.Refused q ≡ Weighed.Refused r = sym (refused-by q e) ∙ h in let i : q ≡ r = cc in e ∙ ap refused i
+
+    pub unread-answer : (slice : List ℕ) → Wrote.Refused r ≡ wroteOf (length slice) s
+    unfolding wroteOf wroteBy write writeReading
+    unread-answer slice = rw unread
+
+    pub unread-slice : (slice : List ℕ) → slice ≡ writtenAfterwards s slice
+    unfolding write writeReading bytesOfWriting over
+    unread-slice slice = rw unread

@@ -16,6 +16,7 @@ ghost use Rattle.writer.specs.Written.{Puts};
 ghost use Rattle.writer.specs.ClaimsText.{lineBehind, claimsText, ClaimsLie};
 ghost use Rattle.writer.specs.RecordText.{markText, marksText, pointsText, recordText, numberedText, recordsText, RecordLies, RecordsLie};
 ghost use Rattle.writer.specs.LogText.{wroteOf, writtenAfterwards, Writable};
+use judge::Weighed;
 use places::Tail;
 use rules::Class;
 use rules::Refusal;
@@ -402,4 +403,28 @@ fn write_weighed(
     }
     let at = put_claims(out, log, first, line, &claims);
     Wrote::Length(put_records(out, at, log, first, points, numbers))
+}
+
+// A log is read, judged and written back to the front of the slice. On a refusal no byte of the slice is changed.
+pub fn write(log: &[u8], out: &mut [u8]) -> Wrote
+    ensures answer { λ r. ⌜ r ≡ wroteOf (length (now (out .entry))) (now (log .entry)) ⌝ }
+    ensures slice { λ r. ⌜ now (out .exit) ≡ writtenAfterwards (now (log .entry)) (now (out .entry)) ⌝ }
+{
+    let mut verdicts = [0u8; 999];
+    let mut points = [0u16; 999];
+    match judge::weigh(log, &mut verdicts, &mut points) {
+        Weighed::Done {
+            totals,
+            records,
+            first,
+        } => write_weighed(
+            log,
+            totals,
+            first,
+            &points[..records],
+            &verdicts[..records],
+            out,
+        ),
+        Weighed::Refused(r) => Wrote::Refused(r),
+    }
 }

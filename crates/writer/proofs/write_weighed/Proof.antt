@@ -68,7 +68,7 @@ put-records-requires c κs =
     let put = c .before .before .before .put-claims .ensures in (
       (all-lie w, same-many w),
       puts-room put (recordsText (now (a .log)) (a .first) (now (a .points)) (now (a .numbers)))
-      (omega (arith, c .before .before .before .before .before .before .if2 .left, c .before .before .before .before .before .before .before .before .before .claims-length .ensures .0, c .before .before .before .before .before .before .before .before .records-length .ensures .0)),
+          (omega (arith, c .before .before .before .before .before .before .if2 .left, c .before .before .before .before .before .before .before .before .before .claims-length .ensures .0, c .before .before .before .before .before .before .before .before .records-length .ensures .0)),
     )
 
 same-length : tie.Need-same-length
