@@ -383,7 +383,7 @@ fn judge_next(
     }
 }
 
-fn no_totals() -> Totals
+pub fn no_totals() -> Totals
     ensures { λ r. ⌜ r ≡ zeroTotals ⌝ }
 {
     Totals {

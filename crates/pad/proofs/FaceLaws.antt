@@ -1,0 +1,95 @@
+-- From the answers of the crates below to those of the C face: each kind of answer has its face, and it is that of the definition.
+-- Assumes nothing.
+use Prim.Native.Nat.{ℕ}
+use mathlib.Core.Path.{_≡_, refl, ap, ap₂, _∙_}
+use lib.ListN.{length}
+use Rattle.rules.specs.declared.Refusal.{Refusal}
+use Rattle.rules.specs.declared.Totals.{Totals}
+use Rattle.rules.specs.Text.{Text}
+use Rattle.rules.specs.Rules.{base}
+use Rattle.rules.specs.Judging.{zeroTotals}
+use Rattle.rules.specs.Reading.{Reading, accepted, refused, read}
+use Rattle.rules.specs.Answers.{Viewing, seen, unseen, view, Judgement, judged, unjudged, judge, noRefusal}
+use Rattle.reader.specs.declared.ReadAnswer.{ReadAnswer}
+use Rattle.reader.specs.declared.ReadAnswer.the-variants as ReadAnswer
+use Rattle.reader.specs.Read.{readTold, readOf}
+use Rattle.places.specs.declared.ViewRead.{ViewRead}
+use Rattle.places.specs.declared.ViewRead.the-variants as ViewRead
+use Rattle.places.specs.Places.{viewTold, viewOf}
+use Rattle.judge.specs.declared.Judged.{Judged}
+use Rattle.judge.specs.declared.Judged.the-variants as Judged
+use Rattle.judge.specs.Judge.{judgedBy, judgedOf}
+use Rattle.pad.specs.declared.SumpquinceRefusal.{SumpquinceRefusal}
+use Rattle.pad.specs.declared.SumpquinceReading.{SumpquinceReading}
+use Rattle.pad.specs.declared.SumpquinceView.{SumpquinceView}
+use Rattle.pad.specs.declared.SumpquinceJudgement.{SumpquinceJudgement}
+use Rattle.pad.specs.Face.{refusalFace, readingFace, viewFace, totalsFace, judgementFace}
+
+-- # Reading
+
+abbrev aReading : ℕ → SumpquinceRefusal → SumpquinceReading
+aReading n f = record { refusal = f; records = n }
+
+abbrev readingShown : ReadAnswer → SumpquinceReading
+readingShown (ReadAnswer.Accepted n first) = aReading n (refusalFace noRefusal)
+readingShown (ReadAnswer.Refused r) = aReading 0 (refusalFace r)
+
+module _ (s : Text) where
+  reading-shown : readingShown (readOf s) ≡ readingFace (read base s)
+  unfolding readOf readingFace
+  reading-shown = by (read base s)
+    where
+      by : (r : Reading) → readingShown (readTold (length s) r) ≡ readingFace r
+      by (accepted log) = refl
+      by (refused r) = refl
+
+  pub records-shown : {f : SumpquinceRefusal} {n first : ℕ} → f ≡ refusalFace noRefusal → ReadAnswer.Accepted n first ≡ readOf s → aReading n f ≡ readingFace (read base s)
+  records-shown {n = n} e a = ap (aReading n) e ∙ ap readingShown a ∙ reading-shown
+
+  pub unread-shown : {f : SumpquinceRefusal} {r : Refusal} → f ≡ refusalFace r → ReadAnswer.Refused r ≡ readOf s → aReading 0 f ≡ readingFace (read base s)
+  unread-shown e a = ap (aReading 0) e ∙ ap readingShown a ∙ reading-shown
+
+-- # Views
+
+abbrev aView : ℕ → ℕ → SumpquinceRefusal → SumpquinceView
+aView start n f = record { refusal = f; start = start; length = n }
+
+abbrev viewShown : ViewRead → SumpquinceView
+viewShown (ViewRead.Seen start n) = aView start n (refusalFace noRefusal)
+viewShown (ViewRead.Refused r) = aView 0 0 (refusalFace r)
+
+module _ (k : ℕ) (s : Text) where
+  view-shown : viewShown (viewOf k s) ≡ viewFace (view base k s)
+  unfolding viewOf viewFace
+  view-shown = by (view base k s)
+    where
+      by : (v : Viewing) → viewShown (viewTold v) ≡ viewFace v
+      by (seen start t) = refl
+      by (unseen r) = refl
+
+  pub seen-shown : {f : SumpquinceRefusal} {start n : ℕ} → f ≡ refusalFace noRefusal → ViewRead.Seen start n ≡ viewOf k s → aView start n f ≡ viewFace (view base k s)
+  seen-shown {start = start} {n = n} e a = ap (aView start n) e ∙ ap viewShown a ∙ view-shown
+
+  pub unseen-shown : {f : SumpquinceRefusal} {r : Refusal} → f ≡ refusalFace r → ViewRead.Refused r ≡ viewOf k s → aView 0 0 f ≡ viewFace (view base k s)
+  unseen-shown e a = ap (aView 0 0) e ∙ ap viewShown a ∙ view-shown
+
+-- # Judging
+
+abbrev judgementShown : Judged → SumpquinceJudgement
+judgementShown (Judged.Totals t) = totalsFace (refusalFace noRefusal) t
+judgementShown (Judged.Refused r) = totalsFace (refusalFace r) zeroTotals
+
+module _ (room : ℕ) (s : Text) where
+  judgement-shown : judgementShown (judgedOf room s) ≡ judgementFace (judge base room s)
+  unfolding judgedOf judgementFace
+  judgement-shown = by (judge base room s)
+    where
+      by : (j : Judgement) → judgementShown (judgedBy j) ≡ judgementFace j
+      by (judged t vs) = refl
+      by (unjudged r) = refl
+
+  pub totals-shown : {j : SumpquinceJudgement} {f : SumpquinceRefusal} {t : Totals} → j ≡ totalsFace f t → f ≡ refusalFace noRefusal → Judged.Totals t ≡ judgedOf room s → j ≡ judgementFace (judge base room s)
+  totals-shown {t = t} e g a = e ∙ ap (λ (f : SumpquinceRefusal). totalsFace f t) g ∙ ap judgementShown a ∙ judgement-shown
+
+  pub unjudged-shown : {j : SumpquinceJudgement} {f : SumpquinceRefusal} {r : Refusal} {t : Totals} → j ≡ totalsFace f t → f ≡ refusalFace r → t ≡ zeroTotals → Judged.Refused r ≡ judgedOf room s → j ≡ judgementFace (judge base room s)
+  unjudged-shown e g z a = e ∙ ap₂ totalsFace g z ∙ ap judgementShown a ∙ judgement-shown

@@ -1,0 +1,46 @@
+-- The answers of include/sumpquince.h, by the definitions of document 01: the refusal, number 0 where nothing is refused, and behind it the
+-- numbers of the answer, each 0 on a refusal.
+-- Assumes nothing.
+use lib.ListN.{length}
+use Rattle.rules.specs.declared.Refusal.{Refusal}
+use Rattle.rules.specs.declared.Totals.{Totals}
+use Rattle.rules.specs.Reading.{Reading}
+use Rattle.rules.specs.Answers.{Viewing, Judgement, refusalOfReading, recordsOfReading, refusalOfView, startOfView, viewed, refusalOfJudgement, totalsOfJudgement}
+use Rattle.pad.specs.declared.SumpquinceRefusal.{SumpquinceRefusal}
+use Rattle.pad.specs.declared.SumpquinceReading.{SumpquinceReading}
+use Rattle.pad.specs.declared.SumpquinceView.{SumpquinceView}
+use Rattle.pad.specs.declared.SumpquinceJudgement.{SumpquinceJudgement}
+
+unfoldable pub refusalFace : Refusal → SumpquinceRefusal
+refusalFace r = record { number = r .number; line = r .line; field = r .field }
+
+unfoldable pub readingFace : Reading → SumpquinceReading
+unfolding refusalFace refusalOfReading recordsOfReading
+readingFace r = record { refusal = refusalFace (refusalOfReading r); records = recordsOfReading r }
+
+unfoldable pub viewFace : Viewing → SumpquinceView
+unfolding refusalFace refusalOfView startOfView viewed
+viewFace v = record { refusal = refusalFace (refusalOfView v); start = startOfView v; length = length (viewed v) }
+
+-- The twelve totals, behind a refusal.
+unfoldable pub totalsFace : SumpquinceRefusal → Totals → SumpquinceJudgement
+totalsFace refusal t =
+    record {
+      refusal = refusal;
+      credited = t .credited;
+      voids = t .voids;
+      duplicates = t .duplicates;
+      errors = t .errors;
+      points = t .points;
+      squares = t .squares;
+      exchanges = t .exchanges;
+      countries = t .countries;
+      squarebonus = t .squarebonus;
+      exchangebonus = t .exchangebonus;
+      countrybonus = t .countrybonus;
+      total = t .total;
+    }
+
+unfoldable pub judgementFace : Judgement → SumpquinceJudgement
+unfolding totalsFace refusalFace refusalOfJudgement totalsOfJudgement
+judgementFace j = totalsFace (refusalFace (refusalOfJudgement j)) (totalsOfJudgement j)

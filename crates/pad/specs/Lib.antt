@@ -1,0 +1,2 @@
+-- What the C face answers.
+pub mod Face

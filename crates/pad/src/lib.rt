@@ -1,0 +1,137 @@
+// The C face: the functions of include/sumpquince.h, which says in words what each of them answers. A slice is a pointer and a length there, and
+// a struct is handed back by value. Nothing is decided here: the answers of the crates below are put in C's shapes.
+
+ghost use mathlib.Core.Path.{_≡_};
+ghost use lib.ListN.{length};
+ghost use Rattle.rules.specs.Rules.{base};
+ghost use Rattle.rules.specs.Reading.{read};
+ghost use Rattle.rules.specs.Answers.{noRefusal, view, judge, numbersOfJudgement, over};
+ghost use Rattle.pad.specs.Face.{refusalFace, readingFace, viewFace, totalsFace, judgementFace};
+use judge::Judged;
+use places::ViewRead;
+use reader::ReadAnswer;
+use rules::Refusal;
+use rules::Totals;
+
+#[repr(C)]
+pub struct SumpquinceRefusal {
+    pub number: u32,
+    pub line: u32,
+    pub field: u32,
+}
+
+#[repr(C)]
+pub struct SumpquinceReading {
+    pub refusal: SumpquinceRefusal,
+    pub records: u64,
+}
+
+#[repr(C)]
+pub struct SumpquinceView {
+    pub refusal: SumpquinceRefusal,
+    pub start: u64,
+    pub length: u64,
+}
+
+#[repr(C)]
+pub struct SumpquinceJudgement {
+    pub refusal: SumpquinceRefusal,
+    pub credited: u64,
+    pub voids: u64,
+    pub duplicates: u64,
+    pub errors: u64,
+    pub points: u64,
+    pub squares: u64,
+    pub exchanges: u64,
+    pub countries: u64,
+    pub squarebonus: u64,
+    pub exchangebonus: u64,
+    pub countrybonus: u64,
+    pub total: u64,
+}
+
+// Nothing is refused.
+fn no_refusal() -> SumpquinceRefusal
+    ensures { λ f. ⌜ f ≡ refusalFace noRefusal ⌝ }
+{
+    SumpquinceRefusal {
+        number: 0,
+        line: 0,
+        field: 0,
+    }
+}
+
+fn refusal_face(r: Refusal) -> SumpquinceRefusal
+    ensures { λ f. ⌜ f ≡ refusalFace r ⌝ }
+{
+    SumpquinceRefusal {
+        number: r.number,
+        line: r.line,
+        field: r.field,
+    }
+}
+
+fn totals_face(refusal: SumpquinceRefusal, t: Totals) -> SumpquinceJudgement
+    ensures { λ f. ⌜ f ≡ totalsFace refusal t ⌝ }
+{
+    SumpquinceJudgement {
+        refusal: refusal,
+        credited: t.credited,
+        voids: t.voids,
+        duplicates: t.duplicates,
+        errors: t.errors,
+        points: t.points,
+        squares: t.squares,
+        exchanges: t.exchanges,
+        countries: t.countries,
+        squarebonus: t.squarebonus,
+        exchangebonus: t.exchangebonus,
+        countrybonus: t.countrybonus,
+        total: t.total,
+    }
+}
+
+#[no_mangle]
+pub extern "C" fn sumpquince_read(log: &[u8]) -> SumpquinceReading
+    ensures { λ r. ⌜ r ≡ readingFace (read base (now (log .entry))) ⌝ }
+{
+    match reader::read(log) {
+        ReadAnswer::Accepted { records, first: _ } => SumpquinceReading {
+            refusal: no_refusal(),
+            records: records as u64,
+        },
+        ReadAnswer::Refused(r) => SumpquinceReading {
+            refusal: refusal_face(r),
+            records: 0,
+        },
+    }
+}
+
+#[no_mangle]
+pub extern "C" fn sumpquince_view(log: &[u8], keyword: usize) -> SumpquinceView
+    ensures { λ r. ⌜ r ≡ viewFace (view base keyword (now (log .entry))) ⌝ }
+{
+    match places::view(log, keyword) {
+        ViewRead::Seen { start, length } => SumpquinceView {
+            refusal: no_refusal(),
+            start: start as u64,
+            length: length as u64,
+        },
+        ViewRead::Refused(r) => SumpquinceView {
+            refusal: refusal_face(r),
+            start: 0,
+            length: 0,
+        },
+    }
+}
+
+#[no_mangle]
+pub extern "C" fn sumpquince_judge(log: &[u8], verdicts: &mut [u8]) -> SumpquinceJudgement
+    ensures answer { λ r. ⌜ r ≡ judgementFace (judge base (length (now (verdicts .entry))) (now (log .entry))) ⌝ }
+    ensures slice { λ r. ⌜ now (verdicts .exit) ≡ over (numbersOfJudgement (judge base (length (now (verdicts .entry))) (now (log .entry)))) (now (verdicts .entry)) ⌝ }
+{
+    match judge::judge(log, verdicts) {
+        Judged::Totals(t) => totals_face(no_refusal(), t),
+        Judged::Refused(r) => totals_face(refusal_face(r), judge::no_totals()),
+    }
+}

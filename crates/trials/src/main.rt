@@ -1,0 +1,227 @@
+// Runs the library on the logs of data/ and prints what it answers: the fourteen cases of document 01, and the samples of its sources. What has
+// to come out stands in the file stdout. The comments in `main` say where each answer comes from; tests/reference holds every one of them to the
+// second judge (tests/trials.rs there).
+
+ghost use Rattle.io.specs.Counts.{Counts};
+use judge::Judged;
+use libc::STDOUT_FILENO;
+use places::ViewRead;
+use reader::ReadAnswer;
+use rules::Refusal;
+use rules::Totals;
+
+fn say(text: &[u8]) {
+    io::write_all(STDOUT_FILENO, text);
+}
+
+// A word and a number behind it.
+fn show(word: &[u8], n: u64) {
+    say(word);
+    io::print_decimal(STDOUT_FILENO, n);
+}
+
+fn show_refusal(r: Refusal) {
+    show(b" refused ", r.number as u64);
+    show(b" ", r.line as u64);
+    show(b" ", r.field as u64);
+    say(b"\n");
+}
+
+// What reading answers; how many records there are, none where the log is refused.
+fn show_read(log: &[u8]) -> usize {
+    say(b"  read:");
+    match reader::read(log) {
+        ReadAnswer::Accepted { records, first: _ } => {
+            show(b" records ", records as u64);
+            say(b"\n");
+            records
+        }
+        ReadAnswer::Refused(r) => {
+            show_refusal(r);
+            0
+        }
+    }
+}
+
+fn show_totals(t: Totals) {
+    show(b" credited ", t.credited);
+    show(b" voids ", t.voids);
+    show(b" duplicates ", t.duplicates);
+    show(b" errors ", t.errors);
+    show(b" points ", t.points);
+    show(b" squares ", t.squares);
+    show(b" exchanges ", t.exchanges);
+    show(b" countries ", t.countries);
+    show(b" bonuses ", t.squarebonus);
+    show(b" ", t.exchangebonus);
+    show(b" ", t.countrybonus);
+    show(b" total ", t.total);
+    say(b"\n");
+}
+
+fn show_verdict(verdict: u8) {
+    show(b" ", verdict as u64);
+}
+
+// The first n verdicts, or of many the first thirty.
+fn show_verdicts(verdicts: &[u8], n: usize) {
+    say(b"  verdicts:");
+    let mut i = 0;
+    while i < verdicts.len() {
+        if n <= i {
+            break;
+        }
+        if i == 30 {
+            say(b" ..");
+            break;
+        }
+        show_verdict(verdicts[i]);
+        i += 1;
+    }
+    say(b"\n");
+}
+
+fn show_judged(log: &[u8], records: usize) {
+    let mut verdicts = [0u8; 999];
+    let answer = judge::judge(log, &mut verdicts);
+    say(b"  judged:");
+    match answer {
+        Judged::Totals(t) => {
+            show_totals(t);
+            show_verdicts(&verdicts, records);
+        }
+        Judged::Refused(r) => show_refusal(r),
+    }
+}
+
+// Reads the file of this name, and answers how many bytes it put at the start of log.
+fn load(name: &[u8], log: &mut [u8]) -> usize
+    ensures { λ r. ⌜ Counts r (now (log .exit)) ⌝ }
+{
+    say(name);
+    let fd = os::open_read(name);
+    if fd < 0 {
+        say(b" cannot be opened\n");
+        return 0;
+    }
+    say(b"\n");
+    let n = io::read_full(fd, log);
+    libc::close(fd);
+    n
+}
+
+// What is answered of a log: by reading and by judging.
+fn answers(name: &[u8]) {
+    let mut log = io::large_buffer();
+    let n = load(name, &mut log);
+    let records = show_read(&log[..n]);
+    show_judged(&log[..n], records);
+}
+
+// What is answered of a log when a keyword is viewed: where its argument starts, how long it is, and the argument.
+fn argument(name: &[u8], keyword: usize) {
+    let mut log = io::large_buffer();
+    let n = load(name, &mut log);
+    show(b"  view ", keyword as u64);
+    say(b":");
+    match places::view(&log[..n], keyword) {
+        ViewRead::Seen { start, length } => {
+            show(b" start ", start as u64);
+            show(b" length ", length as u64);
+            say(b" ");
+            say(places::viewed(&log[..n], keyword));
+            say(b"\n");
+        }
+        ViewRead::Refused(r) => show_refusal(r),
+    }
+}
+
+// The cases of document 01, by their numbers. Their logs have the header of case 12; its lines are 1 to 38, so the count line is 39, or 40 behind
+// a remark, and the first record stands on the line after it.
+fn cases() {
+    // 2, line 1.
+    answers(b"01-empty.edi");
+    // Accepted, total 0.
+    answers(b"02-no-records.edi");
+    // The count line with 999 meets its rule, so that a record is missing behind it; with 1000 it gives 4.
+    answers(b"03-count-999.edi");
+    answers(b"03-count-1000.edi");
+    // All 999 records, each with a call, a square and an exchange of its own, a country, and as many points as there can be; bonuses of 9999 and
+    // multipliers of 99: so the total is the largest, 998,404,684,715,196.
+    answers(b"03-999-records.edi");
+    // 75 characters are accepted, 76 are refused 2.
+    answers(b"04-remark-75.edi");
+    answers(b"04-remark-76.edi");
+    // 240229 is valid, 230229 is refused 5, field 1.
+    answers(b"05-date-240229.edi");
+    answers(b"05-date-230229.edi");
+    // 2359 is valid, 2400 is refused, field 2.
+    answers(b"06-time-2359.edi");
+    answers(b"06-time-2400.edi");
+    // Refused, field 3.
+    answers(b"07-call-of-two.edi");
+    // Refused, field 11.
+    answers(b"08-error-with-points.edi");
+    // JO65FR and JO65 are one square, so the second brings no square; JS65 is refused, field 10.
+    answers(b"09-one-square.edi");
+    answers(b"09-js65.edi");
+    // Refused, field 11.
+    answers(b"10-points-007.edi");
+    // 6, at the line of the record that is missing, and of the first byte too many.
+    answers(b"11-one-of-two.edi");
+    answers(b"11-three-of-two.edi");
+    // Verdicts 96, 64, 3, 2, 1; total 700. What it is written back as has the same verdicts and total.
+    answers(b"12-spring.edi");
+    answers(b"12-written.edi");
+    // The first record struck: the repeat is credited, total 700. Written back first, and then struck: total 580.
+    answers(b"13-struck.edi");
+    answers(b"13-written-struck.edi");
+    // 24 credited, 11579 points, 19 squares, 7 countries.
+    answers(b"14-sample.edi");
+}
+
+// Views of the log of case 12, and 9 before everything else. A refused log has none.
+fn views() {
+    argument(b"12-spring.edi", 1);
+    argument(b"12-spring.edi", 5);
+    argument(b"12-spring.edi", 36);
+    argument(b"12-spring.edi", 37);
+    argument(b"01-empty.edi", 1);
+    argument(b"01-empty.edi", 0);
+}
+
+// The samples of the sources. As printed, with a bare LF behind each line, they have no first line. With CR LF they are refused where they
+// leave the format of 001: those of 000 misspell SAntH, the 26th keyword; the fourth remark of 001 has 76 characters; those of 003 have several
+// keywords on line 7, which is too long.
+fn samples() {
+    answers(b"000-1-lf.edi");
+    answers(b"001-lf.edi");
+    answers(b"003-1-lf.edi");
+    answers(b"000-1.edi");
+    answers(b"000-2.edi");
+    answers(b"000-3.edi");
+    answers(b"000-4.edi");
+    answers(b"000-5.edi");
+    answers(b"001.edi");
+    answers(b"003-1.edi");
+    answers(b"003-2.edi");
+    // Those of 000 mended by hand: the spelling of 001 (SAntH, CQSOs), IP62OA with the letter O, the semicolons that their ERROR records lack,
+    // and none of the lines that the layout put in. They claim 24 contacts, 19 squares and 7 countries (the last 8), exchanges where there are
+    // any, and 11579 points, or 24 where a contact is one point; all that is so, but the last has 20 squares. Of the totals that they claim only
+    // the first and the third are sums as in document 01.
+    answers(b"000-1-mended.edi");
+    answers(b"000-2-mended.edi");
+    answers(b"000-3-mended.edi");
+    answers(b"000-4-mended.edi");
+    answers(b"000-5-mended.edi");
+    // Those of 003 with a line for each keyword and record. They claim what a longer log had: of their six records four are credited, in four
+    // squares, with three exchanges, for `0` is one, and three countries.
+    answers(b"003-1-mended.edi");
+    answers(b"003-2-mended.edi");
+}
+
+fn main() {
+    cases();
+    views();
+    samples();
+}

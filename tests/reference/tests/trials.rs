@@ -1,0 +1,123 @@
+//! The answers that crates/trials is held to are those of this judge too.
+//!
+//! crates/trials prints, for each log in its folder `data`, the log's name and
+//! what the proved library answers. What it has to print is kept in its file
+//! `stdout`, which is read here and held to the answers of the reference.
+
+use reference::{judge, read, view, Refusal, Totals};
+use std::collections::BTreeSet;
+use std::fs;
+use std::path::PathBuf;
+
+/// The longest line of verdicts.
+const VERDICTS_SHOWN: usize = 30;
+
+fn kept(path: &str) -> PathBuf {
+    PathBuf::from(env!("CARGO_MANIFEST_DIR")).join("../..").join(path)
+}
+
+fn log_named(name: &str) -> Vec<u8> {
+    fs::read(kept("crates/trials/data").join(name)).unwrap()
+}
+
+fn refused(label: &str, refusal: Refusal) -> String {
+    format!("  {label}: refused {} {} {}\n", refusal.number, refusal.line, refusal.field)
+}
+
+fn totals_told(totals: &Totals) -> String {
+    let words = [
+        "credited", "voids", "duplicates", "errors", "points", "squares", "exchanges",
+        "countries", "bonuses", "", "", "total",
+    ];
+    let mut text = String::new();
+    for (word, number) in words.iter().zip(totals.as_list()) {
+        text += if word.is_empty() { "" } else { " " };
+        text += &format!("{word} {number}");
+    }
+    text
+}
+
+fn verdicts_told(verdicts: &[u8]) -> String {
+    let shown = verdicts.iter().take(VERDICTS_SHOWN);
+    let mut text: String = shown.map(|verdict| format!(" {verdict}")).collect();
+    if verdicts.len() > VERDICTS_SHOWN {
+        text += " ..";
+    }
+    text
+}
+
+fn answers(log: &[u8]) -> String {
+    let mut text = match read(log) {
+        Ok(log) => format!("  read: records {}\n", log.records.len()),
+        Err(refusal) => refused("read", refusal),
+    };
+    text += &match judge(log, 999) {
+        Ok((totals, verdicts)) => {
+            format!("  judged:{}\n  verdicts:{}\n", totals_told(&totals), verdicts_told(&verdicts))
+        }
+        Err(refusal) => refused("judged", refusal),
+    };
+    text
+}
+
+fn argument(log: &[u8], keyword: usize) -> String {
+    match view(log, keyword) {
+        Ok((start, length)) => {
+            let argument = std::str::from_utf8(&log[start..start + length]).unwrap();
+            format!("  view {keyword}: start {start} length {length} {argument}\n")
+        }
+        Err(refusal) => refused(&format!("view {keyword}"), refusal),
+    }
+}
+
+/// The keyword that a line of a view names.
+fn keyword_of(line: &str) -> Option<usize> {
+    let (number, _) = line.strip_prefix("  view ")?.split_once(':')?;
+    number.parse().ok()
+}
+
+/// A log's name and the lines that tell of it, for each of them in turn.
+fn blocks(text: &str) -> Vec<(String, String)> {
+    let mut blocks: Vec<(String, String)> = Vec::new();
+    for line in text.split_inclusive('\n') {
+        match line.strip_prefix("  ") {
+            Some(_) => blocks.last_mut().unwrap().1 += line,
+            None => blocks.push((line.trim_end().to_string(), String::new())),
+        }
+    }
+    blocks
+}
+
+#[test]
+fn the_trials_are_answered_alike() {
+    let text = fs::read_to_string(kept("crates/trials/stdout")).unwrap();
+    for (name, told) in blocks(&text) {
+        let log = log_named(&name);
+        let wanted = match keyword_of(&told) {
+            Some(keyword) => argument(&log, keyword),
+            None => answers(&log),
+        };
+        assert_eq!(told, wanted, "{name}");
+    }
+}
+
+#[test]
+fn every_log_is_tried() {
+    let text = fs::read_to_string(kept("crates/trials/stdout")).unwrap();
+    let tried: BTreeSet<String> = blocks(&text).into_iter().map(|(name, _)| name).collect();
+    let files = fs::read_dir(kept("crates/trials/data")).unwrap();
+    let logs = files.map(|file| file.unwrap().file_name().into_string().unwrap()).collect();
+    assert_eq!(tried, logs);
+}
+
+/// A log that stands in two places of the repository is the same in both.
+#[test]
+fn copies_are_the_same() {
+    for (name, copy) in [
+        ("12-spring.edi", "samples/spring.edi"),
+        ("12-spring.edi", "crates/desk/stdin"),
+        ("001.edi", "tests/reference/samples/region1-1995.edi"),
+    ] {
+        assert_eq!(log_named(name), fs::read(kept(copy)).unwrap(), "{copy}");
+    }
+}
