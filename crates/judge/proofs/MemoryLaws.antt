@@ -96,9 +96,9 @@ pub stepped : (s : Text) (c : Contact) (kept : Kept) (v : Verdict)
     v ≡ verdictBy (memory s kept cs ce ss se xs xe) s c →
     n ≡ classNumber (v .class) →
     end ≡ squareEnd (c .locator) (c .locatorend) →
-    Keeps cs ce (kept .calls) (c .call) (c .callend) (eqb 0 n) cs' ce' calls →
-    Keeps ss se (kept .squares) (c .locator) end (v .square) ss' se' squares →
-    Keeps xs xe (kept .exchanges) (c .exchange) (c .exchangeend) (v .exchange) xs' xe' exchanges →
+    Keeps s cs ce (kept .calls) (c .call) (c .callend) (eqb 0 n) cs' ce' calls →
+    Keeps s ss se (kept .squares) (c .locator) end (v .square) ss' se' squares →
+    Keeps s xs xe (kept .exchanges) (c .exchange) (c .exchangeend) (v .exchange) xs' xe' exchanges →
     Steps s c kept (memory s kept cs ce ss se xs xe)
     (record { verdict = v; kept = record { calls = calls; squares = squares; exchanges = exchanges } })
     (memory s (record { calls = calls; squares = squares; exchanges = exchanges }) cs' ce' ss' se' xs' xe')
@@ -108,9 +108,9 @@ stepped s c kept v {cs = cs} {ce = ce} {ss = ss} {se = se} e k j a b d =
       verdict = e;
       memory = λ i.
           record {
-            calls = (a .texts s ∙ ap (λ (x : ℕ). keptWith (eqb 0 x) (callOf s c) (keptTexts s cs ce (kept .calls))) k) i;
-            squares = (b .texts s ∙ ap (λ (x : ℕ). keptWith (v .square) (between s (c .locator) x) (keptTexts s ss se (kept .squares))) j) i;
-            exchanges = d .texts s i;
+            calls = (a .texts ∙ ap (λ (x : ℕ). keptWith (eqb 0 x) (callOf s c) (keptTexts s cs ce (kept .calls))) k) i;
+            squares = (b .texts ∙ ap (λ (x : ℕ). keptWith (v .square) (between s (c .locator) x) (keptTexts s ss se (kept .squares))) j) i;
+            exchanges = d .texts i;
           };
       calls = a .more;
       squares = b .more;
@@ -123,15 +123,15 @@ pub stays-on : (s : Text) (c : Contact) (kept : Kept) (v : Verdict)
     Placed s c →
     Stays s kept cs ce ss se xs xe →
     end ≡ squareEnd (c .locator) (c .locatorend) →
-    Keeps cs ce (kept .calls) (c .call) (c .callend) b cs' ce' calls →
-    Keeps ss se (kept .squares) (c .locator) end (v .square) ss' se' squares →
-    Keeps xs xe (kept .exchanges) (c .exchange) (c .exchangeend) (v .exchange) xs' xe' exchanges →
+    Keeps s cs ce (kept .calls) (c .call) (c .callend) b cs' ce' calls →
+    Keeps s ss se (kept .squares) (c .locator) end (v .square) ss' se' squares →
+    Keeps s xs xe (kept .exchanges) (c .exchange) (c .exchangeend) (v .exchange) xs' xe' exchanges →
     Stays s (record { calls = calls; squares = squares; exchanges = exchanges }) cs' ce' ss' se' xs' xe'
 stays-on s c kept v p w j a b d =
     let within = square-inside (c .locator) (c .locatorend) (p .locator) in
     let end = p .locatorend in
     record {
-      calls = a .lies s (w .calls) (p .call) (p .callend);
-      squares = b .lies s (w .squares) (omega (arith, j)) (omega (arith, j));
-      exchanges = d .lies s (w .exchanges) (p .exchange) (p .exchangeend);
+      calls = a .lies (w .calls) (p .call) (p .callend);
+      squares = b .lies (w .squares) (omega (arith, j)) (omega (arith, j));
+      exchanges = d .lies (w .exchanges) (p .exchange) (p .exchangeend);
     }

@@ -214,8 +214,8 @@ pub record Walks
   pub stays : Stays s kept cs ce ss se xs xe
   pub shelves : Shelves n places cs ce ss se xs xe
 
-none-lie : (s : Text) {starts ends : List ℕ} → Lying s starts ends 0
-none-lie s = record { manyStarts = omega arith; manyEnds = omega arith; inside = λ k h. absurd (omega arith) }
+none-lie : (s : Text) {starts keys : List ℕ} → length s ≤ 65_535 → Lying s starts keys 0
+none-lie s h = record { short = h; manyStarts = omega arith; manyKeys = omega arith; inside = λ k l. absurd (omega arith) }
 
 module _ {s : Text} {first n : ℕ} {slice : List ℕ} (w : Weighable s first n slice) where
   pub walks-begin : {points cs ce ss se xs xe : List ℕ} {t : Totals} →
@@ -236,7 +236,7 @@ module _ {s : Text} {first n : ℕ} {slice : List ℕ} (w : Weighable s first n 
         calls = omega arith;
         squares = omega arith;
         exchanges = omega arith;
-        stays = record { calls = none-lie s; squares = none-lie s; exchanges = none-lie s };
+        stays = record { calls = none-lie s (w .short); squares = none-lie s (w .short); exchanges = none-lie s (w .short) };
         shelves = shelves;
       }
 
@@ -259,11 +259,11 @@ module _ {s : Text} {first n : ℕ} {slice : List ℕ} (w : Weighable s first n 
         record {
           stays = h .stays;
           callStart = omega (arith, h .calls, h .shelves .callStart);
-          callEnd = omega (arith, h .calls, h .shelves .callEnd);
+          callKey = omega (arith, h .calls, h .shelves .callKey);
           squareStart = omega (arith, h .squares, h .shelves .squareStart);
-          squareEnd = omega (arith, h .squares, h .shelves .squareEnd);
+          squareKey = omega (arith, h .squares, h .shelves .squareKey);
           exchangeStart = omega (arith, h .exchanges, h .shelves .exchangeStart);
-          exchangeEnd = omega (arith, h .exchanges, h .shelves .exchangeEnd);
+          exchangeKey = omega (arith, h .exchanges, h .shelves .exchangeKey);
         }
 
     module _ {c : Contact} (e : c ≡ contactAt s (min at (length s))) (k : i < n) where
@@ -329,10 +329,10 @@ module _ {s : Text} {first n : ℕ} {slice : List ℕ} (w : Weighable s first n 
                 record {
                   place = omega (arith, length-set places i (c .points), h .shelves .place);
                   callStart = omega (arith, h .shelves .callStart);
-                  callEnd = omega (arith, h .shelves .callEnd);
+                  callKey = omega (arith, h .shelves .callKey);
                   squareStart = omega (arith, h .shelves .squareStart);
-                  squareEnd = omega (arith, h .shelves .squareEnd);
+                  squareKey = omega (arith, h .shelves .squareKey);
                   exchangeStart = omega (arith, h .shelves .exchangeStart);
-                  exchangeEnd = omega (arith, h .shelves .exchangeEnd);
+                  exchangeKey = omega (arith, h .shelves .exchangeKey);
                 };
           }

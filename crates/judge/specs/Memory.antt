@@ -74,11 +74,11 @@ after m s c v =
 -- The six lists of places, and how many of each are in use.
 unfoldable pub memory : Text → Kept → List ℕ → List ℕ → List ℕ → List ℕ → List ℕ → List ℕ → Memory
 unfolding keptTexts
-memory s kept callStarts callEnds squareStarts squareEnds exchangeStarts exchangeEnds =
+memory s kept callStarts callKeys squareStarts squareKeys exchangeStarts exchangeKeys =
     record {
-      calls = keptTexts s callStarts callEnds (kept .calls);
-      squares = keptTexts s squareStarts squareEnds (kept .squares);
-      exchanges = keptTexts s exchangeStarts exchangeEnds (kept .exchanges);
+      calls = keptTexts s callStarts callKeys (kept .calls);
+      squares = keptTexts s squareStarts squareKeys (kept .squares);
+      exchanges = keptTexts s exchangeStarts exchangeKeys (kept .exchanges);
     }
 
 -- # What the parts of a step promise
@@ -94,26 +94,26 @@ pub record Placed (s : Text) (c : Contact) : Type 0 where
   pub points : c .points ≤ length s
 
 -- All that is kept lies within the log.
-pub record Stays (s : Text) (kept : Kept) (callStarts callEnds squareStarts squareEnds exchangeStarts exchangeEnds : List ℕ) : Type 0 where
-  pub calls : Lying s callStarts callEnds (kept .calls)
-  pub squares : Lying s squareStarts squareEnds (kept .squares)
-  pub exchanges : Lying s exchangeStarts exchangeEnds (kept .exchanges)
+pub record Stays (s : Text) (kept : Kept) (callStarts callKeys squareStarts squareKeys exchangeStarts exchangeKeys : List ℕ) : Type 0 where
+  pub calls : Lying s callStarts callKeys (kept .calls)
+  pub squares : Lying s squareStarts squareKeys (kept .squares)
+  pub exchanges : Lying s exchangeStarts exchangeKeys (kept .exchanges)
 
 -- So it is, and there is room for one more.
-pub record Room (s : Text) (kept : Kept) (callStarts callEnds squareStarts squareEnds exchangeStarts exchangeEnds : List ℕ) : Type 0 where
-  pub stays : Stays s kept callStarts callEnds squareStarts squareEnds exchangeStarts exchangeEnds
+pub record Room (s : Text) (kept : Kept) (callStarts callKeys squareStarts squareKeys exchangeStarts exchangeKeys : List ℕ) : Type 0 where
+  pub stays : Stays s kept callStarts callKeys squareStarts squareKeys exchangeStarts exchangeKeys
   pub callStart : kept .calls < length callStarts
-  pub callEnd : kept .calls < length callEnds
+  pub callKey : kept .calls < length callKeys
   pub squareStart : kept .squares < length squareStarts
-  pub squareEnd : kept .squares < length squareEnds
+  pub squareKey : kept .squares < length squareKeys
   pub exchangeStart : kept .exchanges < length exchangeStarts
-  pub exchangeEnd : kept .exchanges < length exchangeEnds
+  pub exchangeKey : kept .exchanges < length exchangeKeys
 
 -- The part from a place to another is kept behind the first so many, if it is to be.
-pub record Keeps (starts ends : List ℕ) (m a e : ℕ) (yes : Bool) (starts' ends' : List ℕ) (r : ℕ) : Type 0 where
-  pub texts : (s : Text) → keptTexts s starts' ends' r ≡ keptWith yes (between s a e) (keptTexts s starts ends m)
+pub record Keeps (s : Text) (starts keys : List ℕ) (m a e : ℕ) (yes : Bool) (starts' keys' : List ℕ) (r : ℕ) : Type 0 where
+  pub texts : keptTexts s starts' keys' r ≡ keptWith yes (between s a e) (keptTexts s starts keys m)
   pub more : r ≤ m + 1
-  pub lies : (s : Text) → Lying s starts ends m → a ≤ e → e ≤ length s → Lying s starts' ends' r
+  pub lies : Lying s starts keys m → a ≤ e → e ≤ length s → Lying s starts' keys' r
 
 -- A record is judged by what is kept, and what is to be kept of it is.
 pub record Steps (s : Text) (c : Contact) (kept : Kept) (before : Memory) (r : Step) (behind : Memory) : Type 0 where

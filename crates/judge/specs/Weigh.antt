@@ -36,14 +36,14 @@ pub record Weighable (s : Text) (first n : ℕ) (slice : List ℕ) : Type 0 wher
   pub room : n ≤ length slice
 
 -- There is a place for each record in the list of the points and in the six of what is kept.
-pub record Shelves (n : ℕ) (places callStarts callEnds squareStarts squareEnds exchangeStarts exchangeEnds : List ℕ) : Type 0 where
+pub record Shelves (n : ℕ) (places callStarts callKeys squareStarts squareKeys exchangeStarts exchangeKeys : List ℕ) : Type 0 where
   pub place : n ≤ length places
   pub callStart : n ≤ length callStarts
-  pub callEnd : n ≤ length callEnds
+  pub callKey : n ≤ length callKeys
   pub squareStart : n ≤ length squareStarts
-  pub squareEnd : n ≤ length squareEnds
+  pub squareKey : n ≤ length squareKeys
   pub exchangeStart : n ≤ length exchangeStarts
-  pub exchangeEnd : n ≤ length exchangeEnds
+  pub exchangeKey : n ≤ length exchangeKeys
 
 -- The totals are those of the records, their verdicts are written, and so is where the points of each begin.
 pub record Weighs (s : Text) (first n : ℕ) (slice points : List ℕ) (r : Totals) (slice' points' : List ℕ) : Type 0 where

@@ -2,13 +2,13 @@
 // that are told of each record.
 
 ghost use mathlib.Core.Path.{_≡_};
-ghost use Prim.Native.Nat.{_+_, _*_, _<_, _≤_};
+ghost use Prim.Native.Nat.{_+_, _*_, _%_, _<_, _≤_};
 ghost use lib.ListN.{length, take, drop};
 ghost use Rattle.rules.specs.Text.{same, empty};
 ghost use Rattle.rules.specs.Judging.{classNumber, verdictNumber, zeroTotals};
 ghost use Rattle.places.specs.Places.{between};
 ghost use Rattle.rules.specs.Arguments.{among};
-ghost use Rattle.judge.specs.Parts.{squareEnd, seek, keptTexts, Lying};
+ghost use Rattle.judge.specs.Parts.{squareEnd, keyOf, partBy, seek, keptTexts, Keyed, Lying};
 ghost use Rattle.judge.specs.Memory.{unseen, classBy, verdictBy, memory, Placed, Stays, Room, Keeps, Steps};
 ghost use Rattle.judge.specs.Numbers.{classFrom, verdictFrom};
 ghost use Rattle.judge.specs.Weigh.{Weighable, Shelves, Weighs};
@@ -53,13 +53,31 @@ fn same_run(s: &[u8], a: usize, b: usize, n: usize) -> bool
     true
 }
 
-// A part that lies within the log is the same, byte for byte, as the n characters from a place on. The lengths are compared first, for most
-// parts differ in them or in one of the first bytes.
-fn same_part(s: &[u8], b: usize, f: usize, a: usize, n: usize) -> bool
-    requires { ⌜ (b ≤ f) × (f ≤ length (now s)) × (0 < n → a + n ≤ length (now s)) ⌝ }
-    ensures { λ r. ⌜ r ≡ same (between (now (s .entry)) b f) (take n (drop a (now (s .entry)))) ⌝ }
+fn key_with(n: usize, last: u8) -> usize
+    requires { ⌜ n ≤ 65_535 ⌝ }
+    ensures { λ r. ⌜ r ≡ n * 256 + last % 256 ⌝ }
 {
-    if f - b != n {
+    n * 256 + last as usize
+}
+
+// How many characters there are and which is the last, in one number.
+fn key_of(s: &[u8], a: usize, n: usize) -> usize
+    requires { ⌜ (length (now s) ≤ 65_535) × (0 < n → a + n ≤ length (now s)) ⌝ }
+    ensures { λ r. ⌜ r ≡ keyOf (take n (drop a (now (s .entry)))) ⌝ }
+{
+    if n == 0 {
+        return 0;
+    }
+    key_with(n, s[a + n - 1])
+}
+
+// A part of which the place and the key are kept is the same, byte for byte, as the n characters from a place on. The keys are compared first,
+// for most parts differ in them.
+fn same_part(s: &[u8], b: usize, key: usize, a: usize, n: usize, sought: usize) -> bool
+    requires { ⌜ Keyed (now s) b key × (0 < n → a + n ≤ length (now s)) × (sought ≡ keyOf (take n (drop a (now s)))) ⌝ }
+    ensures { λ r. ⌜ r ≡ same (partBy (now (s .entry)) b key) (take n (drop a (now (s .entry)))) ⌝ }
+{
+    if key != sought {
         return false;
     }
     same_run(s, b, a, n)
@@ -85,17 +103,18 @@ enum Found {
 }
 
 // The first of the m parts kept that is the same as this part.
-fn find(s: &[u8], starts: &[usize], ends: &[usize], m: usize, a: usize, e: usize) -> Found
-    requires { ⌜ Lying (now s) (now starts) (now ends) m ⌝ }
-    ensures { λ r. ⌜ r ≡ seek (now (s .entry)) (now (starts .entry)) (now (ends .entry)) (between (now (s .entry)) a e) m 0 ⌝ }
+fn find(s: &[u8], starts: &[usize], keys: &[usize], m: usize, a: usize, e: usize) -> Found
+    requires { ⌜ Lying (now s) (now starts) (now keys) m ⌝ }
+    ensures { λ r. ⌜ r ≡ seek (now (s .entry)) (now (starts .entry)) (now (keys .entry)) (between (now (s .entry)) a e) m 0 ⌝ }
 {
     let n = part_length(s, a, e);
+    let sought = key_of(s, a, n);
     let mut k = 0;
     let at = 'look: loop {
         if m <= k {
             break 'look m;
         }
-        if same_part(s, starts[k], ends[k], a, n) {
+        if same_part(s, starts[k], keys[k], a, n, sought) {
             break 'look k;
         }
         k += 1;
@@ -107,37 +126,46 @@ fn find(s: &[u8], starts: &[usize], ends: &[usize], m: usize, a: usize, e: usize
 }
 
 // The part is the same as one of the m parts kept.
-fn is_kept(s: &[u8], starts: &[usize], ends: &[usize], m: usize, a: usize, e: usize) -> bool
-    requires { ⌜ Lying (now s) (now starts) (now ends) m ⌝ }
-    ensures { λ r. ⌜ r ≡ among (keptTexts (now (s .entry)) (now (starts .entry)) (now (ends .entry)) m) (between (now (s .entry)) a e) ⌝ }
+fn is_kept(s: &[u8], starts: &[usize], keys: &[usize], m: usize, a: usize, e: usize) -> bool
+    requires { ⌜ Lying (now s) (now starts) (now keys) m ⌝ }
+    ensures { λ r. ⌜ r ≡ among (keptTexts (now (s .entry)) (now (starts .entry)) (now (keys .entry)) m) (between (now (s .entry)) a e) ⌝ }
 {
-    match find(s, starts, ends, m, a, e) {
+    match find(s, starts, keys, m, a, e) {
         Found::At(_) => true,
         Found::Nothing => false,
     }
 }
 
 // The part is not empty, and is the same as none of the m parts kept.
-fn is_unseen(s: &[u8], starts: &[usize], ends: &[usize], m: usize, a: usize, e: usize) -> bool
-    requires { ⌜ Lying (now s) (now starts) (now ends) m ⌝ }
-    ensures { λ r. ⌜ r ≡ unseen (keptTexts (now (s .entry)) (now (starts .entry)) (now (ends .entry)) m) (between (now (s .entry)) a e) ⌝ }
+fn is_unseen(s: &[u8], starts: &[usize], keys: &[usize], m: usize, a: usize, e: usize) -> bool
+    requires { ⌜ Lying (now s) (now starts) (now keys) m ⌝ }
+    ensures { λ r. ⌜ r ≡ unseen (keptTexts (now (s .entry)) (now (starts .entry)) (now (keys .entry)) m) (between (now (s .entry)) a e) ⌝ }
 {
     if part_length(s, a, e) == 0 {
         return false;
     }
-    !is_kept(s, starts, ends, m, a, e)
+    !is_kept(s, starts, keys, m, a, e)
 }
 
 // The part is kept behind the first m, if it is to be; how many are kept then.
-fn keep(starts: &mut [usize], ends: &mut [usize], m: usize, a: usize, e: usize, yes: bool) -> usize
-    requires { ⌜ (m < length (now starts)) × (m < length (now ends)) ⌝ }
-    ensures { λ r. ⌜ Keeps (now (starts .entry)) (now (ends .entry)) m a e yes (now (starts .exit)) (now (ends .exit)) r ⌝ }
+fn keep(
+    s: &[u8],
+    starts: &mut [usize],
+    keys: &mut [usize],
+    m: usize,
+    a: usize,
+    e: usize,
+    yes: bool,
+) -> usize
+    requires { ⌜ (m < length (now starts)) × (m < length (now keys)) × (length (now s) ≤ 65_535) ⌝ }
+    ensures { λ r. ⌜ Keeps (now (s .entry)) (now (starts .entry)) (now (keys .entry)) m a e yes (now (starts .exit)) (now (keys .exit)) r ⌝ }
 {
     if !yes {
         return m;
     }
+    let n = part_length(s, a, e);
     starts[m] = a;
-    ends[m] = e;
+    keys[m] = key_of(s, a, n);
     m + 1
 }
 
@@ -155,14 +183,14 @@ struct Step {
 }
 
 // The class of a record after those whose calls are kept.
-fn class_of(s: &[u8], c: Contact, starts: &[usize], ends: &[usize], m: usize) -> Class
-    requires { ⌜ Lying (now s) (now starts) (now ends) m ⌝ }
-    ensures { λ r. ⌜ r ≡ classBy (keptTexts (now (s .entry)) (now (starts .entry)) (now (ends .entry)) m) (now (s .entry)) c ⌝ }
+fn class_of(s: &[u8], c: Contact, starts: &[usize], keys: &[usize], m: usize) -> Class
+    requires { ⌜ Lying (now s) (now starts) (now keys) m ⌝ }
+    ensures { λ r. ⌜ r ≡ classBy (keptTexts (now (s .entry)) (now (starts .entry)) (now (keys .entry)) m) (now (s .entry)) c ⌝ }
 {
     if c.error {
         return Class::Error;
     }
-    if is_kept(s, starts, ends, m, c.call, c.callend) {
+    if is_kept(s, starts, keys, m, c.call, c.callend) {
         return Class::Duplicate;
     }
     if c.worth == 0 {
@@ -291,16 +319,16 @@ fn verdict_of(
     c: Contact,
     kept: Kept,
     callstarts: &[usize],
-    callends: &[usize],
+    callkeys: &[usize],
     squarestarts: &[usize],
-    squareends: &[usize],
+    squarekeys: &[usize],
     exchangestarts: &[usize],
-    exchangeends: &[usize],
+    exchangekeys: &[usize],
 ) -> Verdict
-    requires { ⌜ Room (now s) kept (now callstarts) (now callends) (now squarestarts) (now squareends) (now exchangestarts) (now exchangeends) ⌝ }
-    ensures { λ r. ⌜ r ≡ verdictBy (memory (now (s .entry)) kept (now (callstarts .entry)) (now (callends .entry)) (now (squarestarts .entry)) (now (squareends .entry)) (now (exchangestarts .entry)) (now (exchangeends .entry))) (now (s .entry)) c ⌝ }
+    requires { ⌜ Room (now s) kept (now callstarts) (now callkeys) (now squarestarts) (now squarekeys) (now exchangestarts) (now exchangekeys) ⌝ }
+    ensures { λ r. ⌜ r ≡ verdictBy (memory (now (s .entry)) kept (now (callstarts .entry)) (now (callkeys .entry)) (now (squarestarts .entry)) (now (squarekeys .entry)) (now (exchangestarts .entry)) (now (exchangekeys .entry))) (now (s .entry)) c ⌝ }
 {
-    let class = class_of(s, c, callstarts, callends, kept.calls);
+    let class = class_of(s, c, callstarts, callkeys, kept.calls);
     if class_number(class) != 0 {
         return Verdict {
             class,
@@ -315,12 +343,12 @@ fn verdict_of(
         exchange: is_unseen(
             s,
             exchangestarts,
-            exchangeends,
+            exchangekeys,
             kept.exchanges,
             c.exchange,
             c.exchangeend,
         ),
-        square: is_unseen(s, squarestarts, squareends, kept.squares, c.locator, end),
+        square: is_unseen(s, squarestarts, squarekeys, kept.squares, c.locator, end),
         country: c.country,
     }
 }
@@ -331,43 +359,53 @@ fn judge_next(
     c: Contact,
     kept: Kept,
     callstarts: &mut [usize],
-    callends: &mut [usize],
+    callkeys: &mut [usize],
     squarestarts: &mut [usize],
-    squareends: &mut [usize],
+    squarekeys: &mut [usize],
     exchangestarts: &mut [usize],
-    exchangeends: &mut [usize],
+    exchangekeys: &mut [usize],
 ) -> Step
-    requires { ⌜ Room (now s) kept (now callstarts) (now callends) (now squarestarts) (now squareends) (now exchangestarts) (now exchangeends) ⌝ }
+    requires { ⌜ Room (now s) kept (now callstarts) (now callkeys) (now squarestarts) (now squarekeys) (now exchangestarts) (now exchangekeys) ⌝ }
     requires { ⌜ Placed (now s) c ⌝ }
-    ensures { λ r. ⌜ Steps (now (s .entry)) c kept (memory (now (s .entry)) kept (now (callstarts .entry)) (now (callends .entry)) (now (squarestarts .entry)) (now (squareends .entry)) (now (exchangestarts .entry)) (now (exchangeends .entry))) r (memory (now (s .entry)) (r .kept) (now (callstarts .exit)) (now (callends .exit)) (now (squarestarts .exit)) (now (squareends .exit)) (now (exchangestarts .exit)) (now (exchangeends .exit))) ⌝ }
-    ensures { λ r. ⌜ Stays (now (s .entry)) (r .kept) (now (callstarts .exit)) (now (callends .exit)) (now (squarestarts .exit)) (now (squareends .exit)) (now (exchangestarts .exit)) (now (exchangeends .exit)) ⌝ }
+    ensures { λ r. ⌜ Steps (now (s .entry)) c kept (memory (now (s .entry)) kept (now (callstarts .entry)) (now (callkeys .entry)) (now (squarestarts .entry)) (now (squarekeys .entry)) (now (exchangestarts .entry)) (now (exchangekeys .entry))) r (memory (now (s .entry)) (r .kept) (now (callstarts .exit)) (now (callkeys .exit)) (now (squarestarts .exit)) (now (squarekeys .exit)) (now (exchangestarts .exit)) (now (exchangekeys .exit))) ⌝ }
+    ensures { λ r. ⌜ Stays (now (s .entry)) (r .kept) (now (callstarts .exit)) (now (callkeys .exit)) (now (squarestarts .exit)) (now (squarekeys .exit)) (now (exchangestarts .exit)) (now (exchangekeys .exit)) ⌝ }
 {
     let v = verdict_of(
         s,
         c,
         kept,
         callstarts,
-        callends,
+        callkeys,
         squarestarts,
-        squareends,
+        squarekeys,
         exchangestarts,
-        exchangeends,
+        exchangekeys,
     );
     let class = v.class;
     let n = class_number(class);
     let end = square_end(c.locator, c.locatorend);
-    let calls = keep(callstarts, callends, kept.calls, c.call, c.callend, 0 == n);
+    let calls = keep(
+        s,
+        callstarts,
+        callkeys,
+        kept.calls,
+        c.call,
+        c.callend,
+        0 == n,
+    );
     let squares = keep(
+        s,
         squarestarts,
-        squareends,
+        squarekeys,
         kept.squares,
         c.locator,
         end,
         v.square,
     );
     let exchanges = keep(
+        s,
         exchangestarts,
-        exchangeends,
+        exchangekeys,
         kept.exchanges,
         c.exchange,
         c.exchangeend,
@@ -411,14 +449,14 @@ fn walk_records(
     verdicts: &mut [u8],
     points: &mut [u16],
     callstarts: &mut [usize],
-    callends: &mut [usize],
+    callkeys: &mut [usize],
     squarestarts: &mut [usize],
-    squareends: &mut [usize],
+    squarekeys: &mut [usize],
     exchangestarts: &mut [usize],
-    exchangeends: &mut [usize],
+    exchangekeys: &mut [usize],
 ) -> Totals
     requires { ⌜ Weighable (now log) first n (now verdicts) ⌝ }
-    requires { ⌜ Shelves n (now points) (now callstarts) (now callends) (now squarestarts) (now squareends) (now exchangestarts) (now exchangeends) ⌝ }
+    requires { ⌜ Shelves n (now points) (now callstarts) (now callkeys) (now squarestarts) (now squarekeys) (now exchangestarts) (now exchangekeys) ⌝ }
     ensures { λ r. ⌜ Weighs (now (log .entry)) first n (now (verdicts .entry)) (now (points .entry)) r (now (verdicts .exit)) (now (points .exit)) ⌝ }
 {
     let mut kept = Kept {
@@ -437,11 +475,11 @@ fn walk_records(
             c,
             kept,
             callstarts,
-            callends,
+            callkeys,
             squarestarts,
-            squareends,
+            squarekeys,
             exchangestarts,
-            exchangeends,
+            exchangekeys,
         );
         let v = step.verdict;
         kept = step.kept;
@@ -465,11 +503,11 @@ fn weigh_few(
     ensures { λ r. ⌜ Weighs (now (log .entry)) first n (now (verdicts .entry)) (now (points .entry)) r (now (verdicts .exit)) (now (points .exit)) ⌝ }
 {
     let mut callstarts = [0usize; 128];
-    let mut callends = [0usize; 128];
+    let mut callkeys = [0usize; 128];
     let mut squarestarts = [0usize; 128];
-    let mut squareends = [0usize; 128];
+    let mut squarekeys = [0usize; 128];
     let mut exchangestarts = [0usize; 128];
-    let mut exchangeends = [0usize; 128];
+    let mut exchangekeys = [0usize; 128];
     walk_records(
         log,
         first,
@@ -477,11 +515,11 @@ fn weigh_few(
         verdicts,
         points,
         &mut callstarts,
-        &mut callends,
+        &mut callkeys,
         &mut squarestarts,
-        &mut squareends,
+        &mut squarekeys,
         &mut exchangestarts,
-        &mut exchangeends,
+        &mut exchangekeys,
     )
 }
 
@@ -496,11 +534,11 @@ fn weigh_many(
     ensures { λ r. ⌜ Weighs (now (log .entry)) first n (now (verdicts .entry)) (now (points .entry)) r (now (verdicts .exit)) (now (points .exit)) ⌝ }
 {
     let mut callstarts = [0usize; 999];
-    let mut callends = [0usize; 999];
+    let mut callkeys = [0usize; 999];
     let mut squarestarts = [0usize; 999];
-    let mut squareends = [0usize; 999];
+    let mut squarekeys = [0usize; 999];
     let mut exchangestarts = [0usize; 999];
-    let mut exchangeends = [0usize; 999];
+    let mut exchangekeys = [0usize; 999];
     walk_records(
         log,
         first,
@@ -508,11 +546,11 @@ fn weigh_many(
         verdicts,
         points,
         &mut callstarts,
-        &mut callends,
+        &mut callkeys,
         &mut squarestarts,
-        &mut squareends,
+        &mut squarekeys,
         &mut exchangestarts,
-        &mut exchangeends,
+        &mut exchangekeys,
     )
 }
 
