@@ -9,7 +9,7 @@ use Rattle.rules.specs.Text.{Text}
 use Rattle.rules.specs.Rules.{base}
 use Rattle.rules.specs.Judging.{zeroTotals}
 use Rattle.rules.specs.Reading.{Reading, accepted, refused, read}
-use Rattle.rules.specs.Answers.{Viewing, seen, unseen, view, Judgement, judged, unjudged, judge, noRefusal}
+use Rattle.rules.specs.Answers.{Viewing, seen, unseen, view, Judgement, judged, unjudged, judge, Writing, written, unwritten, write, noRefusal}
 use Rattle.reader.specs.declared.ReadAnswer.{ReadAnswer}
 use Rattle.reader.specs.declared.ReadAnswer.the-variants as ReadAnswer
 use Rattle.reader.specs.Read.{readTold, readOf}
@@ -19,11 +19,15 @@ use Rattle.places.specs.Places.{viewTold, viewOf}
 use Rattle.judge.specs.declared.Judged.{Judged}
 use Rattle.judge.specs.declared.Judged.the-variants as Judged
 use Rattle.judge.specs.Judge.{judgedBy, judgedOf}
+use Rattle.writer.specs.declared.Wrote.{Wrote}
+use Rattle.writer.specs.declared.Wrote.the-variants as Wrote
+use Rattle.writer.specs.LogText.{wroteBy, wroteOf}
 use Rattle.pad.specs.declared.SumpquinceRefusal.{SumpquinceRefusal}
 use Rattle.pad.specs.declared.SumpquinceReading.{SumpquinceReading}
 use Rattle.pad.specs.declared.SumpquinceView.{SumpquinceView}
 use Rattle.pad.specs.declared.SumpquinceJudgement.{SumpquinceJudgement}
-use Rattle.pad.specs.Face.{refusalFace, readingFace, viewFace, totalsFace, judgementFace}
+use Rattle.pad.specs.declared.SumpquinceWritten.{SumpquinceWritten}
+use Rattle.pad.specs.Face.{refusalFace, readingFace, viewFace, totalsFace, judgementFace, writtenFace}
 
 -- # Reading
 
@@ -93,3 +97,27 @@ module _ (room : ℕ) (s : Text) where
 
   pub unjudged-shown : {j : SumpquinceJudgement} {f : SumpquinceRefusal} {r : Refusal} {t : Totals} → j ≡ totalsFace f t → f ≡ refusalFace r → t ≡ zeroTotals → Judged.Refused r ≡ judgedOf room s → j ≡ judgementFace (judge base room s)
   unjudged-shown e g z a = e ∙ ap₂ totalsFace g z ∙ ap judgementShown a ∙ judgement-shown
+
+-- # Writing
+
+abbrev aWritten : ℕ → SumpquinceRefusal → SumpquinceWritten
+aWritten n f = record { refusal = f; length = n }
+
+abbrev writtenShown : Wrote → SumpquinceWritten
+writtenShown (Wrote.Length n) = aWritten n (refusalFace noRefusal)
+writtenShown (Wrote.Refused r) = aWritten 0 (refusalFace r)
+
+module _ (room : ℕ) (s : Text) where
+  written-shown : writtenShown (wroteOf room s) ≡ writtenFace (write base room s)
+  unfolding wroteOf writtenFace
+  written-shown = by (write base room s)
+    where
+      by : (w : Writing) → writtenShown (wroteBy w) ≡ writtenFace w
+      by (written t) = refl
+      by (unwritten r) = refl
+
+  pub length-shown : {f : SumpquinceRefusal} {n : ℕ} → f ≡ refusalFace noRefusal → Wrote.Length n ≡ wroteOf room s → aWritten n f ≡ writtenFace (write base room s)
+  length-shown {n = n} e a = ap (aWritten n) e ∙ ap writtenShown a ∙ written-shown
+
+  pub unwritten-shown : {f : SumpquinceRefusal} {r : Refusal} → f ≡ refusalFace r → Wrote.Refused r ≡ wroteOf room s → aWritten 0 f ≡ writtenFace (write base room s)
+  unwritten-shown e a = ap (aWritten 0) e ∙ ap writtenShown a ∙ written-shown

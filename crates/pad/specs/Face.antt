@@ -5,11 +5,12 @@ use lib.ListN.{length}
 use Rattle.rules.specs.declared.Refusal.{Refusal}
 use Rattle.rules.specs.declared.Totals.{Totals}
 use Rattle.rules.specs.Reading.{Reading}
-use Rattle.rules.specs.Answers.{Viewing, Judgement, refusalOfReading, recordsOfReading, refusalOfView, startOfView, viewed, refusalOfJudgement, totalsOfJudgement}
+use Rattle.rules.specs.Answers.{Viewing, Judgement, refusalOfReading, recordsOfReading, refusalOfView, startOfView, viewed, refusalOfJudgement, totalsOfJudgement, Writing, refusalOfWriting, bytesOfWriting}
 use Rattle.pad.specs.declared.SumpquinceRefusal.{SumpquinceRefusal}
 use Rattle.pad.specs.declared.SumpquinceReading.{SumpquinceReading}
 use Rattle.pad.specs.declared.SumpquinceView.{SumpquinceView}
 use Rattle.pad.specs.declared.SumpquinceJudgement.{SumpquinceJudgement}
+use Rattle.pad.specs.declared.SumpquinceWritten.{SumpquinceWritten}
 
 unfoldable pub refusalFace : Refusal → SumpquinceRefusal
 refusalFace r = record { number = r .number; line = r .line; field = r .field }
@@ -44,3 +45,7 @@ totalsFace refusal t =
 unfoldable pub judgementFace : Judgement → SumpquinceJudgement
 unfolding totalsFace refusalFace refusalOfJudgement totalsOfJudgement
 judgementFace j = totalsFace (refusalFace (refusalOfJudgement j)) (totalsOfJudgement j)
+
+unfoldable pub writtenFace : Writing → SumpquinceWritten
+unfolding refusalFace refusalOfWriting bytesOfWriting
+writtenFace w = record { refusal = refusalFace (refusalOfWriting w); length = length (bytesOfWriting w) }

@@ -5,13 +5,14 @@ ghost use mathlib.Core.Path.{_≡_};
 ghost use lib.ListN.{length};
 ghost use Rattle.rules.specs.Rules.{base};
 ghost use Rattle.rules.specs.Reading.{read};
-ghost use Rattle.rules.specs.Answers.{noRefusal, view, judge, numbersOfJudgement, over};
-ghost use Rattle.pad.specs.Face.{refusalFace, readingFace, viewFace, totalsFace, judgementFace};
+ghost use Rattle.rules.specs.Answers.{noRefusal, view, judge, numbersOfJudgement, write, bytesOfWriting, over};
+ghost use Rattle.pad.specs.Face.{refusalFace, readingFace, viewFace, totalsFace, judgementFace, writtenFace};
 use judge::Judged;
 use places::ViewRead;
 use reader::ReadAnswer;
 use rules::Refusal;
 use rules::Totals;
+use writer::Wrote;
 
 #[repr(C)]
 pub struct SumpquinceRefusal {
@@ -48,6 +49,12 @@ pub struct SumpquinceJudgement {
     pub exchangebonus: u64,
     pub countrybonus: u64,
     pub total: u64,
+}
+
+#[repr(C)]
+pub struct SumpquinceWritten {
+    pub refusal: SumpquinceRefusal,
+    pub length: u64,
 }
 
 // Nothing is refused.
@@ -133,5 +140,22 @@ pub extern "C" fn sumpquince_judge(log: &[u8], verdicts: &mut [u8]) -> Sumpquinc
     match judge::judge(log, verdicts) {
         Judged::Totals(t) => totals_face(no_refusal(), t),
         Judged::Refused(r) => totals_face(refusal_face(r), judge::no_totals()),
+    }
+}
+
+#[no_mangle]
+pub extern "C" fn sumpquince_write(log: &[u8], out: &mut [u8]) -> SumpquinceWritten
+    ensures answer { λ r. ⌜ r ≡ writtenFace (write base (length (now (out .entry))) (now (log .entry))) ⌝ }
+    ensures slice { λ r. ⌜ now (out .exit) ≡ over (bytesOfWriting (write base (length (now (out .entry))) (now (log .entry)))) (now (out .entry)) ⌝ }
+{
+    match writer::write(log, out) {
+        Wrote::Length(n) => SumpquinceWritten {
+            refusal: no_refusal(),
+            length: n as u64,
+        },
+        Wrote::Refused(r) => SumpquinceWritten {
+            refusal: refusal_face(r),
+            length: 0,
+        },
     }
 }

@@ -9,6 +9,7 @@ use places::ViewRead;
 use reader::ReadAnswer;
 use rules::Refusal;
 use rules::Totals;
+use writer::Wrote;
 
 fn say(text: &[u8]) {
     io::write_all(STDOUT_FILENO, text);
@@ -98,20 +99,25 @@ fn show_judged(log: &[u8], records: usize) {
 fn load(name: &[u8], log: &mut [u8]) -> usize
     ensures { λ r. ⌜ Counts r (now (log .exit)) ⌝ }
 {
-    say(name);
     let fd = os::open_read(name);
     if fd < 0 {
+        say(name);
         say(b" cannot be opened\n");
         return 0;
     }
-    say(b"\n");
     let n = io::read_full(fd, log);
     libc::close(fd);
     n
 }
 
+fn show_name(name: &[u8]) {
+    say(name);
+    say(b"\n");
+}
+
 // What is answered of a log: by reading and by judging.
 fn answers(name: &[u8]) {
+    show_name(name);
     let mut log = io::large_buffer();
     let n = load(name, &mut log);
     let records = show_read(&log[..n]);
@@ -120,6 +126,7 @@ fn answers(name: &[u8]) {
 
 // What is answered of a log when a keyword is viewed: where its argument starts, how long it is, and the argument.
 fn argument(name: &[u8], keyword: usize) {
+    show_name(name);
     let mut log = io::large_buffer();
     let n = load(name, &mut log);
     show(b"  view ", keyword as u64);
@@ -133,6 +140,38 @@ fn argument(name: &[u8], keyword: usize) {
             say(b"\n");
         }
         ViewRead::Refused(r) => show_refusal(r),
+    }
+}
+
+// Whether the first n bytes are those of the file of this name.
+fn show_likeness(result: &[u8], n: usize, name: &[u8]) {
+    let mut log = io::large_buffer();
+    let m = load(name, &mut log);
+    if result.len() < n {
+        return;
+    }
+    if header::same_text(&result[..n], &log[..m]) {
+        say(b" as ");
+    } else {
+        say(b" not as ");
+    }
+    show_name(name);
+}
+
+// What is answered of a log when it is written back, and whether the result is the log of the other file.
+fn written(name: &[u8], other: &[u8]) {
+    show_name(name);
+    let mut log = io::large_buffer();
+    let n = load(name, &mut log);
+    let mut result = io::large_buffer();
+    let answer = writer::write(&log[..n], &mut result);
+    say(b"  written:");
+    match answer {
+        Wrote::Length(length) => {
+            show(b" length ", length as u64);
+            show_likeness(&result, length, other);
+        }
+        Wrote::Refused(r) => show_refusal(r),
     }
 }
 
@@ -190,6 +229,15 @@ fn views() {
     argument(b"01-empty.edi", 0);
 }
 
+// Writing back: the log of case 12, whose fourth record then ends `JO40AA;0;;;;D`. The result, and the sample of case 14, whose claims are true, are
+// written back as they are. A refused log is not written.
+fn writings() {
+    written(b"12-spring.edi", b"12-written.edi");
+    written(b"12-written.edi", b"12-written.edi");
+    written(b"14-sample.edi", b"14-sample.edi");
+    written(b"01-empty.edi", b"01-empty.edi");
+}
+
 // The samples of the sources. As printed, with a bare LF behind each line, they have no first line. With CR LF they are refused where they
 // leave the format of 001: those of 000 misspell SAntH, the 26th keyword; the fourth remark of 001 has 76 characters; those of 003 have several
 // keywords on line 7, which is too long.
@@ -223,5 +271,6 @@ fn samples() {
 fn main() {
     cases();
     views();
+    writings();
     samples();
 }

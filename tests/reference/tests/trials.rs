@@ -4,7 +4,7 @@
 //! what the proved library answers. What it has to print is kept in its file
 //! `stdout`, which is read here and held to the answers of the reference.
 
-use reference::{judge, read, view, Refusal, Totals};
+use reference::{judge, read, view, write, Refusal, Totals};
 use std::collections::BTreeSet;
 use std::fs;
 use std::path::PathBuf;
@@ -70,6 +70,21 @@ fn argument(log: &[u8], keyword: usize) -> String {
     }
 }
 
+fn written(log: &[u8], other: &str) -> String {
+    match write(log, 65_536) {
+        Ok(result) => {
+            let like = if result == log_named(other) { "as" } else { "not as" };
+            format!("  written: length {} {like} {other}\n", result.len())
+        }
+        Err(refusal) => refused("written", refusal),
+    }
+}
+
+/// The log that a line of writing compares with.
+fn other_of(line: &str) -> Option<&str> {
+    line.strip_prefix("  written:")?.trim_end().rsplit(' ').next()
+}
+
 /// The keyword that a line of a view names.
 fn keyword_of(line: &str) -> Option<usize> {
     let (number, _) = line.strip_prefix("  view ")?.split_once(':')?;
@@ -93,9 +108,10 @@ fn the_trials_are_answered_alike() {
     let text = fs::read_to_string(kept("crates/trials/stdout")).unwrap();
     for (name, told) in blocks(&text) {
         let log = log_named(&name);
-        let wanted = match keyword_of(&told) {
-            Some(keyword) => argument(&log, keyword),
-            None => answers(&log),
+        let wanted = match (keyword_of(&told), other_of(&told)) {
+            (Some(keyword), _) => argument(&log, keyword),
+            (None, Some(other)) => written(&log, other),
+            (None, None) => answers(&log),
         };
         assert_eq!(told, wanted, "{name}");
     }
