@@ -47,10 +47,6 @@ told-unseen : (r : Refusal) → viewTold (unseen r) ≡ ViewRead.Refused r
 unfolding viewTold
 told-unseen r = refl
 
-told-seen : (a : ℕ) (t : Text) → viewTold (seen a t) ≡ ViewRead.Seen a (length t)
-unfolding viewTold
-told-seen a t = refl
-
 beyond : (k : ℕ) (r : Reading) → viewOfReading k [] r ≡ unseen (refusal 9 0 0)
 unfolding viewOfReading
 beyond k (accepted log) = refl

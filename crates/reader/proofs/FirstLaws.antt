@@ -9,7 +9,7 @@ use lib.ListN.{length, drop, getD}
 use Rattle.rules.specs.Text.{Text, parts, bytes, span, same, empty, numberOf, number, value, digits}
 use Rattle.rules.specs.Fields.{qsoOf, isError, dateRule, shortDate, errorCall, call}
 use Rattle.rules.proofs.TextLaws.{same-eq, same-refl}
-use Rattle.rules.proofs.Tests.{and-i, and-l, or-r, picked, passed}
+use Rattle.rules.proofs.Tests.{fails, and-i, and-l, or-r, picked, passed}
 use Rattle.rules.proofs.NumberLaws.{digits-value}
 use Rattle.fields.specs.declared.CallRead.{CallRead}
 use Rattle.fields.specs.declared.CallRead.the-variants as CallRead
@@ -46,11 +46,7 @@ unfolding call errorCall
 error-is-call = refl
 
 no-error : (t : Text) → call t ≡ false → false ≡ same t errorCall
-no-error t k = by (same t errorCall) refl
-  where
-    by : (b : Bool) → same t errorCall ≡ b → false ≡ b
-    by true e = absurd (true≢false (sym error-is-call ∙ ap call (sym (same-eq t errorCall e)) ∙ k))
-    by false e = refl
+no-error t k = sym (fails (same t errorCall) (λ e. true≢false (sym error-is-call ∙ ap call (sym (same-eq t errorCall e)) ∙ k)))
 
 module _ (l : Text) (a : ℕ) (r : Reaches l 2 a) where
   pub third-known : {e : ℕ} {b : Bool} → callAt l a ≡ CallRead.Call e b → b ≡ same (getD (parts l) 2 []) errorCall

@@ -17,6 +17,7 @@ use Rattle.rules.specs.declared.Next.the-variants as Next
 use Rattle.rules.specs.Reading.{recordsDue, countRule}
 use Rattle.rules.proofs.TextLaws.{span-all, same-eq, same-refl, span-short}
 use Rattle.rules.proofs.Tests.{and-i}
+use Rattle.rules.proofs.WalkLaws.{one-test}
 use Rattle.fields.specs.Field.{inField, textAt}
 use Rattle.fields.proofs.FieldLaws.{next}
 use Rattle.figures.specs.declared.NumberRead.{NumberRead}
@@ -119,8 +120,7 @@ module _ (t : Text) (n : ℕ) (e : n ≡ 0 + span digit (drop 0 t)) where
 
 -- What a test leads to.
 pub goes-to : (b : Bool) (d next : Due) (x y : ℕ) → cond b (Next.Goes d) (Next.Stops x y) ≡ Next.Goes next → d ≡ next
-goes-to true d next x y e = cc
-goes-to false d next x y e = let z : _≡_ {A = ℕ} 0 1 = cc in absurd (omega arith)
+goes-to b d next x y e = one-test b d next x y e .1
 
 pub counted-due : (t : Text) (next : Due) → countRule base t ≡ Next.Goes next → (j : ℕ) × (next ≡ recordsDue j)
 counted-due t next e =

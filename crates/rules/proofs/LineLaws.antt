@@ -41,15 +41,15 @@ module _ (R : Rules) where
     pub rule : lineRule R l ≡ true
     pub text : s ≡ l ++ crlf ++ rest
 
-  picked : (b : Bool) (a r l rest : Text) → cond b (aLine a r) noLine ≡ aLine l rest → (b ≡ true) × (a ≡ l) × (r ≡ rest)
-  picked true a r l rest e = (refl, cc, cc)
-  picked false a r l rest e = let z : _≡_ {A = ℕ} 0 1 = cc in absurd (omega arith)
+  line-picked : (b : Bool) (a r l rest : Text) → cond b (aLine a r) noLine ≡ aLine l rest → (b ≡ true) × (a ≡ l) × (r ≡ rest)
+  line-picked true a r l rest e = (refl, cc, cc)
+  line-picked false a r l rest e = let z : _≡_ {A = ℕ} 0 1 = cc in absurd (omega arith)
 
   pub first-is : (s l rest : Text) → firstLine R s ≡ aLine l rest → IsFirst s l rest
   unfolding firstLine lineRule
   first-is s l rest e =
       let n = span allowed s in
-      let p = picked (leb n (R .longestLine) && begins crlf (drop n s)) (take n s) (drop (n + 2) s) l rest e in
+      let p = line-picked (leb n (R .longestLine) && begins crlf (drop n s)) (take n s) (drop (n + 2) s) l rest e in
       let short : leb n (R .longestLine) ≡ true = and-l (leb n (R .longestLine)) (begins crlf (drop n s)) (p .0) in
       let end : begins crlf (drop n s) ≡ true = and-r (leb n (R .longestLine)) (begins crlf (drop n s)) (p .0) in
       let fits : length (take n s) ≤ R .longestLine = omega (arith, length-take n s, leb-true n (R .longestLine) short) in

@@ -1,11 +1,10 @@
 -- Laws of tests: what follows from a test that holds, and which of two answers a test gave. Of tests on numbers borrow.Author.Tests tells.
 -- Assumes nothing.
-use Prim.Native.Nat.{ℕ}
 use mathlib.Core.Path.{_≡_, refl}
 use mathlib.Core.Bool.{Bool, true, false, cond, not, _&&_, _||_, true≢false, false≢true}
 use mathlib.Core.Logic.{_⊎_, inl, inr}
-use lib.Dec.{T, eqb}
-use borrow.Author.Tests as library
+use lib.Dec.{T}
+pub use borrow.Author.Tests.{not-true, eqb-true as eq-of-test}
 
 -- A test that holds, as a type and as an equation.
 pub so : (b : Bool) → T b → b ≡ true
@@ -64,10 +63,3 @@ picked false e n = absurd (n e)
 pub passed : {A : Type 0} (b : Bool) {x y z : A} → cond b x z ≡ y → (x ≡ y → ⊥) → (b ≡ false) × (z ≡ y)
 passed true e n = absurd (n e)
 passed false e n = (refl, e)
-
--- The library's laws under other names.
-pub not-true : (b : Bool) → not b ≡ true → b ≡ false
-not-true = library.not-true
-
-pub eq-of-test : (m n : ℕ) → eqb m n ≡ true → m ≡ n
-eq-of-test = library.eqb-true

@@ -31,7 +31,7 @@ pub no-log : {A : Type 0} {r : Refusal} {log : Log} → refused r ≡ accepted l
 no-log e = let z : _≡_ {A = ℕ} 0 1 = cc in absurd (omega arith)
 
 -- What a test, or two tests, let go on.
-one-test : (b : Bool) (on next : Due) (number field : ℕ) → cond b (Goes on) (Stops number field) ≡ Goes next → (b ≡ true) × (on ≡ next)
+pub one-test : (b : Bool) (on next : Due) (number field : ℕ) → cond b (Goes on) (Stops number field) ≡ Goes next → (b ≡ true) × (on ≡ next)
 one-test true on next number field e = (refl, cc)
 one-test false on next number field e = let z : _≡_ {A = ℕ} 0 1 = cc in absurd (omega arith)
 
