@@ -23,6 +23,9 @@ range-from least most b h = rw (le-leb least b h)
 pub next : (s : Text) (i : ℕ) → i < length s → drop i s ≡ getD s i 0 ∷ drop (i + 1) s
 next s i h = rw (add-one, drop-cons s i 0)
 
+pub next-at : (s : Text) (i j : ℕ) → i < length s → i + 1 ≡ j → drop i s ≡ getD s i 0 ∷ drop j s
+next-at s i j h e = next s i h ∙ ap (λ (k : ℕ). getD s i 0 ∷ drop k s) e
+
 -- A loop over a run: the run from the first place on ends where the run from the present place on does.
 pub record Within (f : ℕ → Bool) (s : Text) (at i : ℕ) : Type 0 where
   pub ending : at + span f (drop at s) ≡ i + span f (drop i s)

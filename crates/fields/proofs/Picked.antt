@@ -1,15 +1,15 @@
 -- What a reader's answer says of its field, for whoever calls it: where it is not bad the rule is kept and the end is the field's, and where
 -- it is bad the rule is broken.
 -- Assumes nothing.
-use Prim.Native.Nat.{ℕ, _≤_}
+use Prim.Native.Nat.{ℕ}
 use native.Mathlib.Omega.{arith}
-use mathlib.Core.Path.{_≡_, refl, sym}
+use mathlib.Core.Path.{_≡_, sym}
 use mathlib.Core.Bool.{Bool, true, false, cond, not}
 use mathlib.Core.List.{[], _∷_}
-use lib.ListN.{length, drop, length-take, length-drop}
-use Rattle.rules.specs.Text.{Text, span, same, empty}
+use Rattle.rules.specs.Text.{Text, same, empty}
 use Rattle.rules.specs.Rules.{base}
 use Rattle.rules.specs.Fields.{call, errorCall, mode, report, serial, exchange, locator, emptyOr}
+use Rattle.rules.proofs.Tests.{picked, passed}
 use Rattle.fields.specs.declared.CallRead.{CallRead}
 use Rattle.fields.specs.declared.CallRead.the-variants as CallRead
 use Rattle.fields.specs.declared.ModeRead.{ModeRead}
@@ -24,27 +24,12 @@ use Rattle.fields.specs.declared.LocatorRead.{LocatorRead}
 use Rattle.fields.specs.declared.LocatorRead.the-variants as LocatorRead
 use Rattle.fields.specs.declared.MarkRead.{MarkRead}
 use Rattle.fields.specs.declared.MarkRead.the-variants as MarkRead
-use Rattle.fields.specs.Field.{inField, textAt, endOf, callAt, callOrEmptyAt, modeAt, reportAt, serialAt, exchangeAt, locatorAt, locatorOrEmptyAt, markAt}
-
--- The end of a field lies within the line, if its beginning does.
-pub end-within : (s : Text) (at : ℕ) → at ≤ length s → endOf s at ≤ length s
-unfolding endOf textAt
-end-within s at h =
-    omega (arith, length-take (span inField (drop at s)) (drop at s), length-drop at s)
+use Rattle.fields.specs.Field.{textAt, endOf, callAt, callOrEmptyAt, modeAt, reportAt, serialAt, exchangeAt, locatorAt, locatorOrEmptyAt, markAt}
 
 -- A field keeps a rule and ends here.
 pub record Kept (rule : Text → Bool) (s : Text) (at end : ℕ) : Type 0 where
   pub holds : rule (textAt s at) ≡ true
   pub ending : end ≡ endOf s at
-
--- One of two answers was given: which of the two, and so what the test was.
-picked : {A : Type 0} (test : Bool) (good bad answer : A) → (bad ≡ answer → ⊥) → cond test good bad ≡ answer → (test ≡ true) × (good ≡ answer)
-picked true good bad answer n e = (refl, e)
-picked false good bad answer n e = absurd (n e)
-
-refused : {A : Type 0} (test : Bool) (good bad : A) → (good ≡ bad → ⊥) → cond test good bad ≡ bad → test ≡ false
-refused true good bad n e = absurd (n e)
-refused false good bad n e = refl
 
 -- A call, and one that may be empty.
 call-apart : (e : ℕ) (b : Bool) → CallRead.Bad ≡ CallRead.Call e b → ⊥
@@ -56,14 +41,11 @@ module _ (rule : Text → Bool) (s : Text) (at : ℕ) where
 
   call-says : {e : ℕ} {b : Bool} → answered ≡ CallRead.Call e b → Kept rule s at e × (b ≡ same (textAt s at) errorCall)
   call-says {e} {b} h =
-      let p =
-      picked (rule (textAt s at)) (CallRead.Call (endOf s at) (same (textAt s at) errorCall)) CallRead.Bad (CallRead.Call e b) (call-apart e b) h in
+      let p = picked (rule (textAt s at)) h (call-apart e b) in
       (record { holds = p .0; ending = cc }, cc)
 
   call-denies : answered ≡ CallRead.Bad → rule (textAt s at) ≡ false
-  call-denies h =
-      refused (rule (textAt s at)) (CallRead.Call (endOf s at) (same (textAt s at) errorCall)) CallRead.Bad
-      (λ q. call-apart (endOf s at) (same (textAt s at) errorCall) (sym q)) h
+  call-denies h = passed (rule (textAt s at)) h (λ q. call-apart (endOf s at) (same (textAt s at) errorCall) (sym q)) .0
 
 module _ (s : Text) (at : ℕ) where
   pub call-picked : {e : ℕ} {b : Bool} → callAt s at ≡ CallRead.Call e b → Kept call s at e × (b ≡ same (textAt s at) errorCall)
@@ -86,11 +68,11 @@ module _ (s : Text) (at : ℕ) where
 module _ {A : Type 0} (good : ℕ → A) (bad : A) (same-end : (x y : ℕ) → good x ≡ good y → y ≡ x) (apart : (x : ℕ) → bad ≡ good x → ⊥) (rule : Text → Bool) (s : Text) (at : ℕ) where
   end-says : (e : ℕ) → cond (rule (textAt s at)) (good (endOf s at)) bad ≡ good e → Kept rule s at e
   end-says e h =
-      let p = picked (rule (textAt s at)) (good (endOf s at)) bad (good e) (apart e) h in
+      let p = picked (rule (textAt s at)) h (apart e) in
       record { holds = p .0; ending = same-end (endOf s at) e (p .1) }
 
   end-denies : cond (rule (textAt s at)) (good (endOf s at)) bad ≡ bad → rule (textAt s at) ≡ false
-  end-denies h = refused (rule (textAt s at)) (good (endOf s at)) bad (λ q. apart (endOf s at) (sym q)) h
+  end-denies h = passed (rule (textAt s at)) h (λ q. apart (endOf s at) (sym q)) .0
 
 -- A mode.
 mode-same : (x y : ℕ) → ModeRead.Mode x ≡ ModeRead.Mode y → y ≡ x
@@ -189,12 +171,10 @@ module _ (letter : ℕ) (s : Text) (at : ℕ) where
   pub mark-picked : {b : Bool} {e : ℕ} → markAt letter s at ≡ MarkRead.Mark b e → Kept (emptyOr (same (letter ∷ []))) s at e × (b ≡ not (empty (textAt s at)))
   unfolding markAt
   mark-picked {b} {e} h =
-      let p =
-      picked (emptyOr (same (letter ∷ [])) (textAt s at)) (MarkRead.Mark (not (empty (textAt s at))) (endOf s at)) MarkRead.Bad (MarkRead.Mark b e) (mark-apart b e) h in
+      let p = picked (emptyOr (same (letter ∷ [])) (textAt s at)) h (mark-apart b e) in
       (record { holds = p .0; ending = cc }, cc)
 
   pub mark-refused : markAt letter s at ≡ MarkRead.Bad → emptyOr (same (letter ∷ [])) (textAt s at) ≡ false
   unfolding markAt
   mark-refused h =
-      refused (emptyOr (same (letter ∷ [])) (textAt s at)) (MarkRead.Mark (not (empty (textAt s at))) (endOf s at)) MarkRead.Bad
-      (λ q. mark-apart (not (empty (textAt s at))) (endOf s at) (sym q)) h
+      passed (emptyOr (same (letter ∷ [])) (textAt s at)) h (λ q. mark-apart (not (empty (textAt s at))) (endOf s at) (sym q)) .0

@@ -1,6 +1,6 @@
 -- Laws of the fields that are a run of one kind of characters: how long the field is, and what its rule says of that.
 -- Assumes nothing.
-use Prim.Native.Nat.{ℕ, zero, suc, _+_, _-_, _≤_, _<_}
+use Prim.Native.Nat.{ℕ, suc, _+_, _-_, _≤_, _<_}
 use native.Mathlib.Omega.{arith}
 use native.Mathlib.Nat.{not-suc-le-zero}
 use mathlib.Core.Path.{_≡_, refl, sym, ap, _∙_}
@@ -12,6 +12,7 @@ use borrow.Author.Tests.{le-leb, lt-leb, le-ltb, lt-ltb, leb-true, leb-false, ne
 use Rattle.rules.specs.Text.{digit, Text, span, all, same}
 use Rattle.rules.specs.Rules.{base}
 use Rattle.rules.specs.Fields.{exchange, exchangeCharacter, call, serial, callCharacter, errorCall}
+use Rattle.rules.proofs.TextLaws.{same-apart, take-its-length}
 use Rattle.fields.specs.declared.CallRead.{CallRead}
 use Rattle.fields.specs.declared.CallRead.the-variants as CallRead
 use Rattle.fields.specs.declared.ExchangeRead.{ExchangeRead}
@@ -19,7 +20,7 @@ use Rattle.fields.specs.declared.ExchangeRead.the-variants as ExchangeRe
 use Rattle.fields.specs.declared.SerialRead.{SerialRead}
 use Rattle.fields.specs.declared.SerialRead.the-variants as SerialRead
 use Rattle.fields.specs.Field.{exchangeAt, serialAt, inField, textAt, endsAt, endOf, callAt}
-use Rattle.fields.proofs.FieldLaws.{next, run-is-field, run-is-as-long}
+use Rattle.fields.proofs.FieldLaws.{next-at, run-is-field, run-is-as-long}
 
 -- The run from a place on ended: the field is no run of the kind, or it is, and ends there.
 pub record Run (f : ℕ → Bool) (s : Text) (at end : ℕ) : Type 0 where
@@ -41,34 +42,10 @@ module _ (f : ℕ → Bool) (apart : f 59 ≡ false) (s : Text) (at end : ℕ) (
       let l : endOf s at ≡ end = run-is-as-long f apart s at k ∙ sym h in
       record { kind = k; ending = l; count = omega arith }
 
--- The call `ERROR`.
-same-step : {n m : ℕ} (b d : Bool) → (b && d) ≡ true → (d ≡ true → n ≡ m) → suc n ≡ suc m
-same-step true d e h = ap suc (h e)
-same-step false d e h = absurd (true≢false (sym e))
-
-same-length : (t u : Text) → same t u ≡ true → length t ≡ length u
-unfolding same
-same-length [] [] e = refl
-same-length [] (d ∷ u) e = absurd (true≢false (sym e))
-same-length (c ∷ t) [] e = absurd (true≢false (sym e))
-same-length (c ∷ t) (d ∷ u) e = same-step (eqb c d) (same t u) e (same-length t u)
-
-pub other-length : (t : Text) → (length t ≡ 5 → ⊥) → false ≡ same t errorCall
-unfolding errorCall
-other-length t h = by (same t errorCall) refl
-  where
-    by : (b : Bool) → same t errorCall ≡ b → false ≡ b
-    by true e = absurd (h (same-length t errorCall e))
-    by false e = refl
-
-take-own : (n : ℕ) (t : Text) → take n t ≡ take (length (take n t)) t
-take-own zero t = refl
-take-own (suc n) [] = refl
-take-own (suc n) (c ∷ t) = ap (λ (u : Text). c ∷ u) (take-own n t)
-
+-- A field by its length.
 pub text-of-length : (s : Text) (at n : ℕ) → length (textAt s at) ≡ n → textAt s at ≡ take n (drop at s)
 unfolding textAt
-text-of-length s at n e = take-own (span inField (drop at s)) (drop at s) ∙ ap (λ (k : ℕ). take k (drop at s)) e
+text-of-length s at n e = sym (take-its-length (span inField (drop at s)) (drop at s)) ∙ ap (λ (k : ℕ). take k (drop at s)) e
 
 -- A field that is not empty lies within the line.
 pub text-within : (s : Text) (at : ℕ) → 0 < length (textAt s at) → at + length (textAt s at) ≤ length s
@@ -76,8 +53,10 @@ unfolding textAt
 text-within s at h =
     omega (arith, length-take (span inField (drop at s)) (drop at s), length-drop at s)
 
-next-at : (s : Text) (i j : ℕ) → i < length s → i + 1 ≡ j → drop i s ≡ getD s i 0 ∷ drop j s
-next-at s i j h e = next s i h ∙ ap (λ (k : ℕ). getD s i 0 ∷ drop k s) e
+-- The call `ERROR`.
+other-length : (t : Text) → (length t ≡ 5 → ⊥) → false ≡ same t errorCall
+unfolding errorCall
+other-length t h = same-apart t errorCall h
 
 pub five : (s : Text) (i : ℕ) → i + 5 ≤ length s
     → take 5 (drop i s)

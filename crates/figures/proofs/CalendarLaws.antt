@@ -10,7 +10,7 @@ use lib.ListN.{getD, List·getD-eq-default}
 use borrow.Author.Tests.{not-true, eq-eqb, ne-eqb, le-leb, lt-leb, leb-true}
 use Rattle.rules.specs.Text.{Text, all}
 use Rattle.rules.specs.Fields.{monthLengths, leap, monthLength, dayExists, fullYear}
-use Rattle.figures.proofs.Choices.{both-first, both-second}
+use Rattle.rules.proofs.Tests.{and-l, and-r}
 
 module _ (year : ℕ) where
   pub leap-four-hundred : year % 400 ≡ 0 → true ≡ leap year
@@ -30,8 +30,8 @@ entry-small : (l : Text) (i : ℕ) → all (λ (c : ℕ). leb c 31) l ≡ true �
 unfolding all
 entry-small [] zero h = lit≤ tt
 entry-small [] (suc i) h = lit≤ tt
-entry-small (c ∷ l) zero h = leb-true c 31 (both-first (leb c 31) (all (λ (c : ℕ). leb c 31) l) h)
-entry-small (c ∷ l) (suc i) h = entry-small l i (both-second (leb c 31) (all (λ (c : ℕ). leb c 31) l) h)
+entry-small (c ∷ l) zero h = leb-true c 31 (and-l (leb c 31) (all (λ (c : ℕ). leb c 31) l) h)
+entry-small (c ∷ l) (suc i) h = entry-small l i (and-r (leb c 31) (all (λ (c : ℕ). leb c 31) l) h)
 
 pub length-small : (i : ℕ) → getD monthLengths i 0 ≤ 31
 unfolding monthLengths all

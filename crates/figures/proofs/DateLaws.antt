@@ -12,6 +12,7 @@ use borrow.Author.Tests.{not-true, not-false, eq-eqb, ne-eqb, eqb-true, le-leb, 
 use Rattle.rules.specs.Text.{Text, digit, all, empty, value}
 use Rattle.rules.specs.Fields.{dayExists, fullYear, shortDate, longDate}
 use Rattle.rules.proofs.TextLaws.{all-drop}
+use Rattle.rules.proofs.NumberLaws.{value-below}
 use Rattle.fields.specs.Field.{textAt, endsAt}
 use Rattle.figures.specs.declared.DigitsRead.{DigitsRead}
 use Rattle.figures.specs.declared.DateRead.{DateRead}
@@ -19,7 +20,7 @@ use Rattle.figures.specs.declared.DateRead.the-variants as DateRead
 use Rattle.figures.specs.declared.LongDateRead.{LongDateRead}
 use Rattle.figures.specs.declared.LongDateRead.the-variants as LongDateRead
 use Rattle.figures.specs.Figure.{digitsAt, dateAt, longDateAt}
-use Rattle.figures.proofs.NumberLaws.{value-split, value-below, is-read, not-read, end-is-length}
+use Rattle.figures.proofs.NumberLaws.{value-split, is-read, not-read, end-here}
 
 -- The year, the month and the day of a date's digits, from the number that they write.
 module _ (k : ℕ) (t : Text) (l : length t ≡ k + 4) (h : all digit t ≡ true) where
@@ -123,21 +124,18 @@ module _ (s : Text) (at : ℕ) (r : DigitsRead) (e : r ≡ digitsAt 6 s at) wher
       date-bad (short-unended (textAt s at) g) (unended-not-empty 6 (textAt s at) g)
 
   module _ (h : endsAt s (r .end) ≡ true) where
-    pub date-end : r .end ≡ at + length (textAt s at)
-    date-end = is-read 6 s at r e h .end ∙ end-is-length s at
-
     pub date-empty : r .end ≡ at → DateRead.Empty ≡ dateAt s at
     unfolding dateAt shortDate
-    date-empty n = rw (is-empty (textAt s at) (omega (arith, date-end)))
+    date-empty n = rw (is-empty (textAt s at) (omega (arith, end-here 6 s at r e h)))
 
     pub date-other : (r .end ≡ at → ⊥) → (r .end - at ≡ 6 → ⊥) → DateRead.Bad ≡ dateAt s at
     date-other n m =
-        date-bad (short-other (textAt s at) (λ k. m (omega (arith, date-end))))
-        (λ k. n (omega (arith, date-end)))
+        date-bad (short-other (textAt s at) (λ k. m (omega (arith, end-here 6 s at r e h))))
+        (λ k. n (omega (arith, end-here 6 s at r e h)))
 
     module _ (l : r .end - at ≡ 6) where
       six : length (textAt s at) ≡ 6
-      six = omega (arith, date-end)
+      six = omega (arith, end-here 6 s at r e h)
 
       pub date-below : r .value < 1000000
       date-below =
@@ -168,9 +166,6 @@ module _ (s : Text) (at : ℕ) (r : DigitsRead) (e : r ≡ digitsAt 8 s at) wher
   long-date-unended h = long-bad (long-unended (textAt s at) (not-read 8 s at r e (not-true (endsAt s (r .end)) h)))
 
   module _ (h : endsAt s (r .end) ≡ true) where
-    pub long-date-end : r .end ≡ at + length (textAt s at)
-    long-date-end = is-read 8 s at r e h .end ∙ end-is-length s at
-
     same : r .value ≡ value (textAt s at)
     same = is-read 8 s at r e h .value
 
@@ -178,11 +173,11 @@ module _ (s : Text) (at : ℕ) (r : DigitsRead) (e : r ≡ digitsAt 8 s at) wher
     digits = is-read 8 s at r e h .digits
 
     pub long-date-other : (r .end - at ≡ 8 → ⊥) → LongDateRead.Bad ≡ longDateAt s at
-    long-date-other m = long-bad (long-other (textAt s at) (λ k. m (omega (arith, long-date-end))))
+    long-date-other m = long-bad (long-other (textAt s at) (λ k. m (omega (arith, end-here 8 s at r e h))))
 
     module _ (l : r .end - at ≡ 8) where
       eight : length (textAt s at) ≡ 8
-      eight = omega (arith, long-date-end)
+      eight = omega (arith, end-here 8 s at r e h)
 
       pub long-date-below : r .value < 100000000
       long-date-below = omega (arith, same, rw eight at (value-below (textAt s at) digits))

@@ -1,6 +1,6 @@
 -- Fields of a known length.
 -- Assumes nothing.
-use Prim.Native.Nat.{ℕ, zero, suc, _+_, _≤_, _<_}
+use Prim.Native.Nat.{ℕ, zero, suc, _+_, _≤_}
 use native.Mathlib.Omega.{arith}
 use mathlib.Core.Path.{_≡_, refl, sym, ap, _∙_}
 use mathlib.Core.Bool.{Bool, true, false, _&&_}
@@ -9,10 +9,10 @@ use lib.Dec.{leb, eqb}
 use lib.ListN.{length, take, drop, getD}
 use lib.Seq.{drop-drop}
 use Rattle.rules.specs.Text.{Text, digit, span, all, empty}
+use Rattle.rules.proofs.Tests.{and-l, and-r}
 use Rattle.fields.specs.Field.{inField, textAt, endsAt}
-use Rattle.fields.proofs.FieldLaws.{next as at-place}
+use Rattle.fields.proofs.FieldLaws.{next-at}
 use Rattle.figures.specs.Figure.{digitsWithin}
-use Rattle.figures.proofs.Choices.{both-first, both-second}
 use Rattle.figures.proofs.NumberLaws.{field, span-length, whole}
 
 -- A field ends behind its text.
@@ -32,15 +32,11 @@ unfolding all digitsWithin
 all-counted zero s l h = refl
 all-counted (suc n) [] l h = absurd (omega arith)
 all-counted (suc n) (c ∷ s) l h =
-    rw (both-first (digit c) (all digit (take n s)) h)
-    (ap suc (all-counted n s (omega arith) (both-second (digit c) (all digit (take n s)) h)))
+    rw (and-l (digit c) (all digit (take n s)) h)
+    (ap suc (all-counted n s (omega arith) (and-r (digit c) (all digit (take n s)) h)))
 
 module _ (n : ℕ) (s : Text) (at : ℕ) where
-  -- A field that is so long is the text so far, and ends behind it.
-  pub exact-text : length (textAt s at) ≡ n → textAt s at ≡ take n (drop at s)
-  unfolding textAt
-  exact-text h = ap (λ (k : ℕ). take k (drop at s)) (sym (span-length inField (drop at s)) ∙ h)
-
+  -- A field that is so long ends behind so many characters.
   pub exact-ends : length (textAt s at) ≡ n → endsAt s (at + n) ≡ true
   unfolding textAt endsAt
   exact-ends h =
@@ -56,11 +52,12 @@ module _ (n : ℕ) (s : Text) (at : ℕ) where
       g = sym (whole n (drop at s) .0) ∙ rw (all-counted n (drop at s) l h, drop-drop) e
 
 -- Four characters from a place on.
-next : (s : Text) (i j : ℕ) → j ≡ i + 1 → i < length s → drop i s ≡ getD s i 0 ∷ drop j s
-next s i j e h = rw e (at-place s i h)
-
 pub four-characters : (s : Text) (at : ℕ) → at + 4 ≤ length s
     → take 4 (drop at s) ≡ getD s at 0 ∷ getD s (at + 1) 0 ∷ getD s (at + 2) 0 ∷ getD s (at + 3) 0 ∷ []
 four-characters s at h =
-    rw
-    (next s at (at + 1) refl (omega arith), next s (at + 1) (at + 2) (omega arith) (omega arith), next s (at + 2) (at + 3) (omega arith) (omega arith), next s (at + 3) (at + 4) (omega arith) (omega arith))
+    rw (
+      next-at s at (at + 1) (omega arith) refl,
+      next-at s (at + 1) (at + 2) (omega arith) (omega arith),
+      next-at s (at + 2) (at + 3) (omega arith) (omega arith),
+      next-at s (at + 3) (at + 4) (omega arith) (omega arith),
+    )

@@ -1,5 +1,4 @@
--- Laws, from those of choices to those that callers go by.
-pub mod Choices
+-- Laws, from those of numbers to those that callers go by.
 pub mod NumberLaws
 pub mod ExactLaws
 pub mod TimeLaws

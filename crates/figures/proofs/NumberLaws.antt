@@ -2,28 +2,32 @@
 -- Assumes nothing.
 use Prim.Native.Nat.{ℕ, zero, suc, _+_, _*_, _-_, _^_, _≤_, _<_}
 use native.Mathlib.Omega.{arith}
-use native.Mathlib.Nat.{pow-succ', pow-le-pow-right, one-le-pow, lt-of-lt-of-le, le-trans, add-zero, add-mul, mul-assoc, mul-comm, mul-le-mul-right, one-mul}
+use native.Mathlib.Nat.{pow-succ', one-le-pow, add-zero, add-mul, mul-assoc, mul-comm}
 use mathlib.Core.Path.{_≡_, refl, sym, ap, _∙_}
-use mathlib.Core.Bool.{Bool, true, false, cond, not, _&&_, _||_, and-false, true≢false}
+use mathlib.Core.Bool.{Bool, true, false, cond, not, _&&_, and-false, true≢false}
 use mathlib.Core.List.{[], _∷_}
-use lib.Dec.{leb, eqb, lit<, leb·zero, leb·suc-zero, leb·suc-suc}
-use lib.ListN.{length, take, drop, getD, drop-of-length-le, length-take, length-drop}
-use lib.Seq.{drop-drop, getD-drop}
-use borrow.Author.Tests.{leb-true, leb-false, le-leb, lt-leb, eqb-true, eqb-false, ne-eqb, not-true}
-use Rattle.rules.specs.Text.{Text, bytes, digit, span, all, same, begins, empty, value, valueAfter, number, numberOf}
+use lib.Dec.{T, leb, eqb, leb→le, le→leb, lit<, leb·zero, leb·suc-zero, leb·suc-suc}
+use lib.ListN.{length, take, drop, getD, drop-of-length-le}
+use lib.Seq.{length-take-le, drop-drop, getD-drop}
+use borrow.Author.Tests.{leb-true, eqb-true, ne-eqb, not-true}
+use Rattle.rules.specs.Text.{Text, digit, span, all, same, begins, empty, value, valueAfter, number, numberOf}
+use Rattle.rules.proofs.Tests.{and-l, and-r}
+use Rattle.rules.proofs.Passing.{equal-tests}
+use Rattle.rules.proofs.TextLaws.{span-short}
+use Rattle.rules.proofs.NumberLaws.{number-digits, value-below, below-power, number-length}
 use Rattle.fields.specs.Field.{inField, textAt, endsAt, endOf}
 use Rattle.fields.proofs.FieldLaws.{next as at-place}
+use Rattle.fields.proofs.RunLaws.{text-within}
 use Rattle.figures.specs.declared.DigitsRead.{DigitsRead}
 use Rattle.figures.specs.declared.NumberRead.{NumberRead}
 use Rattle.figures.specs.declared.NumberRead.the-variants as NumberRead
 use Rattle.figures.specs.Figure.{digitsWithin, digitsFrom, digitsAt, numberAt}
-use Rattle.figures.proofs.Choices.{both-first, both-second}
 
 pub digit-least : (b : ℕ) → digit b ≡ true → 48 ≤ b
-digit-least b e = leb-true 48 b (both-first (leb 48 b) (leb b 57) e)
+digit-least b e = leb-true 48 b (and-l (leb 48 b) (leb b 57) e)
 
 pub digit-most : (b : ℕ) → digit b ≡ true → b ≤ 57
-digit-most b e = leb-true b 57 (both-second (leb 48 b) (leb b 57) e)
+digit-most b e = leb-true b 57 (and-r (leb 48 b) (leb b 57) e)
 
 abbrev read : ℕ → ℕ → DigitsRead
 read v e = record { value = v; end = e }
@@ -66,9 +70,6 @@ below-more most left v d l m h k =
     let e : most - (left - 1) ≡ suc (most - left) = omega arith in
     rw (e, pow-succ') (omega arith)
 
-pub below-power : (n k : ℕ) {v : ℕ} → n ≤ k → v < 10 ^ n → v < 10 ^ k
-below-power n k l h = lt-of-lt-of-le h (pow-le-pow-right (lit< tt) l)
-
 -- The text up to the next semicolon.
 abbrev pub field : Text → Text
 field s = take (span inField s) s
@@ -103,14 +104,7 @@ whole (suc most) (c ∷ s) = whole-step most c s (digit c) (eqb c 59) refl refl 
 
 -- A run of characters is as long as its text.
 pub span-length : (f : ℕ → Bool) (s : Text) → length (take (span f s) s) ≡ span f s
-unfolding span
-span-length f [] = refl
-span-length f (c ∷ s) = by (f c) (span-length f s)
-  where
-    by : (b : Bool) → length (take (span f s) s) ≡ span f s
-        → length (take (cond b (suc (span f s)) 0) (c ∷ s)) ≡ cond b (suc (span f s)) 0
-    by true h = ap suc h
-    by false h = refl
+span-length f s = length-take-le (span f s) s (span-short f s)
 
 pub end-is-length : (s : Text) (at : ℕ) → endOf s at ≡ at + length (textAt s at)
 unfolding endOf
@@ -133,10 +127,6 @@ text-first s at h =
     field-first (drop at s) h
     ∙ ap (λ (c : ℕ). c ∷ drop 1 (field (drop at s))) (getD-drop at s 0 0 ∙ ap (λ (i : ℕ). getD s i 0) (add-zero at))
 
-pub text-within : (s : Text) (at : ℕ) → 0 < length (textAt s at) → at + length (textAt s at) ≤ length s
-unfolding textAt
-text-within s at h = omega (arith, length-take (span inField (drop at s)) (drop at s), length-drop at s)
-
 -- Digits were read, and the field ends behind them: they are the field.
 pub record Read (most : ℕ) (s : Text) (at : ℕ) (r : DigitsRead) : Type 0 where
   pub digits : all digit (textAt s at) ≡ true
@@ -151,7 +141,7 @@ module _ (most : ℕ) (s : Text) (at : ℕ) (r : DigitsRead) (e : r ≡ digitsAt
 
   pub is-read : endsAt s (r .end) ≡ true → Read most s at r
   unfolding digitsAt digitsFrom endsAt textAt endOf value
-  is-read h = record { digits = both-first (all digit (textAt s at)) (leb (length (textAt s at)) most) g; short = both-second (all digit (textAt s at)) (leb (length (textAt s at)) most) g; value = rw (e, count); end = rw (e, count, span-length) }
+  is-read h = record { digits = and-l (all digit (textAt s at)) (leb (length (textAt s at)) most) g; short = and-r (all digit (textAt s at)) (leb (length (textAt s at)) most) g; value = rw (e, count); end = rw (e, count, span-length) }
     where
       g : (all digit (textAt s at) && leb (length (textAt s at)) most) ≡ true
       g = sym ends-is ∙ h
@@ -269,21 +259,6 @@ value-after n (c ∷ t) =
     ∙ ap (λ (m : ℕ). n * m + ((0 + (c - 48)) * 10 ^ length t + value t)) (sym (pow-succ' 10 (length t)))
     ∙ sym (ap (λ (m : ℕ). n * 10 ^ suc (length t) + m) (value-after (10 * 0 + (c - 48)) t))
 
--- So many digits write a number below ten to that power, and at least the power before, if the first is no zero.
-pub value-below : (t : Text) → all digit t ≡ true → value t < 10 ^ length t
-unfolding valueAfter value all
-value-below [] h = lit< tt
-value-below (c ∷ t) h =
-    let few : c ≤ 57 = digit-most c (both-first (digit c) (all digit t) h) in
-    rw (value-after (0 + (c - 48)) t, pow-succ')
-    (omega (arith, value-below t (both-second (digit c) (all digit t) h), mul-le-mul-right {m = 0 + (c - 48)} {n = 9} (10 ^ length t) (omega arith)))
-
-value-from : (c : ℕ) (t : Text) → digit c ≡ true → (c ≡ 48 → ⊥) → 10 ^ length t ≤ value (c ∷ t)
-unfolding valueAfter value
-value-from c t h n =
-    let some : 49 ≤ c = omega (arith, digit-least c h) in
-    rw (value-after (0 + (c - 48)) t) (omega (arith, mul-le-mul-right {m = 1} {n = 0 + (c - 48)} (10 ^ length t) (omega arith), one-mul (10 ^ length t)))
-
 -- A text's value, from the values of its parts.
 after-split : (k n : ℕ) (t : Text) → valueAfter n t ≡ valueAfter (valueAfter n (take k t)) (drop k t)
 unfolding valueAfter
@@ -295,38 +270,18 @@ pub value-split : (k : ℕ) (t : Text) → value t ≡ value (take k t) * 10 ^ l
 unfolding value
 value-split k t = after-split k 0 t ∙ value-after (valueAfter 0 (take k t)) (drop k t)
 
-pub number-digits : (t : Text) → number t ≡ true → all digit t ≡ true
-unfolding number
-number-digits t n =
-    both-second (not (empty t)) (all digit t)
-    (both-first (not (empty t) && all digit t) (same t (bytes "0") || not (begins (bytes "0") t)) n)
-
--- A number that begins with a zero is that zero.
-number-zero : (c : ℕ) (t : Text) → number (c ∷ t) ≡ true → c ≡ 48 → length t ≡ 0
-unfolding number same begins
-number-zero c [] n e = refl
-number-zero c (d ∷ t) n e = let z : true ≡ false = sym n ∙ rw (e, and-false) in absurd (true≢false z)
-
-number-from : (k : ℕ) (t : Text) → 1 ≤ k → number t ≡ true → k < length t → 10 ^ k ≤ value t
-unfolding number
-number-from k [] l n h = absurd (omega arith)
-number-from k (c ∷ t) l n h = by (eqb c 48) refl
-  where
-    by : (b : Bool) → eqb c 48 ≡ b → 10 ^ k ≤ value (c ∷ t)
-    by true e = absurd (omega (arith, number-zero c t n (eqb-true c 48 e)))
-    by false e =
-        le-trans (pow-le-pow-right {n = 10} (lit< tt) {i = k} {j = length t} (omega arith))
-        (value-from c t (both-first (digit c) (all digit t) (number-digits (c ∷ t) n)) (eqb-false c 48 e))
-
 -- A number has at most so many digits exactly when it is below ten to that power.
 pub digits-bound : (k : ℕ) (t : Text) → 1 ≤ k → number t ≡ true → leb (length t) k ≡ leb (value t) (10 ^ k - 1)
-digits-bound k t l n = by (leb (length t) k) refl
+digits-bound zero t l n = absurd (omega arith)
+digits-bound (suc k) t l n = equal-tests (leb (length t) (suc k)) (leb (value t) (10 ^ suc k - 1)) few small
   where
-    by : (b : Bool) → leb (length t) k ≡ b → b ≡ leb (value t) (10 ^ k - 1)
-    by true e =
-        let low : value t < 10 ^ k = below-power (length t) k (leb-true (length t) k e) (value-below t (number-digits t n)) in
-        sym (le-leb (value t) (10 ^ k - 1) (omega arith))
-    by false e =
-        let high : 10 ^ k ≤ value t = number-from k t l n (leb-false (length t) k e) in
-        let some : 1 ≤ 10 ^ k = one-le-pow k 10 (lit< tt) in
-        sym (lt-leb (value t) (10 ^ k - 1) (omega arith))
+    few : T (leb (length t) (suc k)) → T (leb (value t) (10 ^ suc k - 1))
+    few h =
+        let below : value t < 10 ^ suc k = below-power (length t) (suc k) (leb→le (length t) (suc k) h) (value-below t (number-digits t n)) in
+        le→leb (value t) (10 ^ suc k - 1) (omega arith)
+
+    small : T (leb (value t) (10 ^ suc k - 1)) → T (leb (length t) (suc k))
+    small h =
+        let most : value t ≤ 10 ^ suc k - 1 = leb→le (value t) (10 ^ suc k - 1) h in
+        let some : 1 ≤ 10 ^ suc k = one-le-pow (suc k) 10 (lit< tt) in
+        le→leb (length t) (suc k) (number-length k t n (omega arith))

@@ -1,16 +1,12 @@
 -- What a reader's answer tells of its field: that it keeps its rule, what it says and where it ends; or that it does not keep it.
 -- Assumes nothing.
-use Prim.Native.Nat.{ℕ, _^_, _≤_, _<_}
+use Prim.Native.Nat.{ℕ}
 use native.Mathlib.Omega.{arith}
 use mathlib.Core.Path.{_≡_, sym, ap}
-use mathlib.Core.Bool.{Bool, true, false, cond, _&&_}
-use lib.Dec.{leb}
-use lib.ListN.{length}
-use borrow.Author.Tests.{leb-true}
-use Rattle.rules.specs.Text.{Text, empty, value, number, numberOf, numberFrom}
-use Rattle.rules.specs.Rules.{base}
+use mathlib.Core.Bool.{Bool, true, false, cond}
+use Rattle.rules.specs.Text.{Text, empty, value}
 use Rattle.rules.specs.Fields.{shortDate, longDate, timeOfDay}
-use Rattle.rules.specs.Arguments.{count, bonus, multiplier}
+use Rattle.rules.proofs.Tests.{picked, passed}
 use Rattle.fields.specs.Field.{textAt, endOf}
 use Rattle.figures.specs.declared.TimeOfDay.{TimeOfDay}
 use Rattle.figures.specs.declared.DateRead.{DateRead}
@@ -21,10 +17,7 @@ use Rattle.figures.specs.declared.TimeRead.{TimeRead}
 use Rattle.figures.specs.declared.TimeRead.the-variants as TimeRead
 use Rattle.figures.specs.declared.NumberRead.{NumberRead}
 use Rattle.figures.specs.declared.NumberRead.the-variants as NumberRead
-use Rattle.figures.specs.Figure.{numberAt, dateAt, longDateAt, timeAt, minutesOf}
-use Rattle.figures.proofs.Choices.{both-first, both-second, picked, passed}
-use Rattle.figures.proofs.TimeLaws.{time-last, minutes-last}
-use Rattle.figures.proofs.NumberLaws.{number-digits, value-below, below-power}
+use Rattle.figures.specs.Figure.{numberAt, dateAt, longDateAt, timeAt}
 
 no-number : {v e : ℕ} → NumberRead.Bad ≡ NumberRead.Number v e → ⊥
 no-number p = let z : _≡_ {A = ℕ} 0 1 = cc in omega arith
@@ -40,40 +33,6 @@ module _ (rule : Text → Bool) (s : Text) (at : ℕ) where
   pub number-refused : numberAt rule s at ≡ NumberRead.Bad → rule (textAt s at) ≡ false
   unfolding numberAt
   number-refused p = passed (rule (textAt s at)) p (λ q. no-number (sym q)) .0
-
--- A number of at most so many digits is below ten to that power.
-pub number-below : (most : ℕ) (s : Text) (at : ℕ) {v e : ℕ} → numberAt (numberOf most) s at ≡ NumberRead.Number v e → v < 10 ^ most
-unfolding numberOf
-number-below most s at p =
-    let q = number-picked (numberOf most) s at p in
-    let n : number (textAt s at) ≡ true = both-first (number (textAt s at)) (leb (length (textAt s at)) most) (q .0) in
-    let l : length (textAt s at) ≤ most = leb-true (length (textAt s at)) most (both-second (number (textAt s at)) (leb (length (textAt s at)) most) (q .0)) in
-    omega (arith, q .1, below-power (length (textAt s at)) most l (value-below (textAt s at) (number-digits (textAt s at) n)))
-
--- A number from a least to a most is between them.
-pub number-between : (least most : ℕ) (s : Text) (at : ℕ) {v e : ℕ} → numberAt (numberFrom least most) s at ≡ NumberRead.Number v e
-    → (least ≤ v) × (v ≤ most)
-unfolding numberFrom
-number-between least most s at p =
-    let t = textAt s at in
-    let q = number-picked (numberFrom least most) s at p in
-    let n : (number t && leb least (value t)) ≡ true = both-first (number t && leb least (value t)) (leb (value t) most) (q .0) in
-    let l : least ≤ value t = leb-true least (value t) (both-second (number t) (leb least (value t)) n) in
-    let m : value t ≤ most = leb-true (value t) most (both-second (number t && leb least (value t)) (leb (value t) most) (q .0)) in
-    (omega (arith, q .1), omega (arith, q .1))
-
-module _ (s : Text) (at : ℕ) {v e : ℕ} where
-  pub count-below : numberAt (count base) s at ≡ NumberRead.Number v e → v ≤ 9999
-  unfolding count base
-  count-below p = number-between 0 9999 s at p .1
-
-  pub bonus-below : numberAt (bonus base) s at ≡ NumberRead.Number v e → v ≤ 9999
-  unfolding bonus base
-  bonus-below p = number-between 0 9999 s at p .1
-
-  pub multiplier-between : numberAt (multiplier base) s at ≡ NumberRead.Number v e → (1 ≤ v) × (v ≤ 99)
-  unfolding multiplier base
-  multiplier-between p = number-between 1 99 s at p
 
 no-date : {e : ℕ} → DateRead.Bad ≡ DateRead.Date e → ⊥
 no-date p = let z : _≡_ {A = ℕ} 0 1 = cc in omega arith
@@ -137,11 +96,3 @@ module _ (s : Text) (at : ℕ) where
   pub time-refused : timeAt s at ≡ TimeRead.Bad → timeOfDay (textAt s at) ≡ false
   unfolding timeAt
   time-refused p = passed (timeOfDay (textAt s at)) p (λ q. no-time (sym q)) .0
-
-  -- No time is later than the last.
-  pub time-within : {t : TimeOfDay} {e : ℕ} → timeAt s at ≡ TimeRead.Time t e → t .digits ≤ 2359
-  time-within p = omega (arith, time-picked p .1, time-last (textAt s at) (time-picked p .0))
-
-  pub minutes-within : {t : TimeOfDay} {e : ℕ} → timeAt s at ≡ TimeRead.Time t e → minutesOf t ≤ 1439
-  unfolding minutesOf
-  minutes-within p = omega (arith, time-picked p .1, minutes-last (textAt s at) (time-picked p .0))

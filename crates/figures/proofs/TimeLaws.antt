@@ -10,16 +10,17 @@ use lib.ListN.{length, take, drop, getD, length-drop}
 use borrow.Author.Tests.{not-true, leb-true, ne-eqb, eqb-true, eqb-false, le-leb, lt-leb}
 use Rattle.rules.specs.Text.{Text, digit, all, value, valueAfter}
 use Rattle.rules.specs.Fields.{timeOfDay}
+use Rattle.rules.proofs.Tests.{and-l, and-r, passed, picked}
 use Rattle.fields.specs.Field.{textAt, endsAt, endOf}
+use Rattle.fields.proofs.RunLaws.{text-of-length, text-within}
 use Rattle.figures.specs.declared.TimeOfDay.{TimeOfDay}
 use Rattle.figures.specs.declared.TimeMade.{TimeMade}
 use Rattle.figures.specs.declared.TimeMade.the-variants as TimeMade
 use Rattle.figures.specs.declared.TimeRead.{TimeRead}
 use Rattle.figures.specs.declared.TimeRead.the-variants as TimeRead
 use Rattle.figures.specs.Figure.{timeMade, timeAt}
-use Rattle.figures.proofs.Choices.{both-first, both-second, passed, picked}
-use Rattle.figures.proofs.NumberLaws.{value-split, text-within, end-is-length}
-use Rattle.figures.proofs.ExactLaws.{exact-text, exact-ends, digits-exact, four-characters}
+use Rattle.figures.proofs.NumberLaws.{value-split, end-is-length}
+use Rattle.figures.proofs.ExactLaws.{exact-ends, digits-exact, four-characters}
 
 -- The number that two digits write.
 pub two-digits : (a b : ℕ) → 10 * (a - 48) + (b - 48) ≡ value (a ∷ b ∷ [])
@@ -97,12 +98,12 @@ time-parts t h =
     let long = eqb (length t) 4 in
     let hours = leb (value (take 2 t)) 23 in
     let minutes = leb (value (drop 2 t)) 59 in
-    let before : (long && all digit t && hours) ≡ true = both-first (long && all digit t && hours) minutes h in
-    let four : length t ≡ 4 = eqb-true (length t) 4 (both-first long (all digit t) (both-first (long && all digit t) hours before)) in
+    let before : (long && all digit t && hours) ≡ true = and-l (long && all digit t && hours) minutes h in
+    let four : length t ≡ 4 = eqb-true (length t) 4 (and-l long (all digit t) (and-l (long && all digit t) hours before)) in
     let two : length (drop 2 t) ≡ 2 = omega (arith, length-drop 2 t) in (
       rw two at (value-split 2 t),
-      leb-true (value (take 2 t)) 23 (both-second (long && all digit t) hours before),
-      leb-true (value (drop 2 t)) 59 (both-second (long && all digit t && hours) minutes h),
+      leb-true (value (take 2 t)) 23 (and-r (long && all digit t) hours before),
+      leb-true (value (drop 2 t)) 59 (and-r (long && all digit t && hours) minutes h),
     )
 
 pub time-last : (t : Text) → timeOfDay t ≡ true → value t ≤ 2359
@@ -118,9 +119,9 @@ made-within a b c d p =
 time-digits : (t : Text) → timeOfDay t ≡ true → all digit t ≡ true
 unfolding timeOfDay
 time-digits t h =
-    both-second (eqb (length t) 4) (all digit t)
-    (both-first (eqb (length t) 4 && all digit t) (leb (value (take 2 t)) 23)
-    (both-first (eqb (length t) 4 && all digit t && leb (value (take 2 t)) 23) (leb (value (drop 2 t)) 59) h))
+    and-r (eqb (length t) 4) (all digit t)
+    (and-l (eqb (length t) 4 && all digit t) (leb (value (take 2 t)) 23)
+    (and-l (eqb (length t) 4 && all digit t && leb (value (take 2 t)) 23) (leb (value (drop 2 t)) 59) h))
 
 module _ (s : Text) (at : ℕ) where
   time-bad : timeOfDay (textAt s at) ≡ false → TimeRead.Bad ≡ timeAt s at
@@ -149,7 +150,7 @@ module _ (s : Text) (at : ℕ) where
     where
       by : (b : Bool) → eqb (length (textAt s at)) 4 ≡ b → timeOfDay (textAt s at) ≡ false
       by true e =
-          ap timeOfDay (exact-text 4 s at (eqb-true (length (textAt s at)) 4 e) ∙ four-characters s at h)
+          ap timeOfDay (text-of-length s at 4 (eqb-true (length (textAt s at)) 4 e) ∙ four-characters s at h)
           ∙ made-refused _ _ _ _ p
       by false e = time-long (textAt s at) (eqb-false (length (textAt s at)) 4 e)
 

@@ -147,7 +147,7 @@ pub fn points(s: &[u8], at: usize) -> NumberRead
     number(s, at, 6)
 }
 
-// The best contact's distance.
+// The best contact's distance. It has as many digits as points have, but a limit of its own, so that either may change alone.
 pub fn distance(s: &[u8], at: usize) -> NumberRead
     ensures { λ r. ⌜ r ≡ numberAt (numberOf 6) (now (s .entry)) at ⌝ }
 {

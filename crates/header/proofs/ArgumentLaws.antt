@@ -14,7 +14,7 @@ use lib.ListN.{drop-of-length-le}
 use Rattle.rules.specs.Text.{Text}
 use Rattle.rules.specs.Rules.{base}
 use Rattle.rules.specs.Arguments.{Rule, meets, entries}
-use Rattle.figures.proofs.Choices.{both-first, both-second}
+use Rattle.rules.proofs.Tests.{and-l, and-r}
 use Rattle.header.specs.declared.ArgumentRead.{ArgumentRead}
 use Rattle.header.specs.declared.ArgumentRead.the-variants as ArgumentRead
 use Rattle.header.specs.Header.{firstArgument, argumentOf}
@@ -33,10 +33,10 @@ covered : (ps : List ℕ) (first n x : ℕ) → covers ps first n ≡ true → f
 covered ps first zero x e h l = absurd (omega arith)
 covered ps first (suc n) x e h l =
     by (ℕ-discrete x first)
-    (λ m. covered ps (suc first) n x (both-second (has ps first) (covers ps (suc first) n) e) (omega arith) (omega arith))
+    (λ m. covered ps (suc first) n x (and-r (has ps first) (covers ps (suc first) n) e) (omega arith) (omega arith))
   where
     by : Dec (x ≡ first) → ((x ≡ first → ⊥) → has ps x ≡ true) → has ps x ≡ true
-    by (yes q) k = ap (has ps) q ∙ both-first (has ps first) (covers ps (suc first) n) e
+    by (yes q) k = ap (has ps) q ∙ and-l (has ps first) (covers ps (suc first) n) e
     by (no m) k = k m
 
 found : (p : ℕ) (ps : List ℕ) (x : ℕ) → has (p ∷ ps) x ≡ true → OneOf (p ∷ ps) x

@@ -5,14 +5,14 @@ use native.Mathlib.Nat.{le-of-suc-le-suc, not-suc-le-zero}
 use native.Mathlib.Omega.{arith}
 use native.Mathlib.Numerals.{add-one}
 use mathlib.Core.Path.{_≡_, refl, sym, ap, _∙_}
-use mathlib.Core.Bool.{Bool, true, false, cond, _||_}
+use mathlib.Core.Bool.{Bool, true, false, cond}
 use mathlib.Core.List.{List, [], _∷_, map}
 use lib.ListN.{length, take, drop, getD, drop-of-length-le, length-take, List·getD-map}
 use lib.Seq.{drop-cons}
 use Rattle.rules.specs.Text.{Text, bytes, same}
 use Rattle.rules.specs.Rules.{base, bandNames}
 use Rattle.rules.specs.Arguments.{among, meets, aBand}
-use Rattle.figures.proofs.Choices.{picked, passed}
+use Rattle.rules.proofs.Tests.{picked, passed}
 use Rattle.header.specs.declared.BandRead.{BandRead}
 use Rattle.header.specs.declared.BandRead.the-variants as BandRead
 use Rattle.header.specs.Header.{bandOf}

@@ -1,7 +1,6 @@
 -- Laws of the two dates: what their readers say, and which is the first.
 -- Assumes nothing.
 use Prim.Native.Nat.{ℕ, _+_}
-use native.Mathlib.Omega.{arith}
 use mathlib.Core.Path.{_≡_, sym, ap, ap₂, _∙_}
 use mathlib.Core.Bool.{Bool, true, false, _&&_}
 use mathlib.Core.List.{List, [], _∷_}
@@ -15,22 +14,13 @@ use Rattle.fields.proofs.Picked.{Kept}
 use Rattle.figures.specs.declared.LongDateRead.{LongDateRead}
 use Rattle.figures.specs.declared.LongDateRead.the-variants as LongDateRead
 use Rattle.figures.specs.Figure.{longDateAt}
-use Rattle.figures.proofs.Choices.{picked, passed}
+use Rattle.figures.proofs.Picked.{long-date-picked}
 use Rattle.header.proofs.PartLaws.{reach-first, reach-next, text-of}
 
-no-date : {v e : ℕ} → LongDateRead.Bad ≡ LongDateRead.Date v e → ⊥
-no-date p = let z : _≡_ {A = ℕ} 0 1 = cc in omega arith
-
-module _ (t : Text) (at : ℕ) where
-  pub date-picked : {v e : ℕ} → longDateAt t at ≡ LongDateRead.Date v e → Kept longDate t at e × (v ≡ value (textAt t at))
-  unfolding longDateAt
-  date-picked p =
-      let q : (longDate (textAt t at) ≡ true) × (LongDateRead.Date (value (textAt t at)) (endOf t at) ≡ LongDateRead.Date _ _) = picked (longDate (textAt t at)) p no-date in
-      (record { holds = q .0; ending = cc }, cc)
-
-  pub date-refused : longDateAt t at ≡ LongDateRead.Bad → longDate (textAt t at) ≡ false
-  unfolding longDateAt
-  date-refused p = passed (longDate (textAt t at)) p (λ q. no-date (sym q)) .0
+pub date-kept : (t : Text) (at : ℕ) {v e : ℕ} → longDateAt t at ≡ LongDateRead.Date v e → Kept longDate t at e × (v ≡ value (textAt t at))
+date-kept t at p =
+    let q = long-date-picked t at p in
+    (record { holds = q .0; ending = q .2 }, q .1)
 
 abbrev pub dates : List (Text → Bool)
 dates = longDate ∷ longDate ∷ []

@@ -12,19 +12,10 @@ use lib.ListN.{length, take, drop, getD, drop-of-length-le, length-drop}
 use lib.Seq.{length-take-le, drop-drop, getD-drop}
 use borrow.Author.Tests.{eq-eqb, ne-eqb}
 use native.Mathlib.Numerals.{add-one}
-use Rattle.rules.specs.Text.{Text, semicolon, span, parts, before, all}
+use Rattle.rules.specs.Text.{Text, span, parts, before, all}
+pub use Rattle.rules.proofs.TextLaws.{span-short}
 use Rattle.fields.specs.Field.{inField, textAt, endOf}
 use Rattle.fields.proofs.FieldLaws.{next}
-
--- A run lies within its text.
-pub span-short : (f : ℕ → Bool) (s : Text) → span f s ≤ length s
-unfolding span
-span-short f [] = omega arith
-span-short f (c ∷ s) = by (f c) (span-short f s)
-  where
-    by : (b : Bool) → span f s ≤ length s → cond b (suc (span f s)) 0 ≤ suc (length s)
-    by true h = omega arith
-    by false h = omega arith
 
 -- A text of one kind of characters is one run.
 pub whole-span : (f : ℕ → Bool) (s : Text) → all f s ≡ true → span f s ≡ length s

@@ -10,14 +10,14 @@ use borrow.Author.Tests.{eqb-true, not-true}
 use Rattle.rules.specs.Text.{Text, digit, all, number, numberOf}
 use Rattle.rules.specs.Rules.{base}
 use Rattle.rules.specs.Fields.{call, callCharacter, exchange, exchangeCharacter, locator, emptyOr}
+use Rattle.rules.proofs.Tests.{and-l, and-r, and-i}
+use Rattle.rules.proofs.NumberLaws.{number-digits}
 use Rattle.fields.specs.Field.{inField}
 use Rattle.fields.proofs.Picked.{Kept}
 use Rattle.fields.proofs.ShapeLaws.{Shape, ended, one, endedOr, fits, locator-0, locator-is}
 use Rattle.figures.specs.declared.NumberRead.{NumberRead}
 use Rattle.figures.specs.declared.NumberRead.the-variants as NumberRead
 use Rattle.figures.specs.Figure.{numberAt}
-use Rattle.figures.proofs.Choices.{both-first, both-second}
-use Rattle.figures.proofs.NumberLaws.{number-digits}
 use Rattle.figures.proofs.Picked.{number-picked}
 
 -- A kind of characters that the semicolon is not of.
@@ -28,14 +28,11 @@ kind-apart f apart c e = by (eqb c 59) refl
     by true k = absurd (true≢false (sym e ∙ ap f (eqb-true c 59 k) ∙ apart))
     by false k = refl
 
-both : {a b : Bool} → a ≡ true → b ≡ true → (a && b) ≡ true
-both e h = rw (e, h)
-
 pub all-apart : (f : ℕ → Bool) → f 59 ≡ false → (t : Text) → all f t ≡ true → all inField t ≡ true
 unfolding all
 all-apart f apart [] e = refl
 all-apart f apart (c ∷ t) e =
-    both (kind-apart f apart c (both-first (f c) (all f t) e)) (all-apart f apart t (both-second (f c) (all f t) e))
+    and-i (kind-apart f apart c (and-l (f c) (all f t) e)) (all-apart f apart t (and-r (f c) (all f t) e))
 
 -- A shape with such kinds alone.
 abbrev apart-from : Shape → Bool
@@ -48,18 +45,18 @@ unfolding all fits
 shape-apart p h [] e = refl
 shape-apart ended h (c ∷ t) e = absurd (true≢false (sym e))
 shape-apart (one f p) h (c ∷ t) e =
-    both
-    (kind-apart f (not-true (f 59) (both-first (not (f 59)) (apart-from p) h)) c (both-first (f c) (fits p t) e))
-    (shape-apart p (both-second (not (f 59)) (apart-from p) h) t (both-second (f c) (fits p t) e))
+    and-i
+    (kind-apart f (not-true (f 59) (and-l (not (f 59)) (apart-from p) h)) c (and-l (f c) (fits p t) e))
+    (shape-apart p (and-r (not (f 59)) (apart-from p) h) t (and-r (f c) (fits p t) e))
 shape-apart (endedOr p) h (c ∷ t) e = shape-apart p h (c ∷ t) e
 
 pub call-apart : (t : Text) → call t ≡ true → all inField t ≡ true
 unfolding call
-call-apart t e = all-apart callCharacter refl t (both-second (leb 3 (length t) && leb (length t) 14) (all callCharacter t) e)
+call-apart t e = all-apart callCharacter refl t (and-r (leb 3 (length t) && leb (length t) 14) (all callCharacter t) e)
 
 pub exchange-apart : (t : Text) → exchange base t ≡ true → all inField t ≡ true
 unfolding exchange base
-exchange-apart t e = all-apart exchangeCharacter refl t (both-second (leb (length t) 6) (all exchangeCharacter t) e)
+exchange-apart t e = all-apart exchangeCharacter refl t (and-r (leb (length t) 6) (all exchangeCharacter t) e)
 
 pub locator-apart : (t : Text) → locator t ≡ true → all inField t ≡ true
 locator-apart t e = shape-apart locator-0 refl t (sym (locator-is t) ∙ e)
@@ -72,7 +69,7 @@ empty-or-apart rule apart (c ∷ t) e = apart (c ∷ t) e
 pub number-apart : (most : ℕ) (t : Text) → numberOf most t ≡ true → all inField t ≡ true
 unfolding numberOf
 number-apart most t e =
-    all-apart digit refl t (number-digits t (both-first (number t) (leb (length t) most) e))
+    all-apart digit refl t (number-digits t (and-l (number t) (leb (length t) most) e))
 
 -- What is told of a number, as of a text.
 pub number-kept : (rule : Text → Bool) (t : Text) (at : ℕ) {v e : ℕ} → numberAt rule t at ≡ NumberRead.Number v e → Kept rule t at e

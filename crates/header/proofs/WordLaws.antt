@@ -1,11 +1,11 @@
 -- Laws of comparing a word with the front of a text, from a place of both on.
 -- Assumes nothing.
-use Prim.Native.Nat.{ℕ, suc, _+_, _≤_, _<_}
+use Prim.Native.Nat.{ℕ, _+_, _≤_, _<_}
 use native.Mathlib.Omega.{arith}
 use native.Mathlib.Nat.{le-of-suc-le-suc}
-use mathlib.Core.Path.{_≡_, refl, sym, ap, _∙_}
+use mathlib.Core.Path.{_≡_, refl, ap}
 use mathlib.Core.Bool.{Bool, true, false, _&&_}
-use mathlib.Core.List.{List, [], _∷_}
+use mathlib.Core.List.{[], _∷_}
 use lib.Dec.{eqb}
 use lib.ListN.{length, drop, getD, drop-of-length-le}
 use borrow.Author.Tests.{eq-eqb, ne-eqb}
@@ -43,18 +43,7 @@ begins-short (c ∷ w) (d ∷ s) h = rest (eqb c d) (begins-short w s (le-of-suc
     rest true e = e
     rest false e = refl
 
--- Texts of one length are the same where one begins with the other; of two lengths, they are not.
-pub same-apart : (a b : Text) → (length a ≡ length b → ⊥) → false ≡ same a b
-unfolding same
-same-apart [] [] h = absurd (h refl)
-same-apart [] (d ∷ b) h = refl
-same-apart (c ∷ a) [] h = refl
-same-apart (c ∷ a) (d ∷ b) h = rest (eqb c d) (same-apart a b (λ e. h (ap suc e)))
-  where
-    rest : (t : Bool) → false ≡ same a b → false ≡ (t && same a b)
-    rest true e = e
-    rest false e = refl
-
+-- Texts of one length are the same where one begins with the other.
 pub same-long : (a b : Text) → length a ≡ length b → begins a b ≡ same a b
 unfolding same begins
 same-long [] [] h = refl

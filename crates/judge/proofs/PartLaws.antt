@@ -6,7 +6,7 @@ use native.Mathlib.Numerals.{add-one}
 use native.Mathlib.Nat.{add-zero, zero-add, sub-zero}
 use mathlib.Core.Path.{_≡_, refl, sym, ap, _∙_}
 use mathlib.Core.Bool.{Bool, true, false, cond, not, _||_, or-false, or-assoc, or-comm}
-use mathlib.Core.List.{List, [], _∷_}
+use mathlib.Core.List.{List, _∷_}
 use lib.Dec.{leb, eqb}
 use lib.ListN.{length-set, length, take, drop, getD, set, length-take, length-drop}
 use lib.Seq.{drop-cons, take-all, take-take, getD-take, getD-drop, getD-set-same, getD-set-other}
@@ -16,6 +16,7 @@ use Rattle.rules.specs.Arguments.{among}
 use Rattle.places.specs.Places.{between}
 use Rattle.rules.proofs.Tests.{fails, holds}
 use Rattle.rules.proofs.Passing.{same→equal}
+use Rattle.rules.proofs.TextLaws.{take-its-length}
 use Rattle.judge.specs.declared.Found.{Found}
 use Rattle.judge.specs.declared.Found.the-variants.{At, Nothing}
 use Rattle.judge.specs.Parts.{squareEnd, keyOf, partBy, keptAt, seek, isAt, keptTexts, Keyed, Lying}
@@ -23,11 +24,6 @@ use Rattle.judge.specs.Memory.{Keeps}
 
 pub part-size : (s : Text) (a e : ℕ) → length (between s a e) ≡ min (e - a) (length s - a)
 part-size s a e = rw (length-take, length-drop)
-
-take-its-length : (k : ℕ) (l : Text) → take (length (take k l)) l ≡ take k l
-take-its-length zero l = refl
-take-its-length (suc k) [] = refl
-take-its-length (suc k) (c ∷ l) = ap (λ (t : Text). c ∷ t) (take-its-length k l)
 
 -- A part by its own length.
 part-cut : (s : Text) (a e n : ℕ) → n ≡ length (between s a e) → take n (drop a s) ≡ between s a e

@@ -1,11 +1,12 @@
 -- What is kept serves as well as all the credited records: a record gets the verdict that it gets by them, and after it what is kept serves
 -- again. Of squares and exchanges only the new ones are kept, for a text is among all of them exactly when it is among the new ones.
 -- Assumes nothing.
-use mathlib.Core.Path.{_≡_, refl, sym, ap, _∙_}
+use mathlib.Core.Path.{_≡_, refl, ap, _∙_}
 use mathlib.Core.Bool.{Bool, true, false, cond, not, _&&_, _||_}
 use mathlib.Core.List.{List, [], _∷_}
 use lib.Dec.{T}
 use lib.ListN.{take}
+use borrow.Author.Tests.{not-false}
 use Rattle.rules.specs.declared.Class.the-variants.{Credited}
 use Rattle.rules.specs.Text.{Text, same, empty}
 use Rattle.rules.specs.Rules.{base}
@@ -45,11 +46,7 @@ module _ (of : Qso → Text) (kept : List Text) (credited : List Qso) (serves : 
     old t n f h = rw (← same→equal (of q) t h) (by (of q) (rw (same→equal (of q) t h) n) f)
       where
         by : (u : Text) → T (not (empty u)) → (not (empty u) && not (some (λ e. same (of e) u) credited)) ≡ false → some (λ e. same (of e) u) credited ≡ true
-        by (d ∷ u) m g = opposite (some (λ e. same (of e) (d ∷ u)) credited) g
-          where
-            opposite : (b : Bool) → not b ≡ false → b ≡ true
-            opposite true e = refl
-            opposite false e = sym e
+        by (d ∷ u) m g = not-false (some (λ e. same (of e) (d ∷ u)) credited) g
 
     serves-more : Serves of (keptWith (isNew of credited q) (of q) kept) (q ∷ credited)
     unfolding among some

@@ -15,7 +15,6 @@ use Rattle.rules.specs.Rules.{base}
 use Rattle.rules.specs.Fields.{Qso}
 use Rattle.rules.specs.Judging.{verdictOf, creditedAfter, verdictsAfter, verdicts, verdictNumber, zeroTotals}
 use Rattle.rules.specs.Answers.{over}
-use Rattle.rules.proofs.Tests.{holds}
 use Rattle.rules.proofs.Classes.{length-verdicts}
 use Rattle.fields.specs.Field.{endOf}
 use Rattle.places.specs.declared.Contact.{Contact}

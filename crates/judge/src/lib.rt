@@ -4,7 +4,7 @@
 ghost use mathlib.Core.Path.{_≡_};
 ghost use Prim.Native.Nat.{_+_, _*_, _%_, _<_, _≤_};
 ghost use lib.ListN.{length, take, drop};
-ghost use Rattle.rules.specs.Text.{same, empty};
+ghost use Rattle.rules.specs.Text.{same};
 ghost use Rattle.rules.specs.Judging.{classNumber, verdictNumber, zeroTotals};
 ghost use Rattle.places.specs.Places.{between};
 ghost use Rattle.rules.specs.Arguments.{among};

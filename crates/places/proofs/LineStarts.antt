@@ -8,7 +8,7 @@ use native.Mathlib.Decide.{decLe}
 use mathlib.Core.Path.{_≡_, ap, _∙_}
 use lib.ListN.{length, take, drop, drop-of-length-le}
 use lib.Seq.{drop-drop}
-use Rattle.rules.specs.Text.{Text, allowed, span, parts}
+use Rattle.rules.specs.Text.{Text, allowed, span}
 use Rattle.rules.specs.Rules.{base}
 use Rattle.rules.specs.Arguments.{part, bonus, multiplier}
 use Rattle.fields.specs.Field.{inField, textAt, endOf}

@@ -11,14 +11,13 @@ use lib.Dec.{eqb}
 use lib.ListN.{length, take, drop, getD, length-drop}
 use Rattle.rules.specs.Text.{Text, allowed, span, same, numberOf}
 use Rattle.rules.specs.Fields.{Qso, errorCall, newMark}
+use Rattle.rules.proofs.TextLaws.{span-short, same-apart}
 use Rattle.fields.specs.Field.{inField, textAt, endOf}
 use Rattle.fields.proofs.FieldLaws.{next}
 use Rattle.figures.specs.declared.NumberRead.{NumberRead}
 use Rattle.figures.specs.declared.NumberRead.the-variants as NumberRead
 use Rattle.figures.specs.Figure.{numberAt}
 use Rattle.figures.proofs.Picked.{number-picked, number-refused}
-use Rattle.header.proofs.WordLaws.{same-apart}
-use Rattle.header.proofs.PartLaws.{span-short}
 use Rattle.header.proofs.PartLaws.{end-by-span, end-within}
 use Rattle.places.specs.declared.Contact.{Contact}
 use Rattle.places.specs.declared.Tail.{Tail}

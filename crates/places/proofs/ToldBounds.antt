@@ -1,17 +1,13 @@
 -- What is told is bounded for every text, so that sums of it can be shown to fit without asking whether the log was accepted.
 -- Assumes nothing.
-use Prim.Native.Nat.{ℕ, _^_, _≤_, _<_}
+use Prim.Native.Nat.{ℕ, _≤_}
 use native.Mathlib.Omega.{arith}
 use mathlib.Core.Path.{_≡_, refl}
 use mathlib.Core.Bool.{Bool, true, false, cond}
-use lib.Dec.{leb}
-use lib.ListN.{length}
-use Rattle.rules.specs.Text.{Text, value, number, numberOf}
+use Rattle.rules.specs.Text.{Text, value, numberOf}
 use Rattle.rules.specs.Rules.{base}
 use Rattle.rules.specs.Arguments.{bonus, multiplier, part}
-use Rattle.rules.proofs.Tests.{and-l, and-r, le-of-test}
-use Rattle.rules.proofs.NumberLaws.{number-from}
-use Rattle.figures.proofs.NumberLaws.{number-digits, value-below, below-power}
+use Rattle.rules.proofs.NumberLaws.{number-from, number-below}
 use Rattle.fields.specs.Field.{textAt}
 use Rattle.places.specs.declared.Declared.{Declared}
 use Rattle.places.specs.Places.{fieldStart, argumentAt, valueBy, contactAt, declaredAt}
@@ -26,11 +22,7 @@ kept-below rule most t f = by (rule t) f
     by false g = omega arith
 
 six-digits : (t : Text) → numberOf 6 t ≡ true → value t ≤ 999_999
-unfolding numberOf
-six-digits t e =
-    let short : length t ≤ 6 = le-of-test (length t) 6 (and-r (number t) (leb (length t) 6) e) in
-    let small : value t < 10 ^ 6 = below-power (length t) 6 short (value-below t (number-digits t (and-l (number t) (leb (length t) 6) e))) in
-    omega arith
+six-digits t e = omega (arith, number-below 6 t e)
 
 bonus-below : (t : Text) → valueBy (bonus base) t ≤ 9999
 unfolding bonus base

@@ -16,7 +16,7 @@ use Rattle.rules.specs.Arguments.{Entry, entries, anything}
 use Rattle.rules.specs.Log.{Log, argument}
 use Rattle.rules.specs.Reading.{Reading, accepted, refused, refusal, read}
 use Rattle.rules.specs.Answers.{Viewing, seen, unseen, viewOfReading, argumentStart, view, viewed}
-use Rattle.header.proofs.PartLaws.{span-short}
+use Rattle.rules.proofs.TextLaws.{span-short, take-its-length}
 use Rattle.reader.proofs.DueLaws.{entries-length}
 use Rattle.reader.specs.declared.ReadAnswer.{ReadAnswer}
 use Rattle.reader.specs.declared.ReadAnswer.the-variants as ReadAnswer
@@ -46,10 +46,6 @@ view-law k s = refl
 told-unseen : (r : Refusal) → viewTold (unseen r) ≡ ViewRead.Refused r
 unfolding viewTold
 told-unseen r = refl
-
-told-seen : (a : ℕ) (t : Text) → viewTold (seen a t) ≡ ViewRead.Seen a (length t)
-unfolding viewTold
-told-seen a t = refl
 
 beyond : (k : ℕ) (r : Reading) → viewOfReading k [] r ≡ unseen (refusal 9 0 0)
 unfolding viewOfReading
@@ -134,11 +130,6 @@ drop-take (suc m) zero l = sym (ap (λ (k : ℕ). take k (drop (suc m) l)) (let 
 drop-take (suc m) (suc n) [] = sym (take-nil (suc n - suc m))
 drop-take (suc m) (suc n) (c ∷ l) = drop-take m n l ∙ ap (λ (k : ℕ). take k (drop m l)) (let h : n - m ≡ suc n - suc m = omega arith in h)
 
-front-of : (k : ℕ) (l : Text) → take (length (take k l)) l ≡ take k l
-front-of zero l = refl
-front-of (suc k) [] = refl
-front-of (suc k) (c ∷ l) = ap (λ (t : Text). c ∷ t) (front-of k l)
-
 pub record Shows (s : Text) (a : ℕ) (t : Text) : Type 0 where
   pub inside : a + length t ≤ length s
   pub part : take (length t) (drop a s) ≡ t
@@ -149,7 +140,7 @@ module _ (k : ℕ) (s : Text) where
   part-of at =
       let n : ℕ = span allowed (drop at s) in
       let same : drop 6 (take n (drop at s)) ≡ take (n - 6) (drop (at + 6) s) = drop-take 6 n (drop at s) ∙ ap (take (n - 6)) (drop-drop 6 at s) in
-      ap (λ (t : Text). take (length t) (drop (at + 6) s)) same ∙ front-of (n - 6) (drop (at + 6) s) ∙ sym same
+      ap (λ (t : Text). take (length t) (drop (at + 6) s)) same ∙ take-its-length (n - 6) (drop (at + 6) s) ∙ sym same
 
   argument-part-is : take (length (argumentAt s k)) (drop (lineStart s k + 6) s) ≡ argumentAt s k
   unfolding argumentAt

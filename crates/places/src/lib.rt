@@ -80,7 +80,8 @@ fn worth(s: &[u8], at: usize) -> u64
     value
 }
 
-// The field from here to there is the call that marks a mistake. Only a field of five bytes is looked at.
+// The field from here to there is the call that marks a mistake. Only a field of five bytes is looked at. The test that `fields` has for this
+// asks for those five bytes to be there, and what asks for something is not public.
 fn is_error(s: &[u8], at: usize, end: usize) -> bool
     requires { ⌜ end ≡ endOf (now s) at ⌝ }
     ensures { λ r. ⌜ r ≡ same (textAt (now (s .entry)) at) errorCall ⌝ }

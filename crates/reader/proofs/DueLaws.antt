@@ -1,12 +1,11 @@
 -- Laws of what a line leads to: whole lines, keywords with their arguments, remarks and records.
 -- Assumes nothing.
-use Prim.Native.Nat.{ℕ, zero, suc, _+_, _-_, _≤_, _<_}
+use Prim.Native.Nat.{ℕ, suc, _+_, _-_, _≤_, _<_}
 use native.Mathlib.Omega.{arith}
 use native.Mathlib.Decide.{decLt}
-use native.Mathlib.Numerals.{add-one}
 use mathlib.Core.Path.{_≡_, refl, sym, ap, _∙_}
 use mathlib.Core.Bool.{Bool, true, false, cond, true≢false}
-use mathlib.Core.List.{List, [], _∷_, map}
+use mathlib.Core.List.{[], _∷_}
 use lib.ListN.{length, take, drop, getD, length-drop, List·getD-map, drop-of-length-le}
 use lib.Seq.{drop-cons, take-all}
 use Rattle.rules.specs.Text.{Text, same, begins}
@@ -18,7 +17,7 @@ use Rattle.rules.specs.declared.Next.the-variants as Next
 use Rattle.rules.specs.Arguments.{Entry, entries, anything, meets}
 use Rattle.rules.specs.Log.{identifier, remarksLine, keywordStart, countStart}
 use Rattle.rules.specs.Reading.{RecordRule, keeps, breaks, recordRule, recordsDue, whole, argumentOn, keywordLine, keywordDue, countRule, afterRecord, step}
-use Rattle.figures.proofs.Choices.{picked, passed}
+use Rattle.rules.proofs.Tests.{picked, passed}
 use Rattle.header.specs.declared.KeywordRead.{KeywordRead}
 use Rattle.header.specs.declared.KeywordRead.the-variants as KeywordRead
 use Rattle.header.specs.declared.ArgumentRead.{ArgumentRead}

@@ -2,15 +2,14 @@
 -- Assumes nothing.
 use Prim.Native.Nat.{ℕ, suc, _+_, _≤_, max}
 use native.Mathlib.Omega.{arith}
-use native.Mathlib.Nat.{zero-add, add-zero}
 use mathlib.Core.Path.{_≡_, refl, sym, ap, _∙_}
-use mathlib.Core.Bool.{Bool, true, false, cond, not, _&&_, _||_, and-true, and-false, true≢false}
-use mathlib.Core.List.{List, [], _∷_}
+use mathlib.Core.Bool.{Bool, true, false, cond, not, _&&_, _||_, true≢false}
+use mathlib.Core.List.{[], _∷_}
 use lib.ListN.{length, drop, getD}
 use Rattle.rules.specs.Text.{Text, parts, bytes, span, same, empty, numberOf, number, value, digits}
 use Rattle.rules.specs.Fields.{qsoOf, isError, dateRule, shortDate, errorCall, call}
 use Rattle.rules.proofs.TextLaws.{same-eq, same-refl}
-use Rattle.rules.proofs.Tests.{and-i, and-l, or-r}
+use Rattle.rules.proofs.Tests.{fails, and-i, and-l, or-r, picked, passed}
 use Rattle.rules.proofs.NumberLaws.{digits-value}
 use Rattle.fields.specs.declared.CallRead.{CallRead}
 use Rattle.fields.specs.declared.CallRead.the-variants as CallRead
@@ -22,7 +21,6 @@ use Rattle.figures.specs.declared.NumberRead.{NumberRead}
 use Rattle.figures.specs.declared.NumberRead.the-variants as NumberRead
 use Rattle.figures.specs.Figure.{dateAt, numberAt}
 use Rattle.figures.proofs.Picked.{date-picked, date-is-empty, date-refused, number-picked, number-refused}
-use Rattle.figures.proofs.Choices.{picked, passed}
 use Rattle.header.proofs.PartLaws.{Reaches, reach-first, reach-next, text-of, end-by-span, end-within}
 use Rattle.reader.specs.declared.DatedRead.{DatedRead}
 use Rattle.reader.specs.declared.DatedRead.the-variants as DatedRead
@@ -48,11 +46,7 @@ unfolding call errorCall
 error-is-call = refl
 
 no-error : (t : Text) → call t ≡ false → false ≡ same t errorCall
-no-error t k = by (same t errorCall) refl
-  where
-    by : (b : Bool) → same t errorCall ≡ b → false ≡ b
-    by true e = absurd (true≢false (sym error-is-call ∙ ap call (sym (same-eq t errorCall e)) ∙ k))
-    by false e = refl
+no-error t k = sym (fails (same t errorCall) (λ e. true≢false (sym error-is-call ∙ ap call (sym (same-eq t errorCall e)) ∙ k)))
 
 module _ (l : Text) (a : ℕ) (r : Reaches l 2 a) where
   pub third-known : {e : ℕ} {b : Bool} → callAt l a ≡ CallRead.Call e b → b ≡ same (getD (parts l) 2 []) errorCall

@@ -4,7 +4,7 @@ use Prim.Native.Nat.{ℕ, _+_, _-_, _≤_, _<_}
 use native.Mathlib.Omega.{arith}
 use mathlib.Core.Path.{_≡_, refl, sym, ap, ap₂, _∙_}
 use mathlib.Core.Bool.{Bool, true, false, cond, _&&_, and-false}
-use mathlib.Core.List.{List, [], _∷_}
+use mathlib.Core.List.{[], _∷_}
 use lib.Dec.{leb, eqb}
 use lib.ListN.{length, take, drop, getD, List·getD-eq-default}
 use lib.Seq.{getD-drop, length-take-le}
@@ -13,7 +13,7 @@ use Rattle.rules.specs.Text.{Text, allowed, span, begins}
 use Rattle.rules.specs.Rules.{base}
 use Rattle.rules.specs.Log.{crlf}
 use Rattle.rules.specs.Reading.{aLine, noLine, firstLine}
-use Rattle.header.proofs.PartLaws.{span-short}
+use Rattle.rules.proofs.TextLaws.{span-short}
 use Rattle.reader.specs.declared.LineRead.{LineRead}
 use Rattle.reader.specs.declared.LineRead.the-variants as LineRead
 use Rattle.reader.specs.Line.{lineFrom, lineAt}

@@ -1,10 +1,10 @@
 -- Laws of reading a record: at each field, what was read so far is right and the next field begins here; a bad field is told by its number.
 -- Assumes nothing.
-use Prim.Native.Nat.{ℕ, zero, suc, _+_, _≤_, _<_, max}
+use Prim.Native.Nat.{ℕ, zero, suc, _+_, _≤_, _<_}
 use native.Mathlib.Omega.{arith}
 use native.Mathlib.Nat.{le-of-suc-le-suc, not-suc-le-zero}
 use mathlib.Core.Path.{_≡_, refl, sym, ap, _∙_}
-use mathlib.Core.Bool.{Bool, true, false, cond, not, _&&_, _||_, true≢false}
+use mathlib.Core.Bool.{Bool, true, false, cond, true≢false}
 use mathlib.Core.List.{List, [], _∷_}
 use lib.Dec.{eqb}
 use lib.ListN.{length, drop, getD}
@@ -12,7 +12,7 @@ use borrow.Author.Tests.{eq-eqb, ne-eqb}
 use Rattle.rules.specs.Text.{Text, parts, same}
 use Rattle.rules.specs.Rules.{base}
 use Rattle.rules.specs.Fields.{qsoOf, fieldRules, dateRule, timeOfDay, call, errorCall, mode, report, serial, exchange, locator, emptyOr}
-use Rattle.rules.specs.Reading.{RecordRule, keeps, breaks, firstBroken, recordRule}
+use Rattle.rules.specs.Reading.{keeps, breaks, firstBroken, recordRule}
 use Rattle.fields.specs.Field.{textAt, endOf}
 use Rattle.fields.proofs.Picked.{Kept}
 use Rattle.header.proofs.PartLaws.{Reaches, reach-first, reach-next, text-of, Counts, count-first, count-next, all-counted, miscounted, end-within}

@@ -4,12 +4,10 @@ use Prim.Native.Nat.{ℕ, zero, suc, _+_, _≤_, _<_}
 use native.Mathlib.Omega.{arith}
 use native.Mathlib.Nat.{zero-add}
 use mathlib.Core.Path.{_≡_, refl, sym, ap, _∙_}
-use mathlib.Core.Bool.{Bool, true, false, cond, not, _&&_, and-false, true≢false}
-use mathlib.Core.List.{List, [], _∷_}
-use lib.Dec.{eqb}
+use mathlib.Core.Bool.{Bool, true, false, cond, _&&_}
+use mathlib.Core.List.{_∷_}
 use lib.ListN.{length, take, drop, getD, drop-of-length-le, length-drop}
 use lib.Seq.{take-length, length-take-le}
-use borrow.Author.Tests.{eq-eqb, ne-eqb, eqb-true}
 use Rattle.rules.specs.Text.{Text, bytes, digit, span, all, same, value, numberFrom}
 use Rattle.rules.specs.Rules.{base}
 use Rattle.rules.specs.declared.Due.{Due}
@@ -17,15 +15,16 @@ use Rattle.rules.specs.declared.Due.the-variants as Due
 use Rattle.rules.specs.declared.Next.{Next}
 use Rattle.rules.specs.declared.Next.the-variants as Next
 use Rattle.rules.specs.Reading.{recordsDue, countRule}
-use Rattle.rules.proofs.TextLaws.{span-all, same-eq, same-refl}
+use Rattle.rules.proofs.TextLaws.{span-all, same-eq, same-refl, span-short}
 use Rattle.rules.proofs.Tests.{and-i}
+use Rattle.rules.proofs.WalkLaws.{one-test}
 use Rattle.fields.specs.Field.{inField, textAt}
 use Rattle.fields.proofs.FieldLaws.{next}
 use Rattle.figures.specs.declared.NumberRead.{NumberRead}
 use Rattle.figures.specs.declared.NumberRead.the-variants as NumberRead
 use Rattle.figures.specs.Figure.{numberAt}
 use Rattle.figures.proofs.Picked.{number-picked, number-refused}
-use Rattle.header.proofs.PartLaws.{span-short, whole-span}
+use Rattle.header.proofs.PartLaws.{whole-span}
 use Rattle.header.proofs.RuleLaws.{all-apart}
 
 -- So many records.
@@ -121,8 +120,7 @@ module _ (t : Text) (n : ℕ) (e : n ≡ 0 + span digit (drop 0 t)) where
 
 -- What a test leads to.
 pub goes-to : (b : Bool) (d next : Due) (x y : ℕ) → cond b (Next.Goes d) (Next.Stops x y) ≡ Next.Goes next → d ≡ next
-goes-to true d next x y e = cc
-goes-to false d next x y e = let z : _≡_ {A = ℕ} 0 1 = cc in absurd (omega arith)
+goes-to b d next x y e = one-test b d next x y e .1
 
 pub counted-due : (t : Text) (next : Due) → countRule base t ≡ Next.Goes next → (j : ℕ) × (next ≡ recordsDue j)
 counted-due t next e =

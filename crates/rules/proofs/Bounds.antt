@@ -1,54 +1,31 @@
 -- The bounds of what a valid log comes to: counts, points, bonuses and the total.
 -- Assumes nothing.
-use Prim.Native.Nat.{ℕ, zero, suc, _+_, _*_, _-_, _^_, _≤_, _<_}
-use native.Mathlib.Nat.{le-trans, lt-of-lt-of-le, mul-le-mul, mul-le-mul-right, add-mul, mul-assoc, mul-comm, le-of-eq, add-le-add, pow-succ', pow-le-pow-right}
+use Prim.Native.Nat.{ℕ, zero, suc, _+_, _*_, _-_, _^_, _≤_}
+use native.Mathlib.Nat.{le-trans, mul-le-mul, mul-le-mul-right, add-mul, add-le-add}
 use native.Mathlib.Omega.{arith}
-use mathlib.Core.Path.{_≡_, refl, sym, ap, _∙_}
+use mathlib.Core.Path.{_≡_, refl}
 use mathlib.Core.Bool.{Bool, true, false, cond, not, _&&_, _||_}
 use mathlib.Core.List.{List, [], _∷_}
-use lib.Dec.{T, leb, leb→le, lit<}
+use lib.Dec.{T}
 use lib.ListN.{length, getD}
 use Rattle.rules.specs.declared.Class.{Class}
 use Rattle.rules.specs.declared.Class.the-variants.{Credited, Void, Duplicate, Error}
 use Rattle.rules.specs.declared.Verdict.{Verdict}
 use Rattle.rules.specs.declared.Totals.{Totals}
-use Rattle.rules.specs.Text.{Text, bytes, digit, all, same, value, valueAfter, number, numberOf, parts}
+use Rattle.rules.specs.Text.{Text, bytes, same, value, number, numberOf, parts}
 use Rattle.rules.specs.Rules.{Rules, base}
 use Rattle.rules.specs.Fields.{Qso, isError, pointsRule, fieldRules}
 use Rattle.rules.specs.Arguments.{Rule, anything, countBonusMultiplier, Entry, entries, each, count, bonus, multiplier, part, meets}
 use Rattle.rules.specs.Log.{Log, argumentIn, argument, argumentRules, conjunction, recordRules, valid}
 use Rattle.rules.specs.Judging.{is, classOf, square, isNew, claimsCountry, verdictOf, creditedAfter, verdictsAfter, verdicts, countOf, creditedPoints, Declared, declared, multipliers, totalsOf, totals, totalsOfLog}
 use Rattle.rules.specs.Demands.{TotalIsBounded}
-use Rattle.rules.proofs.Tests.{so, and-l, and-r, le-of-test}
-use Rattle.rules.proofs.NumberLaws.{number-from}
-use Rattle.rules.proofs.FieldLaws.{number-digits}
+use Rattle.rules.proofs.Tests.{so}
+use Rattle.rules.proofs.NumberLaws.{number-from, number-below}
 use Rattle.rules.proofs.Passing.{first, second}
 use Rattle.rules.proofs.Format.{accepted-exactly}
 use Rattle.rules.proofs.Classes.{ofClass, length-verdictsAfter}
 use Rattle.rules.proofs.Distinct.{tally}
 use Rattle.rules.proofs.ValidLogs.{points-ruled, arguments-valid, count-valid, records-valid}
-
--- A number of so many digits is less than the power of ten.
-value-after-below : (n : ℕ) (s : Text) → all digit s ≡ true → valueAfter n s < suc n * 10 ^ length s
-unfolding valueAfter all
-value-after-below n [] e = omega arith
-value-after-below n (c ∷ s) e =
-    let d : digit c ≡ true = and-l (digit c) (all digit s) e in
-    let high : c ≤ 57 = le-of-test c 57 (and-r (leb 48 c) (leb c 57) d) in
-    let step : suc (10 * n + (c - 48)) ≤ 10 * suc n = omega arith in
-    let more = value-after-below (10 * n + (c - 48)) s (and-r (digit c) (all digit s) e) in
-    let power = 10 ^ length s in
-    let tens : 10 * suc n * power ≡ suc n * 10 ^ suc (length s) =
-    ap (λ (m : ℕ). m * power) (mul-comm 10 (suc n)) ∙ mul-assoc (suc n) 10 power ∙ ap (λ (m : ℕ). suc n * m) (sym (pow-succ' 10 (length s))) in
-    lt-of-lt-of-le more (le-trans (mul-le-mul-right power step) (le-of-eq tens))
-
-value-below : (most : ℕ) (s : Text) → T (numberOf most s) → value s < 10 ^ most
-unfolding value numberOf
-value-below most s t =
-    let h = value-after-below 0 s (number-digits s (so (number s) (first (number s) (leb (length s) most) t))) in
-    let short : length s ≤ most = leb→le (length s) most (second (number s) (leb (length s) most) t) in
-    let power : 10 ^ length s ≤ 10 ^ most = pow-le-pow-right (lit< tt) short in
-    omega arith
 
 -- Counts.
 count-length : (f : Verdict → Bool) (vs : List Verdict) → countOf f vs ≤ length vs
@@ -81,7 +58,8 @@ module _ (R : Rules) where
   points-below : (q : Qso) → T (pointsRule R q) → value (q .points) ≤ 10 ^ (R .pointsDigits) - 1
   unfolding pointsRule
   points-below q t =
-      let h = value-below (R .pointsDigits) (q .points) (first (numberOf (R .pointsDigits) (q .points)) (not (isError q) || same (q .points) (bytes "0")) t) in
+      let number = numberOf (R .pointsDigits) (q .points) in
+      let h = number-below (R .pointsDigits) (q .points) (so number (first number (not (isError q) || same (q .points) (bytes "0")) t)) in
       omega arith
 
   points-bounded : (credited qs : List Qso) →

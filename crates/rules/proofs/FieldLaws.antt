@@ -2,20 +2,22 @@
 -- Assumes nothing.
 use Prim.Native.Nat.{ℕ, zero, suc, _+_, _≤_, _<_}
 use mathlib.Core.Path.{_≡_, refl, sym, ap, _∙_}
-use mathlib.Core.Logic.{_⊎_, inl, inr, ⊎-elim}
+use mathlib.Core.Logic.{⊎-elim}
 use mathlib.Core.Bool.{Bool, true, false, cond, not, _&&_, _||_}
-use mathlib.Core.List.{List, [], _∷_, _++_}
+use mathlib.Core.List.{List, [], _∷_}
 use lib.Dec.{leb, eqb}
 use lib.ListN.{length, take, drop, getD, length-append, drop-of-length-le}
 use lib.Seq.{drop-cons, drop-drop}
 use native.Mathlib.Omega.{arith}
-use Rattle.rules.specs.Text.{Text, bytes, digit, capital, small, allowed, semicolon, all, same, begins, empty, value, number, numberOf, parts, joined}
+use borrow.Author.Tests.{leb-true, le-leb, eqb-true, ne-eqb}
+use Rattle.rules.specs.Text.{Text, bytes, digit, capital, small, allowed, semicolon, all, same, empty, value, number, numberOf, parts, joined}
 use Rattle.rules.specs.Rules.{Rules}
 use Rattle.rules.specs.Fields.{dayExists, fullYear, shortDate, timeOfDay, callCharacter, call, mode, report, serial, exchangeCharacter, exchange, squareLetter, subLetter, locator, emptyOr, newMark, duplicateMark, Qso, isError, dateRule, pointsRule, fieldRules, fieldsOf, qsoOf}
 use Rattle.rules.specs.Arguments.{every}
 use Rattle.rules.specs.Log.{recordLine, lineRule, conjunction}
-use Rattle.rules.specs.Reading.{RecordRule, keeps, breaks, firstBroken, recordRule}
-use Rattle.rules.proofs.Tests.{never, either, clash, and-l, and-r, and-i, or-cases, or-l, or-r, not-true, not-false, le-of-test, test-of-le, eq-of-test, test-of-eq, test-of-unequal}
+use Rattle.rules.specs.Reading.{keeps, breaks, firstBroken, recordRule}
+use Rattle.rules.proofs.Tests.{picked, never, and-l, and-r, and-i, or-cases, not-false}
+use Rattle.rules.proofs.NumberLaws.{number-digits}
 use Rattle.rules.proofs.TextLaws.{all-append, all-halves, all-weaker, same-eq, plain, parts-joined, joined-parts}
 
 -- What a field may hold: an allowed character that is no semicolon.
@@ -25,15 +27,15 @@ fieldCharacter c = allowed c && plain c
 -- Characters of a range below the semicolon, or above it.
 range-below : (a b c : ℕ) → 32 ≤ a → b < semicolon → (leb a c && leb c b) ≡ true → fieldCharacter c ≡ true
 range-below a b c h g e =
-    let low : a ≤ c = le-of-test a c (and-l (leb a c) (leb c b) e) in
-    let high : c ≤ b = le-of-test c b (and-r (leb a c) (leb c b) e) in
-    and-i (and-i (test-of-le 32 c (omega arith)) (test-of-le c 127 (omega arith))) (not-false (test-of-unequal c semicolon (λ z. omega arith)))
+    let low : a ≤ c = leb-true a c (and-l (leb a c) (leb c b) e) in
+    let high : c ≤ b = leb-true c b (and-r (leb a c) (leb c b) e) in
+    and-i (and-i (le-leb 32 c (omega arith)) (le-leb c 127 (omega arith))) (not-false (ne-eqb c semicolon (λ z. omega arith)))
 
 range-above : (a b c : ℕ) → semicolon < a → b ≤ 127 → (leb a c && leb c b) ≡ true → fieldCharacter c ≡ true
 range-above a b c h g e =
-    let low : a ≤ c = le-of-test a c (and-l (leb a c) (leb c b) e) in
-    let high : c ≤ b = le-of-test c b (and-r (leb a c) (leb c b) e) in
-    and-i (and-i (test-of-le 32 c (omega arith)) (test-of-le c 127 (omega arith))) (not-false (test-of-unequal c semicolon (λ z. omega arith)))
+    let low : a ≤ c = leb-true a c (and-l (leb a c) (leb c b) e) in
+    let high : c ≤ b = leb-true c b (and-r (leb a c) (leb c b) e) in
+    and-i (and-i (le-leb 32 c (omega arith)) (le-leb c 127 (omega arith))) (not-false (ne-eqb c semicolon (λ z. omega arith)))
 
 digit-clean : (c : ℕ) → digit c ≡ true → fieldCharacter c ≡ true
 digit-clean c e = range-below 48 57 c (omega arith) (omega arith) e
@@ -45,7 +47,7 @@ call-clean : (c : ℕ) → callCharacter c ≡ true → fieldCharacter c ≡ tru
 call-clean c e =
     ⊎-elim
     (λ (p : (capital c || digit c) ≡ true). ⊎-elim (capital-clean c) (digit-clean c) (or-cases (capital c) (digit c) p))
-    (λ (p : eqb c 47 ≡ true). rw (eq-of-test c 47 p))
+    (λ (p : eqb c 47 ≡ true). rw (eqb-true c 47 p))
     (or-cases (capital c || digit c) (eqb c 47) e)
 
 report-clean : (c : ℕ) → (digit c || capital c) ≡ true → fieldCharacter c ≡ true
@@ -85,7 +87,7 @@ unfolding emptyOr
 emptyOr-fits most rule h t e = ⊎-elim (empty-fits most t) (h t) (or-cases (empty t) (rule t) e)
 
 length-is : (t : Text) (n : ℕ) → eqb (length t) n ≡ true → length t ≤ n
-length-is t n e = omega (arith, eq-of-test (length t) n e)
+length-is t n e = omega (arith, eqb-true (length t) n e)
 
 -- Each rule of a field, and the characters that it has room for.
 date-fits : (q : Qso) → dateRule q ≡ true → Fits 6 (q .date)
@@ -117,7 +119,7 @@ call-fits t e =
     let b = leb (length t) 14 in
     record {
       clean = all-weaker callCharacter fieldCharacter call-clean t (and-r (a && b) (all callCharacter t) e);
-      short = le-of-test (length t) 14 (and-r a b (and-l (a && b) (all callCharacter t) e));
+      short = leb-true (length t) 14 (and-r a b (and-l (a && b) (all callCharacter t) e));
     }
 
 mode-fits : (t : Text) → mode t ≡ true → Fits 1 t
@@ -157,7 +159,7 @@ serial-fits t e =
     let b = leb (length t) 4 in
     ⊎-elim (empty-fits 4 t)
     (λ (p : (a && b && all digit t) ≡ true).
-    digits-fit 4 t (and-r (a && b) (all digit t) p) (le-of-test (length t) 4 (and-r a b (and-l (a && b) (all digit t) p))))
+    digits-fit 4 t (and-r (a && b) (all digit t) p) (leb-true (length t) 4 (and-r a b (and-l (a && b) (all digit t) p))))
     (or-cases (empty t) (a && b && all digit t) e)
 
 exchange-fits : (R : Rules) (t : Text) → exchange R t ≡ true → Fits (R .longestExchange) t
@@ -166,7 +168,7 @@ exchange-fits R t e =
     let a = leb (length t) (R .longestExchange) in
     record {
       clean = all-weaker exchangeCharacter fieldCharacter exchange-clean t (and-r a (all exchangeCharacter t) e);
-      short = le-of-test (length t) (R .longestExchange) (and-l a (all exchangeCharacter t) e);
+      short = leb-true (length t) (R .longestExchange) (and-l a (all exchangeCharacter t) e);
     }
 
 locator-fits : (t : Text) → locator t ≡ true → Fits 6 t
@@ -192,19 +194,12 @@ locator-fits t e =
           ⊎-elim (λ (p : four ≡ true). let h : length t ≤ 4 = length-is t 4 p in let g : length t ≤ 6 = omega arith in g) (λ (p : six ≡ true). length-is t 6 p) (or-cases four six size);
     }
 
-pub number-digits : (t : Text) → number t ≡ true → all digit t ≡ true
-unfolding number
-number-digits t e =
-    let a = not (empty t) in
-    let b = same t (bytes "0") || not (begins (bytes "0") t) in
-    and-r a (all digit t) (and-l (a && all digit t) b e)
-
-pub numberOf-fits : (most : ℕ) (t : Text) → numberOf most t ≡ true → Fits most t
+numberOf-fits : (most : ℕ) (t : Text) → numberOf most t ≡ true → Fits most t
 unfolding numberOf
 numberOf-fits most t e =
     digits-fit most t
     (number-digits t (and-l (number t) (leb (length t) most) e))
-    (le-of-test (length t) most (and-r (number t) (leb (length t) most) e))
+    (leb-true (length t) most (and-r (number t) (leb (length t) most) e))
 
 points-fit : (R : Rules) (q : Qso) → pointsRule R q ≡ true → Fits (R .pointsDigits) (q .points)
 unfolding pointsRule
@@ -341,7 +336,7 @@ module _ (R : Rules) where
   unfolding lineRule recordLine
   record-line-rule q h e =
       let k = fields-fit q e in
-      and-i (test-of-le (length (recordLine q)) (R .longestLine) (omega (arith, joined-short (rooms R) (fieldsOf q) k))) (joined-allowed (rooms R) (fieldsOf q) k)
+      and-i (le-leb (length (recordLine q)) (R .longestLine) (omega (arith, joined-short (rooms R) (fieldsOf q) k))) (joined-allowed (rooms R) (fieldsOf q) k)
 
 -- The texts from a place on, so many of them.
 from : ℕ → ℕ → List Text → List Text
@@ -363,6 +358,10 @@ pub record-of-fields : (q : Qso) → qsoOf (fieldsOf q) ≡ q
 unfolding fieldsOf qsoOf
 record-of-fields q = refl
 
+-- A broken rule is none that is kept.
+no-break : {A : Type 0} {n : ℕ} → breaks n ≡ keeps → A
+no-break e = let z : _≡_ {A = ℕ} 0 1 = cc in absurd (omega arith)
+
 -- No test is broken exactly when all hold.
 pub none-broken : (n : ℕ) (bs : List Bool) → conjunction bs ≡ true → firstBroken n bs ≡ keeps
 unfolding firstBroken conjunction
@@ -373,12 +372,7 @@ pub all-hold : (n : ℕ) (bs : List Bool) → firstBroken n bs ≡ keeps → con
 unfolding firstBroken conjunction
 all-hold n [] e = refl
 all-hold n (true ∷ bs) e = all-hold (suc n) bs e
-all-hold n (false ∷ bs) e = let z : _≡_ {A = ℕ} 0 1 = cc in absurd (omega arith)
-
--- What is answered of a line that has no fifteen fields, or one that breaks its rule.
-fifteen : (b : Bool) (r : RecordRule) → cond b r (breaks 0) ≡ keeps → (b ≡ true) × (r ≡ keeps)
-fifteen true r e = (refl, e)
-fifteen false r e = let z : _≡_ {A = ℕ} 0 1 = cc in absurd (omega arith)
+all-hold n (false ∷ bs) e = no-break e
 
 module _ (R : Rules) where
   -- The line of a record that keeps its rules is read as that record.
@@ -400,8 +394,8 @@ module _ (R : Rules) where
   pub record-is : (l : Text) → recordRule R l ≡ keeps → IsRecord l
   unfolding recordRule recordLine
   record-is l e =
-      let p = fifteen (eqb (length (parts l)) 15) (firstBroken 1 (fieldRules R (qsoOf (parts l)))) e in
-      let n : length (parts l) ≡ 15 = eq-of-test (length (parts l)) 15 (p .0) in
+      let p = picked (eqb (length (parts l)) 15) e no-break in
+      let n : length (parts l) ≡ 15 = eqb-true (length (parts l)) 15 (p .0) in
       record {
         rules = all-hold 1 (fieldRules R (qsoOf (parts l))) (p .1);
         line = ap joined (fields-of-texts (parts l) n) ∙ joined-parts l;

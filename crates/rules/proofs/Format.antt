@@ -1,21 +1,22 @@
 -- A text is accepted exactly when it is what some valid log is written as, and it is read as that log.
 -- Assumes nothing.
-use Prim.Native.Nat.{ℕ, suc, _≤_, _<_}
+use Prim.Native.Nat.{suc, _≤_, _<_}
 use mathlib.Core.Path.{_≡_, refl, sym, ap, _∙_}
-use mathlib.Core.Logic.{_⊎_, _↔_, inl, inr, ⊎-elim}
+use mathlib.Core.Logic.{_↔_}
 use mathlib.Core.Bool.{Bool, true, false, cond, _&&_}
-use mathlib.Core.List.{List, [], _++_, append-nil}
-use lib.Dec.{T, leb, ltb}
+use mathlib.Core.List.{_++_, append-nil}
+use lib.Dec.{leb, ltb}
 use lib.ListN.{length}
 use native.Mathlib.Omega.{arith}
+use borrow.Author.Tests.{leb-true, le-leb, leb-false}
 use Rattle.rules.specs.Text.{Text}
 use Rattle.rules.specs.Rules.{Rules, base}
 use Rattle.rules.specs.Arguments.{entries, every}
-use Rattle.rules.specs.Log.{Log, linesOf, ended, render, lineRule, argumentRules, remarkRule, recordRules, valid, IsWrittenAs, FollowsTheFormat}
+use Rattle.rules.specs.Log.{Log, linesOf, ended, render, lineRule, argumentRules, remarkRule, recordRules, valid, IsWrittenAs}
 use Rattle.rules.specs.declared.Due.the-variants.{Identifier}
 use Rattle.rules.specs.Reading.{Reading, accepted, refused, refusal, Lines, lines, walk, read}
 use Rattle.rules.specs.Demands.{AcceptedExactlyWhenWritten, AcceptedExactlyWhenFormat}
-use Rattle.rules.proofs.Tests.{so, holds, fails, and-l, and-r, and-i, le-of-test, test-of-le, lt-of-failed}
+use Rattle.rules.proofs.Tests.{passed, so, holds, fails, and-l, and-r, and-i}
 use Rattle.rules.proofs.LineLaws.{lines-of-ended, lines-are}
 use Rattle.rules.proofs.WalkLaws.{no-log, log-is, log-leads}
 
@@ -32,7 +33,7 @@ module _ (R : Rules) (log : Log) where
   pub valid-of : Rightly R log → valid R log ≡ true
   unfolding valid
   valid-of r =
-      and-i (and-i (and-i (and-i (and-i (test-of-le (length (render log)) (R .longestLog) (r .short)) (r .lineRules)) (r .rulesOfArguments)) (r .remarkRules)) (r .fits)) (r .rules)
+      and-i (and-i (and-i (and-i (and-i (le-leb (length (render log)) (R .longestLog) (r .short)) (r .lineRules)) (r .rulesOfArguments)) (r .remarkRules)) (r .fits)) (r .rules)
 
   pub of-valid : valid R log ≡ true → Rightly R log
   unfolding valid
@@ -48,18 +49,13 @@ module _ (R : Rules) (log : Log) where
       let v₂ : (a && b && c) ≡ true = and-l (a && b && c) d v₃ in
       let v₁ : (a && b) ≡ true = and-l (a && b) c v₂ in
       record {
-        short = le-of-test (length (render log)) (R .longestLog) (and-l a b v₁);
+        short = leb-true (length (render log)) (R .longestLog) (and-l a b v₁);
         lineRules = and-r a b v₁;
         rulesOfArguments = and-r (a && b) c v₂;
         remarkRules = and-r (a && b && c) d v₃;
         fits = and-r (a && b && c && d) e v₄;
         rules = and-r (a && b && c && d && e) f v;
       }
-
--- A text that is not too long is read by the walk over its lines.
-not-refused : (b : Bool) (r : Reading) (log : Log) → cond b (refused (refusal 1 0 0)) r ≡ accepted log → (b ≡ false) × (r ≡ accepted log)
-not-refused true r log e = no-log e
-not-refused false r log e = (refl, e)
 
 pub render-law : (log : Log) → render log ≡ ended (linesOf log)
 unfolding render
@@ -78,11 +74,12 @@ module _ (R : Rules) (s : Text) (log : Log) where
   unfolding byLine
   read-is e =
       let ls = lines R s in
-      let p = not-refused (ltb (R .longestLog) (length s)) (byLine R ls) log (sym (read-law R s) ∙ e) in
+      -- A text that is not too long is read by the walk over its lines.
+      let p = passed (ltb (R .longestLog) (length s)) (sym (read-law R s) ∙ e) no-log in
       let w = log-is R 1 (ls .whole) (ls .rest) log (p .1) in
       let l = lines-are R s in
       let text : render log ≡ s = render-law log ∙ ap ended (sym (w .theLines)) ∙ sym (append-nil (ended (ls .whole))) ∙ ap (λ (r : Text). ended (ls .whole) ++ r) (sym (w .noMore)) ∙ sym (l .text) in
-      let few : length s < suc (R .longestLog) = lt-of-failed (suc (R .longestLog)) (length s) (p .0) in (
+      let few : length s < suc (R .longestLog) = leb-false (suc (R .longestLog)) (length s) (p .0) in (
         record {
           short = rw text (omega arith);
           lineRules = rw (← w .theLines) (l .rules);
@@ -100,7 +97,7 @@ module _ (R : Rules) (s : Text) (log : Log) where
   read-as r e =
       let text : s ≡ ended (linesOf log) = sym e ∙ render-law log in
       let few : length s ≤ R .longestLog = rw (← e) (r .short) in
-      let b : ltb (R .longestLog) (length s) ≡ false = fails (ltb (R .longestLog) (length s)) (λ t. let h : R .longestLog < length s = le-of-test (suc (R .longestLog)) (length s) t in omega arith) in
+      let b : ltb (R .longestLog) (length s) ≡ false = fails (ltb (R .longestLog) (length s)) (λ t. let h : R .longestLog < length s = leb-true (suc (R .longestLog)) (length s) t in omega arith) in
       read-law R s
       ∙ ap (λ (c : Bool). cond c (refused (refusal 1 0 0)) (byLine R (lines R s))) b
       ∙ ap (byLine R) (ap (lines R) text ∙ lines-of-ended R (linesOf log) (r .lineRules))

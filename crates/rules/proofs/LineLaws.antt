@@ -2,20 +2,20 @@
 -- Assumes nothing.
 use Prim.Native.Nat.{ℕ, zero, suc, _+_, _≤_, _<_}
 use mathlib.Core.Path.{_≡_, refl, sym, ap, _∙_}
-use mathlib.Core.Logic.{_⊎_, inl, inr, ⊎-elim}
-use mathlib.Core.Bool.{Bool, true, false, cond, not, _&&_, _||_, and-false}
+use mathlib.Core.Bool.{Bool, true, false, cond, _&&_, and-false}
 use mathlib.Core.List.{List, [], _∷_, _++_, append-assoc}
-use lib.Dec.{leb, eqb}
+use lib.Dec.{leb}
 use lib.ListN.{length, take, drop, length-append, length-take, take-append-drop}
 use lib.Seq.{take-append-seam, drop-append-seam, drop-append-add, drop-drop}
 use native.Mathlib.Omega.{arith}
+use borrow.Author.Tests.{leb-true, le-leb}
 use Rattle.rules.specs.Text.{Text, allowed, all, span, begins}
 use Rattle.rules.specs.Rules.{Rules}
 use Rattle.rules.specs.Arguments.{every}
 use Rattle.rules.specs.Log.{crlf, ended, lineRule}
 use Rattle.rules.specs.Reading.{Lines, FirstLine, aLine, noLine, firstLine, onFirstLine, linesWithin, lines}
-use Rattle.rules.proofs.Tests.{and-l, and-r, and-i, le-of-test, test-of-le}
-use Rattle.rules.proofs.TextLaws.{span-all, span-run, begins-front, begins-split}
+use Rattle.rules.proofs.Tests.{and-l, and-r, and-i}
+use Rattle.rules.proofs.TextLaws.{span-all, span-run, begins-split}
 
 -- No line stands at the front of nothing.
 pub first-of-none : (R : Rules) → firstLine R [] ≡ noLine
@@ -41,21 +41,21 @@ module _ (R : Rules) where
     pub rule : lineRule R l ≡ true
     pub text : s ≡ l ++ crlf ++ rest
 
-  picked : (b : Bool) (a r l rest : Text) → cond b (aLine a r) noLine ≡ aLine l rest → (b ≡ true) × (a ≡ l) × (r ≡ rest)
-  picked true a r l rest e = (refl, cc, cc)
-  picked false a r l rest e = let z : _≡_ {A = ℕ} 0 1 = cc in absurd (omega arith)
+  line-picked : (b : Bool) (a r l rest : Text) → cond b (aLine a r) noLine ≡ aLine l rest → (b ≡ true) × (a ≡ l) × (r ≡ rest)
+  line-picked true a r l rest e = (refl, cc, cc)
+  line-picked false a r l rest e = let z : _≡_ {A = ℕ} 0 1 = cc in absurd (omega arith)
 
   pub first-is : (s l rest : Text) → firstLine R s ≡ aLine l rest → IsFirst s l rest
   unfolding firstLine lineRule
   first-is s l rest e =
       let n = span allowed s in
-      let p = picked (leb n (R .longestLine) && begins crlf (drop n s)) (take n s) (drop (n + 2) s) l rest e in
+      let p = line-picked (leb n (R .longestLine) && begins crlf (drop n s)) (take n s) (drop (n + 2) s) l rest e in
       let short : leb n (R .longestLine) ≡ true = and-l (leb n (R .longestLine)) (begins crlf (drop n s)) (p .0) in
       let end : begins crlf (drop n s) ≡ true = and-r (leb n (R .longestLine)) (begins crlf (drop n s)) (p .0) in
-      let fits : length (take n s) ≤ R .longestLine = omega (arith, length-take n s, le-of-test n (R .longestLine) short) in
+      let fits : length (take n s) ≤ R .longestLine = omega (arith, length-take n s, leb-true n (R .longestLine) short) in
       let tail : drop n s ≡ crlf ++ drop 2 (drop n s) = begins-split crlf (drop n s) end in
       record {
-        rule = rw (← p .1) (and-i (test-of-le (length (take n s)) (R .longestLine) fits) (span-all allowed s));
+        rule = rw (← p .1) (and-i (le-leb (length (take n s)) (R .longestLine) fits) (span-all allowed s));
         text = sym (take-append-drop n s)
             ∙ ap (λ (r : Text). take n s ++ r) (tail ∙ ap (λ (r : Text). crlf ++ r) (drop-drop 2 n s))
             ∙ sym (append-assoc (take n s) crlf (drop (n + 2) s))

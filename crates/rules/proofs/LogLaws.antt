@@ -1,17 +1,18 @@
 -- Laws of the lines of a log: what stands in front of the count line, the count line, and the record lines.
 -- Assumes nothing.
-use Prim.Native.Nat.{ℕ, zero, suc, _+_, _≤_, _<_}
-use mathlib.Core.Path.{_≡_, refl, sym, ap, _∙_}
-use mathlib.Core.Bool.{Bool, true, false, _&&_}
-use mathlib.Core.List.{List, [], _∷_, _++_, map, append-assoc}
+use Prim.Native.Nat.{ℕ, _+_, _≤_}
+use mathlib.Core.Path.{_≡_, refl}
+use mathlib.Core.Bool.{Bool, true}
+use mathlib.Core.List.{List, [], _∷_, _++_, map}
 use lib.Dec.{leb}
 use lib.ListN.{length, length-append}
 use native.Mathlib.Omega.{arith}
+use borrow.Author.Tests.{leb-true, le-leb}
 use Rattle.rules.specs.Text.{Text, bytes, allowed, digit, all, digits}
 use Rattle.rules.specs.Rules.{Rules}
 use Rattle.rules.specs.Arguments.{entries, every}
 use Rattle.rules.specs.Log.{Log, identifier, remarksLine, countStart, countLine, keywordLines, recordLine, linesOf, crlf, ended, lineRule}
-use Rattle.rules.proofs.Tests.{and-l, and-r, and-i, le-of-test, test-of-le}
+use Rattle.rules.proofs.Tests.{and-l, and-r, and-i}
 use Rattle.rules.proofs.TextLaws.{all-append}
 use Rattle.rules.proofs.NumberLaws.{digits-all, digits-shorter}
 use Rattle.rules.proofs.FieldLaws.{digits-fit, fits-allowed}
@@ -81,5 +82,5 @@ module _ (R : Rules) where
   pub fewer-counted : (m n : ℕ) → m ≤ n → lineRule R (countLine n) ≡ true → lineRule R (countLine m) ≡ true
   unfolding lineRule
   fewer-counted m n h e =
-      let fits : length (countLine n) ≤ R .longestLine = le-of-test (length (countLine n)) (R .longestLine) (and-l (leb (length (countLine n)) (R .longestLine)) (all allowed (countLine n)) e) in
-      and-i (test-of-le (length (countLine m)) (R .longestLine) (omega (arith, length-count m, length-count n, digits-shorter n m h))) (count-allowed m)
+      let fits : length (countLine n) ≤ R .longestLine = leb-true (length (countLine n)) (R .longestLine) (and-l (leb (length (countLine n)) (R .longestLine)) (all allowed (countLine n)) e) in
+      and-i (le-leb (length (countLine m)) (R .longestLine) (omega (arith, length-count m, length-count n, digits-shorter n m h))) (count-allowed m)

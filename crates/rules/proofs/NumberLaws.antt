@@ -3,15 +3,16 @@
 use Prim.Native.Nat.{ℕ, zero, suc, _+_, _*_, _-_, _/_, _%_, _^_, _≤_, _<_}
 use mathlib.Core.Path.{_≡_, refl, sym, ap, _∙_}
 use mathlib.Core.Logic.{_≢_, _⊎_, inl, inr, ⊎-elim}
-use mathlib.Core.Bool.{Bool, true, false, cond, not, _&&_, _||_, and-true}
-use mathlib.Core.List.{List, [], _∷_, _++_, append-assoc, append-nil}
-use lib.Dec.{leb, ltb, eqb}
+use mathlib.Core.Bool.{true, false, not, _&&_, _||_, and-true}
+use mathlib.Core.List.{[], _∷_, _++_, append-assoc, append-nil}
+use lib.Dec.{leb, ltb, eqb, lit<}
 use lib.ListN.{length, length-append}
-use native.Mathlib.Nat.{pow-suc}
+use native.Mathlib.Nat.{pow-suc, pow-succ', pow-le-pow-right, le-trans, le-of-eq, lt-of-lt-of-le, mul-le-mul-right, mul-assoc, mul-comm}
 use native.Mathlib.Omega.{arith}
+use borrow.Author.Tests.{not-true, leb-true, le-leb, leb-false, eq-eqb, ne-eqb}
 use Rattle.rules.specs.Text.{Text, bytes, digit, empty, all, same, begins, valueAfter, value, number, numberOf, numberFrom, digitsWithin, digits}
-use Rattle.rules.proofs.Tests.{never, either, clash, fails, and-l, and-r, and-i, or-cases, or-l, or-r, not-true, not-false, le-of-test, test-of-le, lt-of-failed, eq-of-test, test-of-eq, test-of-unequal}
-use Rattle.rules.proofs.TextLaws.{all-append, same-eq, same-refl}
+use Rattle.rules.proofs.Tests.{never, either, clash, fails, and-l, and-r, and-i, or-cases, or-r}
+use Rattle.rules.proofs.TextLaws.{all-append, same-eq}
 
 -- Fewer than ten, or not.
 abbrev pub Small : ℕ → Type 0
@@ -23,8 +24,8 @@ Large n = (ltb n 10 ≡ false) × (10 ≤ n)
 pub size : (n : ℕ) → Small n ⊎ Large n
 size n =
     ⊎-elim
-    (λ (e : ltb n 10 ≡ true). inl (e, le-of-test (suc n) 10 e))
-    (λ (e : ltb n 10 ≡ false). let h : 10 < suc n = lt-of-failed (suc n) 10 e in inr (e, omega arith))
+    (λ (e : ltb n 10 ≡ true). inl (e, leb-true (suc n) 10 e))
+    (λ (e : ltb n 10 ≡ false). let h : 10 < suc n = leb-false (suc n) 10 e in inr (e, omega arith))
     (either (ltb n 10))
 
 -- How many digits are allowed for does not matter, if there are enough.
@@ -45,13 +46,13 @@ unfolding digits digitsWithin
 digits-small zero h = refl
 digits-small (suc n) h =
     let m : suc n % 10 ≡ suc n = omega arith in
-    rw (test-of-le (suc (suc n)) 10 h, m)
+    rw (le-leb (suc (suc n)) 10 h, m)
 
 pub digits-large : (n : ℕ) → 10 ≤ n → digits n ≡ digits (n / 10) ++ ((48 + n % 10) ∷ [])
 unfolding digits digitsWithin
 digits-large zero h = absurd (omega arith)
 digits-large (suc n) h =
-    let e : ltb (suc n) 10 ≡ false = fails (ltb (suc n) 10) (λ t. let l : suc n < 10 = le-of-test (suc (suc n)) 10 t in omega arith) in
+    let e : ltb (suc n) 10 ≡ false = fails (ltb (suc n) 10) (λ t. let l : suc n < 10 = leb-true (suc (suc n)) 10 t in omega arith) in
     rw (e, digits-enough n (suc n / 10) (suc n / 10) (omega arith) (omega arith))
 
 -- The value of digits behind others.
@@ -79,7 +80,7 @@ value-digits =
 
 -- They are digits.
 digit-of : (n : ℕ) → n < 10 → digit (48 + n) ≡ true
-digit-of n h = and-i (test-of-le 48 (48 + n) (omega arith)) (test-of-le (48 + n) 57 (omega arith))
+digit-of n h = and-i (le-leb 48 (48 + n) (omega arith)) (le-leb (48 + n) 57 (omega arith))
 
 pub digits-all : (n : ℕ) → all digit (digits n) ≡ true
 unfolding all
@@ -101,7 +102,7 @@ leads-more s t k = record { first = k .first; others = k .others ++ t; are = rw 
 pub digits-lead : (n : ℕ) → 1 ≤ n → Leads (digits n)
 digits-lead =
     by-tenths (λ n. 1 ≤ n → Leads (digits n))
-    (λ n h p. rw (digits-small n h) (record { first = 48 + n; others = []; are = refl; notZero = test-of-unequal 48 (48 + n) (λ e. omega arith) }))
+    (λ n h p. rw (digits-small n h) (record { first = 48 + n; others = []; are = refl; notZero = ne-eqb 48 (48 + n) (λ e. omega arith) }))
     (λ n h g p. rw (digits-large n h) (leads-more (digits (n / 10)) ((48 + n % 10) ∷ []) (g (omega arith))))
 
 leads-number : (t : Text) → all digit t ≡ true → Leads t → number t ≡ true
@@ -134,8 +135,8 @@ digits-length k n = go k n
 -- The digits of the value of a number are that number.
 digits-step : (v c : ℕ) → 1 ≤ v → digit c ≡ true → digits (10 * v + (c - 48)) ≡ digits v ++ (c ∷ [])
 digits-step v c h e =
-    let low : 48 ≤ c = le-of-test 48 c (and-l (leb 48 c) (leb c 57) e) in
-    let high : c ≤ 57 = le-of-test c 57 (and-r (leb 48 c) (leb c 57) e) in
+    let low : 48 ≤ c = leb-true 48 c (and-l (leb 48 c) (leb c 57) e) in
+    let high : c ≤ 57 = leb-true c 57 (and-r (leb 48 c) (leb c 57) e) in
     let tenth : (10 * v + (c - 48)) / 10 ≡ v = omega arith in
     let last : 48 + (10 * v + (c - 48)) % 10 ≡ c = omega arith in
     rw (digits-large (10 * v + (c - 48)) (omega arith), tenth, last)
@@ -162,9 +163,9 @@ digits-value (c ∷ s) e =
     leading : all digit (c ∷ s) ≡ true → eqb 48 c ≡ false → digits (value (c ∷ s)) ≡ c ∷ s
     leading g z =
         let d : digit c ≡ true = and-l (digit c) (all digit s) g in
-        let low : 48 ≤ c = le-of-test 48 c (and-l (leb 48 c) (leb c 57) d) in
-        let high : c ≤ 57 = le-of-test c 57 (and-r (leb 48 c) (leb c 57) d) in
-        let ne : 48 ≢ c = λ q. clash (test-of-eq 48 c q) z in
+        let low : 48 ≤ c = leb-true 48 c (and-l (leb 48 c) (leb c 57) d) in
+        let high : c ≤ 57 = leb-true c 57 (and-r (leb 48 c) (leb c 57) d) in
+        let ne : 48 ≢ c = λ q. clash (eq-eqb 48 c q) z in
         let v : 1 ≤ 0 + (c - 48) = omega (arith, ne) in
         let back : 48 + (0 + (c - 48)) ≡ c = omega arith in
         digits-after (0 + (c - 48)) s v (and-r (digit c) (all digit s) g) ∙ rw (digits-small (0 + (c - 48)) (omega arith), back)
@@ -184,11 +185,11 @@ digits-shorter =
 pub digits-from : (least most n : ℕ) → least ≤ n → n ≤ most → numberFrom least most (digits n) ≡ true
 unfolding numberFrom
 digits-from least most n h g =
-    and-i (and-i (digits-number n) (rw (value-digits n) (test-of-le least n h))) (rw (value-digits n) (test-of-le n most g))
+    and-i (and-i (digits-number n) (rw (value-digits n) (le-leb least n h))) (rw (value-digits n) (le-leb n most g))
 
 pub digits-of : (k n : ℕ) → n < 10 ^ suc k → numberOf (suc k) (digits n) ≡ true
 unfolding numberOf
-digits-of k n h = and-i (digits-number n) (test-of-le (length (digits n)) (suc k) (digits-length k n h))
+digits-of k n h = and-i (digits-number n) (le-leb (length (digits n)) (suc k) (digits-length k n h))
 
 pub record From (least most : ℕ) (t : Text) : Type 0 where
   pub isNumber : number t ≡ true
@@ -203,9 +204,44 @@ number-from least most t e =
     let c = leb (value t) most in
     record {
       isNumber = and-l a b (and-l (a && b) c e);
-      low = le-of-test least (value t) (and-r a b (and-l (a && b) c e));
-      high = le-of-test (value t) most (and-r (a && b) c e);
+      low = leb-true least (value t) (and-r a b (and-l (a && b) c e));
+      high = leb-true (value t) most (and-r (a && b) c e);
     }
 
 pub number-length : (k : ℕ) (t : Text) → number t ≡ true → value t < 10 ^ suc k → length t ≤ suc k
 number-length k t e h = rw (digits-value t e) at (digits-length k (value t) h)
+
+-- A number is written with digits alone, and is below ten to the power of their number.
+pub number-digits : (t : Text) → number t ≡ true → all digit t ≡ true
+unfolding number
+number-digits t e =
+    let a = not (empty t) in
+    let b = same t (bytes "0") || not (begins (bytes "0") t) in
+    and-r a (all digit t) (and-l (a && all digit t) b e)
+
+value-after-below : (n : ℕ) (s : Text) → all digit s ≡ true → valueAfter n s < suc n * 10 ^ length s
+unfolding valueAfter all
+value-after-below n [] e = omega arith
+value-after-below n (c ∷ s) e =
+    let d : digit c ≡ true = and-l (digit c) (all digit s) e in
+    let high : c ≤ 57 = leb-true c 57 (and-r (leb 48 c) (leb c 57) d) in
+    let step : suc (10 * n + (c - 48)) ≤ 10 * suc n = omega arith in
+    let more = value-after-below (10 * n + (c - 48)) s (and-r (digit c) (all digit s) e) in
+    let power = 10 ^ length s in
+    let tens : 10 * suc n * power ≡ suc n * 10 ^ suc (length s) =
+    ap (λ (m : ℕ). m * power) (mul-comm 10 (suc n)) ∙ mul-assoc (suc n) 10 power ∙ ap (λ (m : ℕ). suc n * m) (sym (pow-succ' 10 (length s))) in
+    lt-of-lt-of-le more (le-trans (mul-le-mul-right power step) (le-of-eq tens))
+
+pub value-below : (t : Text) → all digit t ≡ true → value t < 10 ^ length t
+unfolding value
+value-below t e = omega (arith, value-after-below 0 t e)
+
+-- So a number of at most so many digits is below ten to that power.
+pub below-power : (n k : ℕ) {v : ℕ} → n ≤ k → v < 10 ^ n → v < 10 ^ k
+below-power n k l h = lt-of-lt-of-le h (pow-le-pow-right (lit< tt) l)
+
+pub number-below : (most : ℕ) (t : Text) → numberOf most t ≡ true → value t < 10 ^ most
+unfolding numberOf
+number-below most t e =
+    let short : length t ≤ most = leb-true (length t) most (and-r (number t) (leb (length t) most) e) in
+    below-power (length t) most short (value-below t (number-digits t (and-l (number t) (leb (length t) most) e)))

@@ -1,7 +1,7 @@
 -- Every input gets an answer; a refusal has a number, a line and a field, and leaves what was lent as it was.
 -- Assumes nothing.
-use Prim.Native.Nat.{ℕ, zero, suc, _+_, _≤_, _<_}
-use mathlib.Core.Path.{_≡_, refl, sym, ap, subst, _∙_}
+use Prim.Native.Nat.{ℕ, suc, _+_, _≤_}
+use mathlib.Core.Path.{_≡_, refl, subst}
 use mathlib.Core.Logic.{_⊎_, inl, inr}
 use mathlib.Core.Bool.{Bool, true, false, cond, _&&_}
 use mathlib.Core.List.{List, [], _∷_}
@@ -16,12 +16,11 @@ use Rattle.rules.specs.declared.Next.{Next}
 use Rattle.rules.specs.declared.Next.the-variants.{Goes, Stops}
 use Rattle.rules.specs.Text.{Text, bytes, digit, span, same, begins, parts, value, numberFrom}
 use Rattle.rules.specs.Rules.{Rules, base}
-use Rattle.rules.specs.Fields.{Qso, fieldRules, qsoOf}
+use Rattle.rules.specs.Fields.{fieldRules, qsoOf}
 use Rattle.rules.specs.Arguments.{Entry, entries, meets}
 use Rattle.rules.specs.Log.{Log, identifier, remarksLine, countStart, keywordStart}
-use Rattle.rules.specs.Judging.{zeroTotals}
 use Rattle.rules.specs.Reading.{RecordRule, keeps, breaks, firstBroken, recordRule, recordsDue, whole, argumentOn, keywordLine, keywordDue, countRule, afterRecord, step, Reading, accepted, refused, refusal, atRest, put, onNext, lines, walk, read}
-use Rattle.rules.specs.Answers.{Judgement, unjudged, judge, totalsOfJudgement, numbersOfJudgement, Writing, unwritten, write, bytesOfWriting, Viewing, unseen, view, startOfView, viewed, over}
+use Rattle.rules.specs.Answers.{totalsOfJudgement, numbersOfJudgement, bytesOfWriting, startOfView, viewed, over}
 use Rattle.rules.specs.Demands.{EveryInputGetsAnAnswer, OfALine, RefusedWithNumberLineField, RefusedJudgingChangesNothing, RefusedWritingChangesNothing, RefusedViewIsEmpty}
 
 pub every-input : EveryInputGetsAnAnswer

@@ -1,21 +1,21 @@
 -- What is left of an accepted log once records are struck is written as a text that is accepted.
 -- Assumes nothing.
-use Prim.Native.Nat.{ℕ, zero, suc, _+_, _≤_, _<_}
-use mathlib.Core.Path.{_≡_, refl, sym, ap, _∙_}
-use mathlib.Core.Bool.{Bool, true, false, cond, _&&_}
+use Prim.Native.Nat.{ℕ, _+_, _≤_}
+use mathlib.Core.Path.{_≡_, refl, ap, _∙_}
+use mathlib.Core.Bool.{Bool, true, false, cond}
 use mathlib.Core.List.{List, [], _∷_, _++_, map}
-use lib.Dec.{T, leb}
+use lib.Dec.{T}
 use lib.ListN.{length}
 use native.Mathlib.Omega.{arith}
+use borrow.Author.Tests.{leb-true, le-leb}
 use Rattle.rules.specs.Text.{Text}
 use Rattle.rules.specs.Rules.{Rules, base}
 use Rattle.rules.specs.Fields.{Qso, fieldRules}
 use Rattle.rules.specs.Arguments.{every}
-use Rattle.rules.specs.Log.{Log, countLine, recordLine, linesOf, ended, render, lineRule, conjunction, recordRules, valid}
-use Rattle.rules.specs.Reading.{accepted, read}
+use Rattle.rules.specs.Log.{Log, countLine, recordLine, ended, render, lineRule, conjunction, recordRules, valid}
 use Rattle.rules.specs.Striking.{Places, later, kept, strike}
 use Rattle.rules.specs.Demands.{StruckIsAccepted}
-use Rattle.rules.proofs.Tests.{so, holds, and-l, and-r, and-i, le-of-test, test-of-le}
+use Rattle.rules.proofs.Tests.{so, holds, and-l, and-r, and-i}
 use Rattle.rules.proofs.LogLaws.{every-append, every-front, every-back, every-more, every-first, every-others, length-ended-more, length-ended-append, front, lines-split, length-count, fewer-counted}
 use Rattle.rules.proofs.NumberLaws.{digits-shorter}
 use Rattle.rules.proofs.Format.{Rightly, valid-of, of-valid, render-law, accepted-exactly}
@@ -90,7 +90,7 @@ module _ (R : Rules) where
         lineRules = rw (lines-split (strike struck log)) (every-append (lineRule R) (front (strike struck log)) (countLine (length ps) ∷ map recordLine ps) before behind);
         rulesOfArguments = r .rulesOfArguments;
         remarkRules = r .remarkRules;
-        fits = test-of-le (length ps) (R .mostRecords) (omega (arith, k .fewer, le-of-test (length qs) (R .mostRecords) (r .fits)));
+        fits = le-leb (length ps) (R .mostRecords) (omega (arith, k .fewer, leb-true (length qs) (R .mostRecords) (r .fits)));
         rules = k .rules (r .rules);
       }
 

@@ -4,7 +4,7 @@
 use Prim.Native.Nat.{ℕ}
 use mathlib.Core.Path.{_≡_, refl, sym, ap, _∙_}
 use mathlib.Core.Logic.{⊎-elim}
-use mathlib.Core.List.{List, [], _∷_, _++_, map, List·Memᴰ, List·Memᴰ·head, List·Memᴰ·tail, List·Memᴰ·append-cases, head-eq-of-cons-eq, tail-eq-of-cons-eq}
+use mathlib.Core.List.{List, _∷_, _++_, map, List·Memᴰ, List·Memᴰ·head, List·Memᴰ·tail, List·Memᴰ·append-cases, head-eq-of-cons-eq, tail-eq-of-cons-eq}
 use Rattle.rules.specs.Cases.{Case, answer}
 use Rattle.rules.specs.Table.{lineCases, argumentCases, fieldCases, dueCases, case12Cases, readingCases, lendingCases, squareCases, wrongTurnCases, table}
 

@@ -1,10 +1,10 @@
--- Laws of tests: what follows from a test that holds, and how tests on numbers and the order of numbers go together.
+-- Laws of tests: what follows from a test that holds, and which of two answers a test gave. Of tests on numbers borrow.Author.Tests tells.
 -- Assumes nothing.
-use Prim.Native.Nat.{ℕ, suc, _≤_, _<_}
-use mathlib.Core.Path.{_≡_, refl, sym, ap}
+use mathlib.Core.Path.{_≡_, refl}
 use mathlib.Core.Bool.{Bool, true, false, cond, not, _&&_, _||_, true≢false, false≢true}
 use mathlib.Core.Logic.{_⊎_, inl, inr}
-use lib.Dec.{T, leb, ltb, eqb, leb→le, le→leb, nleb→lt, eqb→eq, eqb-refl}
+use lib.Dec.{T}
+pub use borrow.Author.Tests.{not-true, eqb-true as eq-of-test}
 
 -- A test that holds, as a type and as an equation.
 pub so : (b : Bool) → T b → b ≡ true
@@ -52,28 +52,14 @@ pub or-r : (a : Bool) {b : Bool} → b ≡ true → (a || b) ≡ true
 or-r true e = refl
 or-r false e = e
 
-pub not-true : (b : Bool) → not b ≡ true → b ≡ false
-not-true true e = sym e
-not-true false e = refl
-
 pub not-false : {b : Bool} → b ≡ false → not b ≡ true
 not-false e = rw e
 
--- Tests on numbers.
-pub le-of-test : (m n : ℕ) → leb m n ≡ true → m ≤ n
-le-of-test m n e = leb→le m n (holds e)
+-- One of two answers that differ: which it was, and so what the test said.
+pub picked : {A : Type 0} (b : Bool) {x y z : A} → cond b x z ≡ y → (z ≡ y → ⊥) → (b ≡ true) × (x ≡ y)
+picked true e n = (refl, e)
+picked false e n = absurd (n e)
 
-pub test-of-le : (m n : ℕ) → m ≤ n → leb m n ≡ true
-test-of-le m n h = so (leb m n) (le→leb m n h)
-
-pub lt-of-failed : (m n : ℕ) → leb m n ≡ false → n < m
-lt-of-failed m n e = nleb→lt m n (holds (not-false e))
-
-pub eq-of-test : (m n : ℕ) → eqb m n ≡ true → m ≡ n
-eq-of-test m n e = eqb→eq m n (holds e)
-
-pub test-of-eq : (m n : ℕ) → m ≡ n → eqb m n ≡ true
-test-of-eq m n e = rw e (so (eqb n n) (eqb-refl n))
-
-pub test-of-unequal : (m n : ℕ) → (m ≡ n → ⊥) → eqb m n ≡ false
-test-of-unequal m n f = fails (eqb m n) (λ e. f (eq-of-test m n e))
+pub passed : {A : Type 0} (b : Bool) {x y z : A} → cond b x z ≡ y → (x ≡ y → ⊥) → (b ≡ false) × (z ≡ y)
+passed true e n = absurd (n e)
+passed false e n = (refl, e)

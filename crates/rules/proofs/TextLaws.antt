@@ -1,15 +1,17 @@
 -- Laws of texts: of runs of characters, of sameness and beginnings, and of the texts between semicolons.
 -- Assumes nothing.
-use Prim.Native.Nat.{ℕ, zero, suc, _+_, _≤_, _<_}
+use Prim.Native.Nat.{ℕ, zero, suc, _≤_}
+use native.Mathlib.Omega.{arith}
 use mathlib.Core.Path.{_≡_, refl, sym, ap, _∙_}
-use mathlib.Core.Logic.{_⊎_, inl, inr, ⊎-elim}
-use mathlib.Core.Bool.{Bool, true, false, cond, not, _&&_, _||_}
-use mathlib.Core.List.{List, [], _∷_, _++_, append-assoc}
-use lib.Dec.{leb, eqb}
-use lib.ListN.{length, take, drop, length-append, take-append-drop}
+use mathlib.Core.Logic.{⊎-elim}
+use mathlib.Core.Bool.{Bool, true, false, cond, not}
+use mathlib.Core.List.{List, [], _∷_, _++_}
+use lib.Dec.{eqb}
+use lib.ListN.{length, take, drop, take-append-drop}
+use borrow.Author.Tests.{not-true, eqb-true, eq-eqb}
 use Rattle.rules.specs.Text.{Text, semicolon, all, span, same, begins, before, parts, joined}
 use Rattle.rules.specs.Arguments.{every}
-use Rattle.rules.proofs.Tests.{never, either, clash, fails, and-l, and-r, and-i, not-true, not-false, eq-of-test, test-of-eq}
+use Rattle.rules.proofs.Tests.{fails, never, either, and-l, and-r, and-i, not-false}
 
 -- Every character passes a test.
 module _ (f : ℕ → Bool) where
@@ -17,11 +19,6 @@ module _ (f : ℕ → Bool) where
   unfolding all
   all-append [] t e g = g
   all-append (c ∷ s) t e g = and-i (and-l (f c) (all f s) e) (all-append s t (and-r (f c) (all f s) e) g)
-
-  pub all-front : (s t : Text) → all f (s ++ t) ≡ true → all f s ≡ true
-  unfolding all
-  all-front [] t e = refl
-  all-front (c ∷ s) t e = and-i (and-l (f c) (all f (s ++ t)) e) (all-front s t (and-r (f c) (all f (s ++ t)) e))
 
   pub all-back : (s t : Text) → all f (s ++ t) ≡ true → all f t ≡ true
   unfolding all
@@ -42,6 +39,15 @@ all-weaker f g h (c ∷ s) e = and-i (h c (and-l (f c) (all f s) e)) (all-weaker
 
 -- The run at the front: it passes, and what follows it does not.
 module _ (f : ℕ → Bool) where
+  pub span-short : (s : Text) → span f s ≤ length s
+  unfolding span
+  span-short [] = omega arith
+  span-short (c ∷ s) = by (f c) (span-short s)
+    where
+      by : (b : Bool) → span f s ≤ length s → cond b (suc (span f s)) 0 ≤ suc (length s)
+      by true h = omega arith
+      by false h = omega arith
+
   pub span-all : (s : Text) → all f (take (span f s) s) ≡ true
   unfolding all span
   span-all [] = refl
@@ -62,7 +68,7 @@ module _ (f : ℕ → Bool) where
 pub same-refl : (s : Text) → same s s ≡ true
 unfolding same
 same-refl [] = refl
-same-refl (c ∷ s) = and-i (test-of-eq c c refl) (same-refl s)
+same-refl (c ∷ s) = and-i (eq-eqb c c refl) (same-refl s)
 
 pub same-eq : (s t : Text) → same s t ≡ true → s ≡ t
 unfolding same
@@ -70,25 +76,34 @@ same-eq [] [] e = refl
 same-eq [] (d ∷ t) e = never e
 same-eq (c ∷ s) [] e = never e
 same-eq (c ∷ s) (d ∷ t) e =
-    let head : c ≡ d = eq-of-test c d (and-l (eqb c d) (same s t) e) in
+    let head : c ≡ d = eqb-true c d (and-l (eqb c d) (same s t) e) in
     let tail : s ≡ t = same-eq s t (and-r (eqb c d) (same s t) e) in
     cc
 
+pub same-apart : (s t : Text) → (length s ≡ length t → ⊥) → false ≡ same s t
+same-apart s t n = sym (fails (same s t) (λ e. n (ap length (same-eq s t e))))
+
 pub same-of-eq : (s t : Text) → s ≡ t → same s t ≡ true
 same-of-eq s t e = rw e (same-refl t)
+
+-- The front of a text by its own length.
+pub take-its-length : (n : ℕ) (s : Text) → take (length (take n s)) s ≡ take n s
+take-its-length zero s = refl
+take-its-length (suc n) [] = refl
+take-its-length (suc n) (c ∷ s) = ap (λ (t : Text). c ∷ t) (take-its-length n s)
 
 -- Beginnings.
 pub begins-front : (s t : Text) → begins s (s ++ t) ≡ true
 unfolding begins
 begins-front [] t = refl
-begins-front (c ∷ s) t = and-i (test-of-eq c c refl) (begins-front s t)
+begins-front (c ∷ s) t = and-i (eq-eqb c c refl) (begins-front s t)
 
 pub begins-split : (s t : Text) → begins s t ≡ true → t ≡ s ++ drop (length s) t
 unfolding begins
 begins-split [] t e = refl
 begins-split (c ∷ s) [] e = never e
 begins-split (c ∷ s) (d ∷ t) e =
-    let head : c ≡ d = eq-of-test c d (and-l (eqb c d) (begins s t) e) in
+    let head : c ≡ d = eqb-true c d (and-l (eqb c d) (begins s t) e) in
     let tail : t ≡ s ++ drop (length s) t = begins-split s t (and-r (eqb c d) (begins s t) e) in
     cc
 
@@ -171,5 +186,5 @@ joined-parts [] = unfold joined in refl
 joined-parts (c ∷ s) = by (joined-parts s) (eqb c semicolon) refl
   where
     by : joined (parts s) ≡ s → (b : Bool) → eqb c semicolon ≡ b → joined (cond b ([] ∷ parts s) (before c (parts s))) ≡ c ∷ s
-    by g true e = joined-empty (parts s) (parts-some s) ∙ cc (eq-of-test c semicolon e)
+    by g true e = joined-empty (parts s) (parts-some s) ∙ cc (eqb-true c semicolon e)
     by g false e = joined-before c (parts s) (parts-some s) ∙ cc

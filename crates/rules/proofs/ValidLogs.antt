@@ -7,13 +7,14 @@ use mathlib.Core.Bool.{Bool, true, not, _||_}
 use mathlib.Core.List.{List, [], _∷_}
 use lib.Dec.{T}
 use lib.ListN.{length, getD}
+use borrow.Author.Tests.{leb-true}
 use Rattle.rules.specs.Text.{bytes, same, value, valueAfter, numberOf}
 use Rattle.rules.specs.Rules.{Rules}
 use Rattle.rules.specs.Fields.{Qso, isError, pointsRule, fieldRules}
 use Rattle.rules.specs.Arguments.{entries}
 use Rattle.rules.specs.Log.{Log, conjunction, recordRules, valid, argumentRules}
 use Rattle.rules.specs.Judging.{claimsPoints}
-use Rattle.rules.proofs.Tests.{so, holds, le-of-test}
+use Rattle.rules.proofs.Tests.{so, holds}
 use Rattle.rules.proofs.Format.{of-valid}
 use Rattle.rules.proofs.Passing.{first, second, one-of, failed, same→equal}
 
@@ -51,7 +52,7 @@ module _ (R : Rules) where
     arguments-valid = holds (of-valid R log (so (valid R log) v) .rulesOfArguments)
 
     pub count-valid : length (log .records) ≤ R .mostRecords
-    count-valid = le-of-test (length (log .records)) (R .mostRecords) (of-valid R log (so (valid R log) v) .fits)
+    count-valid = leb-true (length (log .records)) (R .mostRecords) (of-valid R log (so (valid R log) v) .fits)
 
     pub records-valid : T (recordRules R (log .records))
     records-valid = holds (of-valid R log (so (valid R log) v) .rules)

@@ -1,28 +1,28 @@
 -- Laws of the walk from line to line: the lines of a valid log lead to its end, and lines that lead to the end are those of the log that they
 -- are read as.
 -- Assumes nothing.
-use Prim.Native.Nat.{ℕ, zero, suc, _+_, _-_, _≤_, _<_}
+use Prim.Native.Nat.{ℕ, zero, suc, _+_, _-_}
 use mathlib.Core.Path.{_≡_, refl, sym, ap, subst, _∙_}
-use mathlib.Core.Logic.{_⊎_, inl, inr, ⊎-elim}
-use mathlib.Core.Bool.{Bool, true, false, cond, not, _&&_, _||_}
+use mathlib.Core.Bool.{Bool, true, false, cond, _&&_}
 use mathlib.Core.List.{List, [], _∷_, _++_, map, append-assoc}
-use lib.Dec.{leb, eqb}
+use lib.Dec.{leb}
 use lib.ListN.{length, take, drop, take-append-drop}
 use lib.Seq.{drop-drop, take-append-seam, drop-append-seam}
 use native.Mathlib.Omega.{arith}
+use borrow.Author.Tests.{not-true, leb-true, le-leb}
 use Rattle.rules.specs.declared.Refusal.{Refusal}
 use Rattle.rules.specs.declared.Due.{Due}
 use Rattle.rules.specs.declared.Due.the-variants.{Identifier, Keyword, Remarks, Remark, Record, End}
 use Rattle.rules.specs.declared.Next.{Next}
 use Rattle.rules.specs.declared.Next.the-variants.{Goes, Stops}
-use Rattle.rules.specs.Text.{Text, bytes, digit, span, same, begins, parts, value, number, numberFrom, digits}
+use Rattle.rules.specs.Text.{Text, bytes, digit, span, same, begins, value, number, numberFrom, digits}
 use Rattle.rules.specs.Rules.{Rules}
-use Rattle.rules.specs.Fields.{Qso, qsoOf, fieldsOf, fieldRules}
+use Rattle.rules.specs.Fields.{Qso, qsoOf, fieldRules}
 use Rattle.rules.specs.Arguments.{Entry, entries, meets, every}
 use Rattle.rules.specs.Log.{Log, identifier, remarksLine, countStart, countLine, keywordStart, keywordLines, recordLine, linesOf, argumentRules, remarkRule, conjunction, recordRules}
 use Rattle.rules.specs.Reading.{RecordRule, keeps, breaks, recordRule, recordsDue, whole, argumentOn, keywordLine, keywordDue, countRule, afterRecord, step, Reading, accepted, refused, atRest, argumentDue, withLine, put, onNext, walk}
-use Rattle.rules.proofs.Tests.{never, either, clash, and-l, and-r, and-i, or-cases, not-true, not-false, le-of-test, test-of-le, eq-of-test, test-of-eq}
-use Rattle.rules.proofs.TextLaws.{span-all, span-run, same-eq, same-refl, begins-front, begins-split}
+use Rattle.rules.proofs.Tests.{never, and-l, and-r, and-i, not-false}
+use Rattle.rules.proofs.TextLaws.{span-run, same-eq, same-refl, begins-front, begins-split}
 use Rattle.rules.proofs.NumberLaws.{value-digits, digits-all, digits-value, digits-from, number-from}
 use Rattle.rules.proofs.FieldLaws.{parts-of-record, record-kept, record-is, record-of-fields}
 
@@ -31,7 +31,7 @@ pub no-log : {A : Type 0} {r : Refusal} {log : Log} → refused r ≡ accepted l
 no-log e = let z : _≡_ {A = ℕ} 0 1 = cc in absurd (omega arith)
 
 -- What a test, or two tests, let go on.
-one-test : (b : Bool) (on next : Due) (number field : ℕ) → cond b (Goes on) (Stops number field) ≡ Goes next → (b ≡ true) × (on ≡ next)
+pub one-test : (b : Bool) (on next : Due) (number field : ℕ) → cond b (Goes on) (Stops number field) ≡ Goes next → (b ≡ true) × (on ≡ next)
 one-test true on next number field e = (refl, cc)
 one-test false on next number field e = let z : _≡_ {A = ℕ} 0 1 = cc in absurd (omega arith)
 
@@ -157,7 +157,7 @@ module _ (R : Rules) where
       let n : span digit t ≡ length (digits m) = span-run digit (digits m) 93 [] (digits-all m) refl in
       let first : take (length (digits m)) t ≡ digits m = take-append-seam (digits m) (bytes "]") in
       let last : drop (length (digits m)) t ≡ bytes "]" = drop-append-seam (digits m) (bytes "]") in
-      count-at t (length (digits m)) n ∙ rw (first, last, digits-from 0 (R .mostRecords) m (omega arith) (le-of-test m (R .mostRecords) e), same-refl (bytes "]"), value-digits m)
+      count-at t (length (digits m)) n ∙ rw (first, last, digits-from 0 (R .mostRecords) m (omega arith) (leb-true m (R .mostRecords) e), same-refl (bytes "]"), value-digits m)
 
   step-count : (m : ℕ) → leb m (R .mostRecords) ≡ true → step R Remark (countLine m) ≡ Goes (recordsDue m)
   unfolding step countLine countStart begins
@@ -190,7 +190,7 @@ module _ (R : Rules) where
         line = begins-split countStart l b
             ∙ ap (λ (r : Text). countStart ++ r) (sym (take-append-drop n t) ∙ cc (wrote, same-eq (drop n t) (bytes "]") g))
             ∙ sym (append-assoc countStart (digits (value s)) (bytes "]"));
-        fits = test-of-le (value s) (R .mostRecords) (k .high);
+        fits = le-leb (value s) (R .mostRecords) (k .high);
         due = p .1;
       }
 

@@ -1,19 +1,18 @@
 -- Writing back changes only the claims, points and marks that are named for it, and points on duplicates alone.
 -- Assumes nothing.
 use Prim.Native.Nat.{ℕ, zero, suc}
-use mathlib.Core.Path.{_≡_, refl, sym, ap, ap₂, _∙_}
-use mathlib.Core.Bool.{Bool, true, false, cond, _&&_}
+use mathlib.Core.Path.{_≡_, refl, ap, ap₂}
+use mathlib.Core.Bool.{Bool, true, false, cond}
 use mathlib.Core.List.{List, [], _∷_, map}
 use lib.ListN.{getD, drop}
 use Rattle.rules.specs.declared.Class.{Class}
 use Rattle.rules.specs.declared.Class.the-variants.{Credited, Void, Duplicate, Error}
 use Rattle.rules.specs.declared.Verdict.{Verdict}
 use Rattle.rules.specs.declared.Totals.{Totals}
-use Rattle.rules.specs.Text.{Text, bytes, all, same, digits, parts, joined}
-use Rattle.rules.specs.Rules.{Rules, base}
+use Rattle.rules.specs.Text.{Text, all, same, digits, parts, joined}
+use Rattle.rules.specs.Rules.{base}
 use Rattle.rules.specs.Fields.{Qso}
 use Rattle.rules.specs.Arguments.{Entry, entries, every}
-use Rattle.rules.specs.Log.{Log}
 use Rattle.rules.specs.Judging.{classNumber, is, zeroTotals, verdictsOfLog, totalsOfLog}
 use Rattle.rules.specs.Writing.{recounted, Claim, claims, claimed, writtenArguments, writtenRecord, writtenRecords, writtenBack, unclaimedRecord, unclaimed}
 use Rattle.rules.specs.Demands.{WritingChangesOnlyTheNamed, WritingKeepsPoints}

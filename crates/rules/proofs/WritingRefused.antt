@@ -6,7 +6,7 @@ use native.Mathlib.Omega.{arith}
 use native.Mathlib.Decide.{decLt}
 use mathlib.Core.Path.{_≡_, refl, sym, ap, _∙_}
 use mathlib.Core.Logic.{_⊎_, inl, inr}
-use mathlib.Core.Bool.{Bool, true, false, cond, _&&_, and-false}
+use mathlib.Core.Bool.{Bool, cond, _&&_, and-false}
 use lib.Dec.{leb}
 use lib.ListN.{length}
 use borrow.Author.Tests.{le-leb, lt-leb}
@@ -15,7 +15,7 @@ use Rattle.rules.specs.Rules.{base}
 use Rattle.rules.specs.Log.{Log, render}
 use Rattle.rules.specs.Writing.{writtenBack}
 use Rattle.rules.specs.Reading.{accepted, refusal, read}
-use Rattle.rules.specs.Answers.{Writing, written, unwritten, writeLog, writeReading, write}
+use Rattle.rules.specs.Answers.{Writing, written, unwritten, writeReading, write}
 use Rattle.rules.specs.Demands.{WritingIsRefusedForLength}
 
 pub one-answer : {A : Type 0} {answer other promised : A} → answer ≡ promised → other ≡ promised → answer ≡ other

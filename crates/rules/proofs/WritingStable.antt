@@ -6,6 +6,7 @@ use mathlib.Core.Path.{_≡_, refl, sym, _∙_}
 use mathlib.Core.Bool.{Bool, true, false, cond, _&&_}
 use lib.Dec.{T, leb}
 use lib.ListN.{length}
+use borrow.Author.Tests.{leb-true, le-leb}
 use Rattle.rules.specs.declared.Refusal.{Refusal}
 use Rattle.rules.specs.Text.{Text}
 use Rattle.rules.specs.Rules.{Rules, base}
@@ -15,7 +16,7 @@ use Rattle.rules.specs.Writing.{writtenBack}
 use Rattle.rules.specs.Reading.{accepted, refusal, read}
 use Rattle.rules.specs.Answers.{written, unwritten, writeLog, writeReading, write}
 use Rattle.rules.specs.Demands.{WritingBackIsStable}
-use Rattle.rules.proofs.Tests.{and-l, le-of-test, test-of-le}
+use Rattle.rules.proofs.Tests.{and-l}
 use Rattle.rules.proofs.Format.{accepted-exactly}
 use Rattle.rules.proofs.WrittenValid.{HaveRoom, written-valid}
 use Rattle.rules.proofs.Bounds.{base-within}
@@ -54,8 +55,8 @@ module _ (R : Rules) where
       writeLog R room log ≡ written t
   unfolding fitting
   written-as-it-was room log t e f h k =
-      let long : leb (length t) (R .longestLog) ≡ true = test-of-le (length t) (R .longestLog) h in
-      let wide : leb (length t) room ≡ true = test-of-le (length t) room k in
+      let long : leb (length t) (R .longestLog) ≡ true = le-leb (length t) (R .longestLog) h in
+      let wide : leb (length t) room ≡ true = le-leb (length t) room k in
       write-law room log ∙ rw (e, f, long, wide)
 
 -- What a valid log comes to has room in the places of its claims.
@@ -86,7 +87,7 @@ unfolding fitting
 writing-is-stable s log room t e w =
     let back = writtenBack base log in
     let k = wrote (fitting base room (render back)) (render back) t (refusal 8 0 0) (sym (write-law base room log) ∙ sym (write-accepted base room s log e) ∙ w) in
-    let short : length (render back) ≤ base .longestLog = le-of-test (length (render back)) (base .longestLog) (and-l (leb (length (render back)) (base .longestLog)) (leb (length (render back)) room) (k .fitted)) in
+    let short : length (render back) ≤ base .longestLog = leb-true (length (render back)) (base .longestLog) (and-l (leb (length (render back)) (base .longestLog)) (leb (length (render back)) room) (k .fitted)) in
     let reads : read base t ≡ accepted back = accepted-exactly t back .1 (writes-valid log (accepted-exactly s log .0 e .0) short, k .is) in
     record {
       reads = reads;

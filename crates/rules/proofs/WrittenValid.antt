@@ -1,27 +1,27 @@
 -- The log that is written back from a valid log is valid, if it is not too long and what it claims has room.
 -- Assumes nothing.
-use Prim.Native.Nat.{ℕ, zero, suc, _+_, _^_, _≤_, _<_}
-use mathlib.Core.Path.{_≡_, refl, sym, ap, _∙_}
-use mathlib.Core.Logic.{_⊎_, inl, inr, ⊎-elim}
+use Prim.Native.Nat.{ℕ, suc, _^_, _≤_, _<_}
+use mathlib.Core.Path.{_≡_, refl, ap}
 use mathlib.Core.Bool.{Bool, true, false, cond, not, _&&_, _||_}
 use mathlib.Core.List.{List, [], _∷_, _++_, map}
-use lib.Dec.{T, leb}
+use lib.Dec.{T}
 use lib.ListN.{length, drop, length-append}
 use native.Mathlib.Omega.{arith}
+use borrow.Author.Tests.{le-leb}
 use Rattle.rules.specs.declared.Class.the-variants.{Credited, Duplicate}
 use Rattle.rules.specs.declared.Verdict.{Verdict}
 use Rattle.rules.specs.declared.Totals.{Totals}
-use Rattle.rules.specs.Text.{Text, bytes, all, allowed, same, empty, value, numberOf, numberFrom, digits, parts, joined}
-use Rattle.rules.specs.Rules.{Rules, base}
+use Rattle.rules.specs.Text.{Text, bytes, all, allowed, same, empty, numberOf, numberFrom, digits, parts}
+use Rattle.rules.specs.Rules.{base}
 use Rattle.rules.specs.Fields.{Qso, newMark, duplicateMark, isError, emptyOr, fieldRules, pointsRule}
 use Rattle.rules.specs.Arguments.{Rule, claimedPoints, claimedBonus, claimedTotal, countAndMultiplier, countBonusMultiplier, Entry, entries, meets, each, every, count, bonus, multiplier}
-use Rattle.rules.specs.Log.{Log, identifier, remarksLine, countLine, keywordStart, keywordLines, recordLine, linesOf, render, lineRule, argumentRules, conjunction, recordRules, valid}
+use Rattle.rules.specs.Log.{Log, identifier, remarksLine, countLine, keywordStart, keywordLines, recordLine, render, lineRule, argumentRules, conjunction, recordRules, valid}
 use Rattle.rules.specs.Judging.{is, verdictsOfLog, totalsOfLog}
 use Rattle.rules.specs.Writing.{recounted, Claim, claims, claimed, writtenArguments, writtenRecord, writtenRecords, writtenBack}
-use Rattle.rules.proofs.Tests.{never, so, holds, and-l, and-r, and-i, or-cases, or-l, or-r, le-of-test, test-of-le}
-use Rattle.rules.proofs.TextLaws.{all-append, same-refl, Some, parts-some, joined-parts}
-use Rattle.rules.proofs.NumberLaws.{digits-all, digits-length, digits-from, digits-of, number-from, number-length}
-use Rattle.rules.proofs.FieldLaws.{Plain, Fits, digits-fit, digits-plain, number-digits, fits-allowed, AllFit, room, joined-short, joined-allowed, record-line-rule}
+use Rattle.rules.proofs.Tests.{never, so, holds, and-l, and-r, and-i, or-r}
+use Rattle.rules.proofs.TextLaws.{all-append, same-refl, joined-parts}
+use Rattle.rules.proofs.NumberLaws.{digits-all, digits-length, digits-from, digits-of, number-from, number-length, number-digits}
+use Rattle.rules.proofs.FieldLaws.{Plain, Fits, digits-fit, digits-plain, AllFit, room, joined-short, joined-allowed, record-line-rule}
 use Rattle.rules.proofs.LogLaws.{every-append, every-front, every-back, every-more, every-first, every-others, digits-allowed, front, lines-split}
 use Rattle.rules.proofs.Format.{Rightly, valid-of, of-valid}
 use Rattle.rules.proofs.WritingLaws.{parts-recounted}
@@ -47,7 +47,7 @@ record Good (e : Entry) (t : Text) : Type 0 where
 line-of : (k t : Text) → all allowed k ≡ true → length k ≤ 6 → all allowed t ≡ true → length t ≤ 69 → lineRule base (k ++ t) ≡ true
 unfolding lineRule base
 line-of k t a h b g =
-    and-i (test-of-le (length (k ++ t)) 75 (simp length-append (omega arith))) (all-append allowed k t a b)
+    and-i (le-leb (length (k ++ t)) 75 (simp length-append (omega arith))) (all-append allowed k t a b)
 
 -- Texts that keep rules have the room of the rules.
 abbrev RulesFit : List ℕ → List (Text → Bool) → Type 0

@@ -1,22 +1,22 @@
 -- What the table of cases asks, and how an answer is put in numbers.
 -- Assumes nothing.
-use Prim.Native.Nat.{ℕ, _-_}
+use Prim.Native.Nat.{ℕ}
 use mathlib.Core.Bool.{Bool, true, false}
 use mathlib.Core.List.{List, [], _∷_, _++_, map}
-use lib.ListN.{length, set}
+use lib.ListN.{length}
 use Rattle.rules.specs.declared.Refusal.{Refusal}
 use Rattle.rules.specs.declared.Totals.{Totals}
 use Rattle.rules.specs.declared.Due.{Due}
 use Rattle.rules.specs.declared.Next.{Next}
 use Rattle.rules.specs.declared.Next.the-variants.{Goes, Stops}
-use Rattle.rules.specs.Text.{Text, bytes, parts, joined}
+use Rattle.rules.specs.Text.{Text}
 use Rattle.rules.specs.Rules.{base}
 use Rattle.rules.specs.Arguments.{Rule, meets}
 use Rattle.rules.specs.Log.{Log, render, valid}
 use Rattle.rules.specs.Judging.{verdictNumber, verdictsOfLog, totalsOfLog}
 use Rattle.rules.specs.Writing.{writtenBack}
 use Rattle.rules.specs.Reading.{FirstLine, aLine, noLine, firstLine, RecordRule, keeps, breaks, recordRule, Reading, accepted, refused, read, step}
-use Rattle.rules.specs.Answers.{Viewing, view, refusalOfView, startOfView, viewed, Judgement, judge, refusalOfJudgement, totalsOfJudgement, numbersOfJudgement, Writing, write, refusalOfWriting, bytesOfWriting, refusalOfReading, recordsOfReading}
+use Rattle.rules.specs.Answers.{view, refusalOfView, startOfView, viewed, judge, refusalOfJudgement, totalsOfJudgement, numbersOfJudgement, write, refusalOfWriting, bytesOfWriting, refusalOfReading, recordsOfReading}
 use Rattle.rules.specs.Striking.{Places, strike}
 use Rattle.rules.specs.Desk.{desk}
 

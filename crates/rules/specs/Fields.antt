@@ -1,11 +1,11 @@
 -- "The fifteen fields": what each field of a record may be, and the parts that the arguments share with them.
 -- Assumes nothing.
-use Prim.Native.Nat.{ℕ, suc, _+_, _-_, _%_}
-use mathlib.Core.Bool.{Bool, true, false, cond, not, _&&_, _||_}
+use Prim.Native.Nat.{ℕ, _+_, _-_, _%_}
+use mathlib.Core.Bool.{Bool, cond, not, _&&_, _||_}
 use mathlib.Core.List.{List, [], _∷_}
-use lib.Dec.{leb, ltb, eqb}
+use lib.Dec.{leb, eqb}
 use lib.ListN.{length, take, drop, getD}
-use Rattle.rules.specs.Text.{Text, bytes, digit, capital, small, allowed, semicolon, all, same, begins, empty, value, number, numberOf, parts, joined}
+use Rattle.rules.specs.Text.{Text, bytes, digit, capital, small, allowed, semicolon, all, same, empty, value, numberOf}
 use Rattle.rules.specs.Rules.{Rules}
 
 -- The days of each month, and one more in the second of a leap year.

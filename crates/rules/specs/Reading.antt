@@ -1,8 +1,8 @@
 -- "When the desk says no": the refusals 1 to 6, line by line, and the log that an accepted text is.
 -- Assumes nothing.
 use Prim.Native.Nat.{ℕ, zero, suc, _+_, _-_}
-use mathlib.Core.Bool.{Bool, true, false, cond, _&&_}
-use mathlib.Core.List.{List, [], _∷_, _++_}
+use mathlib.Core.Bool.{Bool, cond, _&&_}
+use mathlib.Core.List.{List, [], _∷_}
 use lib.Dec.{leb, ltb, eqb}
 use lib.ListN.{length, take, drop}
 use Rattle.rules.specs.declared.Refusal.{Refusal}
@@ -12,7 +12,7 @@ use Rattle.rules.specs.declared.Next.{Next}
 use Rattle.rules.specs.declared.Next.the-variants.{Goes, Stops}
 use Rattle.rules.specs.Text.{Text, bytes, allowed, digit, span, same, begins, parts, value, numberFrom}
 use Rattle.rules.specs.Rules.{Rules}
-use Rattle.rules.specs.Fields.{Qso, qsoOf, fieldRules}
+use Rattle.rules.specs.Fields.{qsoOf, fieldRules}
 use Rattle.rules.specs.Arguments.{Entry, entries, meets}
 use Rattle.rules.specs.Log.{Log, identifier, remarksLine, countStart, keywordStart, crlf}
 

@@ -1,6 +1,6 @@
 -- The lines of the keywords when a log is written back: those of the nine claims with other numbers, and the others as they were.
 -- Assumes nothing.
-use Prim.Native.Nat.{ℕ, _+_, _≤_}
+use Prim.Native.Nat.{ℕ, _≤_}
 use native.Mathlib.Omega.{arith}
 use mathlib.Core.Path.{_≡_, refl, sym, ap, _∙_}
 use mathlib.Core.Bool.{Bool, true, false, cond, not, _||_}
@@ -8,16 +8,16 @@ use mathlib.Core.List.{List, [], _∷_, _++_, append-nil}
 use lib.Dec.{leb, eqb}
 use lib.ListN.{length, take, drop, length-append}
 use lib.Seq.{take-at, drop-at, drop-length, drop-append-seam}
+use borrow.Author.Tests.{not-true, le-leb, eqb-true}
 use Rattle.rules.specs.declared.Totals.{Totals}
 use Rattle.rules.specs.Text.{Text, digit, semicolon, all, span, same, number, numberOf, parts, joined, digits}
 use Rattle.rules.specs.Rules.{Rules, base}
 use Rattle.rules.specs.Arguments.{Entry, entries, each, count, bonus, multiplier, meets, every}
 use Rattle.rules.specs.Log.{keywordStart, keywordLines, argumentRules}
 use Rattle.rules.specs.Writing.{recounted, Claim, claims, claimed, writtenArguments}
-use Rattle.rules.proofs.Tests.{never, and-l, and-r, and-i, not-true, test-of-le, eq-of-test}
+use Rattle.rules.proofs.Tests.{never, and-l, and-r, and-i}
 use Rattle.rules.proofs.TextLaws.{parts-some, joined-parts, span-run}
-use Rattle.rules.proofs.NumberLaws.{number-from}
-use Rattle.rules.proofs.FieldLaws.{number-digits}
+use Rattle.rules.proofs.NumberLaws.{number-from, number-digits}
 use Rattle.header.proofs.PartLaws.{whole-span}
 use Rattle.places.proofs.HeaderHeld.{everyEntry, keyword-count}
 use Rattle.writer.specs.ClaimsText.{claimNumbers}
@@ -114,7 +114,7 @@ Renumber cs (e ∷ es) (n ∷ ns) =
 
 line-renumbered : (n : ℕ) (e : Entry) (t u : Text) → six e ≡ true → u ≡ renumbered n t → keywordStart e ++ u ≡ renumberedLine n (keywordStart e ++ t)
 line-renumbered n e t u h g =
-    let k : length (keywordStart e) ≡ 6 = eq-of-test (length (keywordStart e)) 6 h in
+    let k : length (keywordStart e) ≡ 6 = eqb-true (length (keywordStart e)) 6 h in
     rw (g, take-at (keywordStart e) t 6 k, drop-at (keywordStart e) t 6 k)
 
 lines-renumber : (cs : List Claim) (es : List Entry) (ns : List ℕ) (ts : List Text) → Renumber cs es ns → everyEntry six es ≡ true → argumentRules base es ts ≡ true
@@ -136,9 +136,9 @@ unfolding everyEntry keywordLines every
 lines-keyworded [] ts h = refl
 lines-keyworded (e ∷ es) [] h = refl
 lines-keyworded (e ∷ es) (t ∷ ts) h =
-    let k : length (keywordStart e) ≡ 6 = eq-of-test (length (keywordStart e)) 6 (and-l (six e) (everyEntry six es) h) in
+    let k : length (keywordStart e) ≡ 6 = eqb-true (length (keywordStart e)) 6 (and-l (six e) (everyEntry six es) h) in
     let long : 6 ≤ length (keywordStart e ++ t) = omega (arith, length-append (keywordStart e) t) in
-    and-i (test-of-le 6 (length (keywordStart e ++ t)) long) (lines-keyworded es ts (and-r (six e) (everyEntry six es) h))
+    and-i (le-leb 6 (length (keywordStart e ++ t)) long) (lines-keyworded es ts (and-r (six e) (everyEntry six es) h))
 
 -- # Two tables, one behind the other
 

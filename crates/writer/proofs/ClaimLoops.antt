@@ -4,12 +4,12 @@ use Prim.Native.Nat.{ℕ, suc, _+_, _-_, _*_, _≤_, _<_}
 use native.Mathlib.Omega.{arith}
 use native.Mathlib.Nat.{zero-add}
 use native.Mathlib.Numerals.{add-one}
-use mathlib.Core.Path.{_≡_, refl, sym, ap, _∙_}
-use mathlib.Core.List.{List, [], _∷_, _++_, append-nil}
+use mathlib.Core.Path.{_≡_, sym, ap, _∙_}
+use mathlib.Core.List.{List, [], _++_, append-nil}
 use lib.ListN.{length, drop, getD, length-append, drop-of-length-le, length-drop}
 use lib.Seq.{drop-cons}
 use Rattle.rules.specs.Text.{Text, digit, span, digits}
-use Rattle.header.proofs.PartLaws.{span-short}
+use Rattle.rules.proofs.TextLaws.{span-short}
 use Rattle.places.specs.Places.{between}
 use Rattle.writer.specs.Written.{Puts}
 use Rattle.writer.specs.ClaimsText.{numberStart, numberEnd, lineBehind, claimsText, ClaimsLie}

@@ -20,7 +20,7 @@ use Rattle.places.proofs.LinesHeld.{ruled as lines-ruled, start-of-line}
 use Rattle.places.proofs.HeaderHeld.{is-valid, is-written, ruled}
 use Rattle.places.proofs.RecordsHeld.{recordsStart, ended-append, records, header, split, starts, records-within}
 use Rattle.writer.specs.ClaimsText.{claimNumbers, claimsText, headText, ClaimsLie}
-use Rattle.writer.proofs.NumberedLines.{renumberedLines, Stand, lines-lie, lines-renumbered}
+use Rattle.writer.proofs.NumberedLines.{renumberedLines, LinesStand, lines-lie, lines-renumbered}
 use Rattle.writer.proofs.ClaimLines.{linesBefore, linesClaiming, linesBehind, old-lines, new-lines, before-count, claiming-count, claiming-keyworded}
 
 module _ (s : Text) (log : Log) (w : read base s ≡ accepted log) where
@@ -73,7 +73,7 @@ module _ (s : Text) (log : Log) (w : read base s ≡ accepted log) where
       ∙ ap (λ (ls : List Text). length (ended ls)) lines
       ∙ omega arith
 
-  claims-stand : Stand s (recordsStart s log) (ended trailing) (ended (records log)) 0 (ended leading) claiming
+  claims-stand : LinesStand s (recordsStart s log) (ended trailing) (ended (records log)) 0 (ended leading) claiming
   claims-stand =
       record {
         rules =

@@ -8,14 +8,14 @@ use mathlib.Core.List.{List, [], _∷_, _++_, append-assoc}
 use lib.Dec.{leb}
 use lib.ListN.{length, take, drop, length-append, length-drop, take-append-drop}
 use lib.Seq.{drop-drop, drop-at, take-at, drop-append-le, take-append-seam, length-take-le}
+use borrow.Author.Tests.{leb-true}
 use Rattle.rules.specs.Text.{Text, digit, allowed, all, span, digits}
 use Rattle.rules.specs.Rules.{base}
 use Rattle.rules.specs.Arguments.{every}
 use Rattle.rules.specs.Log.{crlf, ended, lineRule}
-use Rattle.rules.proofs.Tests.{and-r, le-of-test}
-use Rattle.rules.proofs.TextLaws.{all-drop, span-stops, span-run}
+use Rattle.rules.proofs.Tests.{and-r}
+use Rattle.rules.proofs.TextLaws.{all-drop, span-stops, span-run, span-short}
 use Rattle.rules.proofs.LogLaws.{every-first, every-others, length-ended-more}
-use Rattle.header.proofs.PartLaws.{span-short}
 use Rattle.places.specs.Places.{between}
 use Rattle.writer.specs.ClaimsText.{numberStart, numberEnd, lineBehind, claimsText, ClaimsLie}
 
@@ -39,18 +39,18 @@ renumberedLines (n ∷ ns) [] = []
 renumberedLines (n ∷ ns) (l ∷ ls) = renumberedLine n l ∷ renumberedLines ns ls
 
 -- From a place on a log holds a text, these lines, and more up to its first record.
-pub record Stand (s : Text) (first : ℕ) (more back : Text) (from : ℕ) (u : Text) (ls : List Text) : Type 0 where
+pub record LinesStand (s : Text) (first : ℕ) (more back : Text) (from : ℕ) (u : Text) (ls : List Text) : Type 0 where
   pub rules : every (lineRule base) ls ≡ true
   pub keywords : every keyworded ls ≡ true
   pub there : drop from s ≡ u ++ (ended ls ++ (more ++ back))
   pub places : from + length u + length (ended ls) + length more ≡ first
 
 module _ (s : Text) (first : ℕ) (more back : Text) where
-  abbrev Holds : ℕ → Text → List Text → Type 0
-  Holds = Stand s first more back
+  abbrev Standing : ℕ → Text → List Text → Type 0
+  Standing = LinesStand s first more back
 
   -- The first of the lines: its number, and what stands behind that.
-  module _ (from : ℕ) (u l : Text) (ls : List Text) (g : Holds from u (l ∷ ls)) where
+  module _ (from : ℕ) (u l : Text) (ls : List Text) (g : Standing from u (l ∷ ls)) where
     abbrev t : Text
     t = drop 6 l
 
@@ -68,7 +68,7 @@ module _ (s : Text) (first : ℕ) (more back : Text) where
     left = behindNumber t ++ crlf
 
     six : 6 ≤ length l
-    six = le-of-test 6 (length l) (every-first keyworded l ls (g .keywords))
+    six = leb-true 6 (length l) (every-first keyworded l ls (g .keywords))
 
     clean : all allowed l ≡ true
     unfolding lineRule
@@ -135,8 +135,8 @@ module _ (s : Text) (first : ℕ) (more back : Text) where
     start-within : start ≤ first
     start-within = omega (arith, g .places, six, length-ended-more l ls)
 
-    holds-next : Holds end left ls
-    holds-next =
+    stands-next : Standing end left ls
+    stands-next =
         record {
           rules = every-others (lineRule base) l ls (g .rules);
           keywords = every-others keyworded l ls (g .keywords);
@@ -145,17 +145,17 @@ module _ (s : Text) (first : ℕ) (more back : Text) where
         }
 
   -- The lines lie in order in front of the first record.
-  pub lines-lie : (ls : List Text) (from : ℕ) (u : Text) → Holds from u ls → first ≤ length s → ClaimsLie s first from (from + length u) (length ls)
+  pub lines-lie : (ls : List Text) (from : ℕ) (u : Text) → Standing from u ls → first ≤ length s → ClaimsLie s first from (from + length u) (length ls)
   unfolding ended
   lines-lie [] from u g h = (omega (arith, g .places), h)
   lines-lie (l ∷ ls) from u g h = (
     omega arith,
     omega (arith, start-within from u l ls g),
-    rw (line-ends from u l ls g) (lines-lie ls (end from u l ls g) (left from u l ls g) (holds-next from u l ls g) h),
+    rw (line-ends from u l ls g) (lines-lie ls (end from u l ls g) (left from u l ls g) (stands-next from u l ls g) h),
   )
 
   -- The text with as many numbers in their places holds these lines with these numbers.
-  pub lines-renumbered : (ns : List ℕ) (ls : List Text) (from : ℕ) (u : Text) → length ls ≡ length ns → Holds from u ls
+  pub lines-renumbered : (ns : List ℕ) (ls : List Text) (from : ℕ) (u : Text) → length ls ≡ length ns → Standing from u ls
       → claimsText s first from (from + length u) ns ≡ u ++ (ended (renumberedLines ns ls) ++ more)
   unfolding claimsText renumberedLines ended
   lines-renumbered [] [] from u c g =
@@ -166,5 +166,5 @@ module _ (s : Text) (first : ℕ) (more back : Text) where
   lines-renumbered [] (l ∷ ls) from u c g = absurd (omega arith)
   lines-renumbered (n ∷ ns) [] from u c g = absurd (omega arith)
   lines-renumbered (n ∷ ns) (l ∷ ls) from u c g =
-      let next = lines-renumbered ns ls (end from u l ls g) (left from u l ls g) (omega arith) (holds-next from u l ls g) in
+      let next = lines-renumbered ns ls (end from u l ls g) (left from u l ls g) (omega arith) (stands-next from u l ls g) in
       rw (before-number from u l ls g, line-ends from u l ls g, next) (simp append-assoc)

@@ -4,7 +4,8 @@ use native.Mathlib.Omega.{arith}
 use mathlib.Core.Path.{_≡_, sym, ap, _∙_}
 use mathlib.Core.Bool.{true, not}
 use borrow.Author.Tests.{not-false}
-use Rattle.figures.proofs.DateLaws.{date-unended, date-empty, date-end, date-other, date-below, date-no-day, date-good}
+use Rattle.figures.proofs.NumberLaws.{end-here}
+use Rattle.figures.proofs.DateLaws.{date-unended, date-empty, date-other, date-below, date-no-day, date-good}
 use borrow.Author.Needs.{needs}
 use Rattle.figures.proofs.date.Statement.{statement}
 use Rattle.figures.proofs.date.Tie as tie
@@ -26,7 +27,7 @@ returns-2 : tie.Need-returns-2
 returns-2 c = date-empty _ _ _ (c .before .before .before .read-digits .ensures) (ended (c .before)) (c .if2 .taken)
 
 sub-if3 : tie.Need-sub-if3
-sub-if3 c = omega (arith, date-end _ _ _ (c .before .before .before .read-digits .ensures) (ended (c .before)))
+sub-if3 c = omega (arith, end-here _ _ _ _ (c .before .before .before .read-digits .ensures) (ended (c .before)))
 
 returns-3 : tie.Need-returns-3
 returns-3 c = date-other _ _ _ (c .before .before .before .before .read-digits .ensures) (ended (c .before .before)) (c .before .if2 .left) (c .if3 .taken)

@@ -4,7 +4,8 @@ use native.Mathlib.Omega.{arith}
 use mathlib.Core.Path.{_≡_, sym, ap, _∙_}
 use mathlib.Core.Bool.{true, not}
 use borrow.Author.Tests.{not-false}
-use Rattle.figures.proofs.DateLaws.{long-date-unended, long-date-end, long-date-other, long-date-below, long-date-early, long-date-late, long-date-no-day, long-date-good}
+use Rattle.figures.proofs.NumberLaws.{end-here}
+use Rattle.figures.proofs.DateLaws.{long-date-unended, long-date-other, long-date-below, long-date-early, long-date-late, long-date-no-day, long-date-good}
 use borrow.Author.Needs.{needs}
 use Rattle.figures.proofs.long_date.Statement.{statement}
 use Rattle.figures.proofs.long_date.Tie as tie
@@ -23,7 +24,7 @@ returns : tie.Need-returns
 returns c = long-date-unended _ _ _ (c .before .before .read-digits .ensures) (ap not (sym (c .before .ends .ensures)) ∙ c .if1 .taken)
 
 sub-if2 : tie.Need-sub-if2
-sub-if2 c = omega (arith, long-date-end _ _ _ (c .before .before .read-digits .ensures) (ended c))
+sub-if2 c = omega (arith, end-here _ _ _ _ (c .before .before .read-digits .ensures) (ended c))
 
 returns-2 : tie.Need-returns-2
 returns-2 c =

@@ -5,8 +5,9 @@ use mathlib.Core.Bool.{true}
 use Prim.Native.Nat.{_-_, _^_, _≤_, _<_}
 use lib.ListN.{length, getD}
 use denote.Ref.{now}
+use Rattle.rules.proofs.NumberLaws.{below-power}
 use Rattle.figures.specs.Figure.{digitsAt, digitsFrom}
-use Rattle.figures.proofs.NumberLaws.{digits-more, digits-enough, digits-stop, digits-end, below-none, below-more, below-power, digit-least, digit-most}
+use Rattle.figures.proofs.NumberLaws.{digits-more, digits-enough, digits-stop, digits-end, below-none, below-more, digit-least, digit-most}
 use borrow.Author.Tests.{not-true, not-false}
 use Rattle.rules.specs.Text.{digit}
 use Rattle.figures.proofs.read_digits.Statement.{statement}

@@ -1,18 +1,14 @@
 use borrow.Author.Needs.{needs}
-use native.Mathlib.Omega.{arith}
-use mathlib.Core.Path.{_≡_, refl, sym, ap, _∙_}
+use mathlib.Core.Path.{_≡_, refl, sym, _∙_}
 use mathlib.Core.Bool.{true, false}
-use Prim.Native.Nat.{ℕ, _+_, _-_, _*_, _≤_, _<_}
-use lib.ListN.{length, drop, take, getD, set}
+use Prim.Native.Nat.{_-_}
+use lib.ListN.{drop}
 use denote.Ref.{now}
 use Rattle.rules.specs.Rules.{bandNames}
 use Rattle.rules.specs.Arguments.{among}
 use Rattle.header.proofs.BandLaws.{band-here, band-later, no-band, band-told}
 use Rattle.header.proofs.band.Statement.{statement}
 use Rattle.header.proofs.band.Tie as tie
-use Rattle.header.proofs.band.Reads as reads
-use Rattle.header.proofs.band.Lts as lts
-use Rattle.header.proofs.is_band.Reads as is-band-reads
 
 abbrev Inv-loop : tie.InvT-loop
 Inv-loop t k₀ k = among bandNames t ≡ among (drop k bandNames) t
@@ -20,15 +16,12 @@ Inv-loop t k₀ k = among bandNames t ≡ among (drop k bandNames) t
 abbrev μ-loop : tie.MeasureT-loop
 μ-loop t k₀ k = 15 - k
 
--- src/lib.rt:92:5
 loop-holds : tie.Need-loop-holds Inv-loop μ-loop
 loop-holds c = refl
 
--- src/lib.rt:93:12
 is-band-requires : tie.Need-is-band-requires Inv-loop μ-loop
 is-band-requires c κs = search needs
 
--- src/lib.rt:94:13
 returns : tie.Need-returns Inv-loop μ-loop
 returns c =
     band-told _ true
@@ -36,22 +29,18 @@ returns c =
     ∙ band-here (now (c .before .before .before .before .before .args .t)) (c .before .before .before .loop .k) (search needs)
     (sym (c .before .is-band .ensures) ∙ c .if1 .taken))
 
--- src/lib.rt:96:9
 add-k : tie.Need-add-k Inv-loop μ-loop
 add-k c = search needs
 
--- src/lib.rt:92:5
 loop-less : tie.Need-loop-less Inv-loop μ-loop
 loop-less c = search needs
 
--- src/lib.rt:92:5
 loop-again : tie.Need-loop-again Inv-loop μ-loop
 loop-again c =
     c .before .before .before .loop .inv
     ∙ band-later (now (c .before .before .before .before .before .args .t)) (c .before .before .before .loop .k) (search needs)
     (sym (c .before .is-band .ensures) ∙ c .if1 .left)
 
--- src/lib.rt:88:1
 returns-2 : tie.Need-returns-2 Inv-loop μ-loop
 returns-2 c =
     band-told _ false

@@ -1,16 +1,12 @@
 use borrow.Author.Needs.{needs}
-use native.Mathlib.Omega.{arith}
-use mathlib.Core.Path.{_≡_, refl, sym, ap, _∙_}
-use mathlib.Core.Bool.{true, false}
-use Prim.Native.Nat.{ℕ, _+_, _-_, _*_, _≤_, _<_}
-use lib.ListN.{length, drop, take, getD, set}
+use mathlib.Core.Path.{_≡_, refl, sym, _∙_}
+use Prim.Native.Nat.{_-_}
+use lib.ListN.{length, drop}
 use denote.Ref.{now}
 use Rattle.rules.specs.Text.{begins}
 use Rattle.header.proofs.WordLaws.{begins-more, begins-differs, begins-done, begins-short}
 use Rattle.header.proofs.begins_with.Statement.{statement}
 use Rattle.header.proofs.begins_with.Tie as tie
-use Rattle.header.proofs.begins_with.Reads as reads
-use Rattle.header.proofs.begins_with.Lts as lts
 
 abbrev Inv-loop : tie.InvT-loop
 Inv-loop word s i₀ i = begins word s ≡ begins (drop i word) (drop i s)
@@ -18,44 +14,35 @@ Inv-loop word s i₀ i = begins word s ≡ begins (drop i word) (drop i s)
 abbrev μ-loop : tie.MeasureT-loop
 μ-loop word s i₀ i = length word - i
 
--- src/lib.rt:19:9
 returns : tie.Need-returns Inv-loop μ-loop
 returns c = begins-short _ _ (c .if1 .taken)
 
--- src/lib.rt:22:5
 loop-holds : tie.Need-loop-holds Inv-loop μ-loop
 loop-holds c = refl
 
--- src/lib.rt:23:12
 shared-slice-read-if2 : tie.Need-shared-slice-read-if2 Inv-loop μ-loop
 shared-slice-read-if2 c = search needs
 
--- src/lib.rt:23:23
 shared-slice-read-if2-2 : tie.Need-shared-slice-read-if2-2 Inv-loop μ-loop
 shared-slice-read-if2-2 c = search needs
 
--- src/lib.rt:24:13
 returns-2 : tie.Need-returns-2 Inv-loop μ-loop
 returns-2 c =
     sym
     (c .before .before .before .before .loop .inv
     ∙ begins-differs (now (c .before .before .before .before .before .before .args .word)) (now (c .before .before .before .before .before .before .args .s)) (c .before .before .before .before .loop .i) (search needs) (search needs) (c .if2 .taken))
 
--- src/lib.rt:26:9
 add-i : tie.Need-add-i Inv-loop μ-loop
 add-i c = search needs
 
--- src/lib.rt:22:5
 loop-less : tie.Need-loop-less Inv-loop μ-loop
 loop-less c = search needs
 
--- src/lib.rt:22:5
 loop-again : tie.Need-loop-again Inv-loop μ-loop
 loop-again c =
     c .before .before .before .before .loop .inv
     ∙ begins-more (now (c .before .before .before .before .before .before .args .word)) (now (c .before .before .before .before .before .before .args .s)) (c .before .before .before .before .loop .i) (search needs) (search needs) (c .if2 .left)
 
--- src/lib.rt:15:1
 returns-3 : tie.Need-returns-3 Inv-loop μ-loop
 returns-3 c =
     sym

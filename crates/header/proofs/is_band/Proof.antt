@@ -1,47 +1,32 @@
-use native.Mathlib.Omega.{arith}
-use mathlib.Core.Path.{_≡_, refl, sym, ap, _∙_}
-use mathlib.Core.Bool.{true, false}
-use Prim.Native.Nat.{ℕ, _+_, _-_, _*_, _≤_, _<_}
-use lib.ListN.{length, drop, take, getD, set}
+use mathlib.Core.Path.{ap, _∙_}
 use denote.Ref.{now}
 use Rattle.rules.specs.Text.{Text, same}
 use Rattle.header.proofs.BandLaws.{band-name, front-fits, front-length}
 use borrow.Author.Needs.{needs}
 use Rattle.header.proofs.is_band.Statement.{statement}
 use Rattle.header.proofs.is_band.Tie as tie
-use Rattle.header.proofs.is_band.Reads as reads
-use Rattle.header.proofs.is_band.Lts as lts
-use Rattle.header.proofs.same_text.Reads as same-text-reads
 
--- src/lib.rt:77:16
 mul-name : tie.Need-mul-name
 mul-name c = search needs
 
--- src/lib.rt:77:16
 array-copy-out-name : tie.Need-array-copy-out-name
 array-copy-out-name c = search needs
 
--- src/lib.rt:78:13
 mul-n : tie.Need-mul-n
 mul-n c = search needs
 
--- src/lib.rt:78:13
 array-read-n : tie.Need-array-read-n
 array-read-n c = search needs
 
--- src/lib.rt:79:15
 array-share-prefix-name : tie.Need-array-share-prefix-name
 array-share-prefix-name c = front-fits (c .before .before .args .k) (search needs)
 
--- src/lib.rt:79:15
 slice-aggregate-same-text : tie.Need-slice-aggregate-same-text
 slice-aggregate-same-text c = front-length (c .before .before .before .args .k) (search needs)
 
--- src/lib.rt:79:5
 same-text-requires : tie.Need-same-text-requires
 same-text-requires c κs = search needs
 
--- src/lib.rt:73:1
 returns : tie.Need-returns
 returns c =
     c .same-text .ensures

@@ -9,21 +9,22 @@ use Rattle.rules.specs.Text.{value}
 use Rattle.rules.specs.Fields.{longDate}
 use Rattle.fields.specs.Field.{textAt}
 use Rattle.fields.proofs.Picked.{Kept}
+use Rattle.figures.proofs.Picked.{long-date-refused}
 use Rattle.header.proofs.PartLaws.{end-within}
 use Rattle.header.proofs.DueLaws.{Due, due-first, due-next, due-broken, due-last}
-use Rattle.header.proofs.DateLaws.{date-picked, date-refused, dates, no-dates, dates-compared}
+use Rattle.header.proofs.DateLaws.{date-kept, dates, no-dates, dates-compared}
 use Rattle.header.proofs.is_two_dates.Statement.{statement}
 use Rattle.header.proofs.is_two_dates.Tie as tie
 
 first-read : (c : tie.After-known-told) → Kept longDate (now (c .before .before .before .before .before .args .t)) 0 (c .before .first .given .0 .1 .0) × (c .before .first .given .0 .0 ≡ value (textAt (now (c .before .before .before .before .before .args .t)) 0))
-first-read c = date-picked (now (c .before .before .before .before .before .args .t)) 0
+first-read c = date-kept (now (c .before .before .before .before .before .args .t)) 0
     (sym (c .before .before .before .long-date .ensures) ∙ c .before .first .given .1)
 
 first-due : (c : tie.After-known-told) → Due dates (longDate ∷ []) (now (c .before .before .before .before .before .args .t)) (c .before .first .given .0 .1 .0 + 1)
 first-due c = due-next (due-first dates (now (c .before .before .before .before .before .args .t))) (first-read c .0)
 
 last-read : (c : tie.After-known-told2) → Kept longDate (now (c .before .before .before .before .before .before .before .before .before .args .t)) (c .before .before .before .before .before .first .given .0 .1 .0 + 1) (c .before .last .given .0 .1 .0) × (c .before .last .given .0 .0 ≡ value (textAt (now (c .before .before .before .before .before .before .before .before .before .args .t)) (c .before .before .before .before .before .first .given .0 .1 .0 + 1)))
-last-read c = date-picked (now (c .before .before .before .before .before .before .before .before .before .args .t)) (c .before .before .before .before .before .first .given .0 .1 .0 + 1)
+last-read c = date-kept (now (c .before .before .before .before .before .before .before .before .before .args .t)) (c .before .before .before .before .before .first .given .0 .1 .0 + 1)
     (sym (c .before .before .before .long-date2 .ensures) ∙ c .before .last .given .1)
 
 long-date-requires : tie.Need-long-date-requires
@@ -38,7 +39,7 @@ enum-told c = search needs
 returns : tie.Need-returns
 returns c =
     let t = now (c .before .before .before .before .args .t) in
-    no-dates t (due-broken (due-first dates t) (date-refused t 0 (sym (c .before .before .long-date .ensures) ∙ c .enum-told .given .1)))
+    no-dates t (due-broken (due-first dates t) (long-date-refused t 0 (sym (c .before .before .long-date .ensures) ∙ c .enum-told .given .1)))
 
 add-long-date : tie.Need-add-long-date
 add-long-date c =
@@ -58,7 +59,7 @@ returns-2 c =
     let t = now (c .before .before .before .before .before .before .before .before .args .t) in
     no-dates t
     (due-broken (first-due (c .before .before .before))
-    (date-refused t (c .before .before .before .before .first .given .0 .1 .0 + 1)
+    (long-date-refused t (c .before .before .before .before .first .given .0 .1 .0 + 1)
     (sym (c .before .before .long-date2 .ensures) ∙ c .enum-told2 .given .1)))
 
 returns-3 : tie.Need-returns-3

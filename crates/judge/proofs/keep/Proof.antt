@@ -1,6 +1,5 @@
 use Rattle.judge.proofs.PartLaws.{part-within, keeps-none, keeps-one}
 use borrow.Author.Needs.{needs}
-use denote.Ref.{now}
 use Rattle.judge.proofs.keep.Statement.{statement}
 use Rattle.judge.proofs.keep.Tie as tie
 

@@ -1,6 +1,5 @@
 use native.Mathlib.Omega.{arith}
 use mathlib.Core.Path.{_≡_, sym, _∙_}
-use Prim.Native.Nat.{_+_}
 use denote.Ref.{now}
 use Rattle.fields.specs.Field.{endOf}
 use Rattle.header.proofs.PartLaws.{end-by-span}

@@ -1,8 +1,7 @@
 use native.Mathlib.Omega.{arith}
-use mathlib.Core.Path.{_≡_, refl, sym, ap, _∙_}
-use mathlib.Core.Bool.{true, false}
-use Prim.Native.Nat.{ℕ, _+_, _-_, _*_, _≤_, _<_}
-use lib.ListN.{length, drop, take, getD, set}
+use mathlib.Core.Path.{_≡_, sym, ap, _∙_}
+use Prim.Native.Nat.{ℕ, _+_, _-_, _≤_}
+use lib.ListN.{length, drop, take}
 use denote.Ref.{now}
 use Rattle.rules.specs.Rules.{base}
 use Rattle.rules.specs.Answers.{view, viewed}
@@ -10,31 +9,22 @@ use Rattle.places.proofs.ViewLaws.{view-shows, view-hides}
 use borrow.Author.Needs.{needs}
 use Rattle.places.proofs.viewed.Statement.{statement}
 use Rattle.places.proofs.viewed.Tie as tie
-use Rattle.places.proofs.viewed.Reads as reads
-use Rattle.places.proofs.viewed.Lts as lts
-use Rattle.places.proofs.view.Reads as view-reads
 
--- src/lib.rt:279:9
 view-requires : tie.Need-view-requires
 view-requires c κs = search needs
 
--- src/lib.rt:281:33
 enum-told : tie.Need-enum-told
 enum-told c = search needs
 
--- src/lib.rt:281:33
 sub-result : tie.Need-sub-result
 sub-result c = search needs
 
--- src/lib.rt:281:33
 part-result-start : tie.Need-part-result-start
 part-result-start c = search needs
 
--- src/lib.rt:281:33
 part-result-end : tie.Need-part-result-end
 part-result-end c = search needs
 
--- src/lib.rt:282:26
 enum-known-seen : tie.Need-enum-known-seen
 enum-known-seen c = search needs
 
@@ -42,27 +32,21 @@ enum-known-seen c = search needs
 shown : (c : tie.After-known-told) → (c .before .seen .given .0 .0 + c .before .seen .given .0 .1 .0 ≤ length (now (c .before .before .before .before .before .args .log))) × (take (c .before .seen .given .0 .1 .0) (drop (c .before .seen .given .0 .0) (now (c .before .before .before .before .before .args .log))) ≡ viewed (view base (c .before .before .before .before .before .args .k) (now (c .before .before .before .before .before .args .log))))
 shown c = view-shows _ _ (sym (c .before .before .before .view .ensures) ∙ c .before .seen .given .1)
 
--- src/lib.rt:283:23
 add-end : tie.Need-add-end
 add-end c = omega (arith, (shown c) .0, c .before .before .before .before .before .good .0 .1)
 
--- src/lib.rt:284:13
 sub-result-2 : tie.Need-sub-result-2
 sub-result-2 c = search needs
 
--- src/lib.rt:284:13
 part-result-start-2 : tie.Need-part-result-start-2
 part-result-start-2 c = omega arith
 
--- src/lib.rt:284:13
 part-result-end-2 : tie.Need-part-result-end-2
 part-result-end-2 c = (shown c) .0
 
--- src/lib.rt:276:1
 returns : tie.Need-returns
 returns c = view-hides _ _ (sym (c .before .before .before .view .ensures) ∙ c .before .enum-told .given .1)
 
--- src/lib.rt:276:1
 returns-2 : tie.Need-returns-2
 returns-2 c =
     ap (λ (n : ℕ). take n (drop (c .before .before .seen .given .0 .0) (now (c .before .before .before .before .before .before .args .log)))) (let h : c .before .before .seen .given .0 .0 + c .before .before .seen .given .0 .1 .0 - c .before .before .seen .given .0 .0 ≡ c .before .before .seen .given .0 .1 .0 = omega arith in h)

@@ -1,67 +1,46 @@
 use native.Mathlib.Omega.{arith}
-use mathlib.Core.Path.{_≡_, refl, sym, ap, _∙_}
-use mathlib.Core.Bool.{true, false}
-use Prim.Native.Nat.{ℕ, _+_, _-_, _*_, _≤_, _<_}
-use lib.ListN.{length, drop, take, getD, set}
+use mathlib.Core.Path.{sym, _∙_}
 use Rattle.reader.proofs.StepLaws.{front-length, count-cut, count-longer, count-unclosed, count-no-number, count-known}
 use borrow.Author.Needs.{needs}
 use Rattle.reader.proofs.count_step.Statement.{statement}
 use Rattle.reader.proofs.count_step.Tie as tie
-use Rattle.reader.proofs.count_step.Reads as reads
-use Rattle.reader.proofs.count_step.Lts as lts
-use Rattle.fields.proofs.digit_run.Reads as digit-run-reads
-use Rattle.figures.proofs.record_count.Reads as record-count-reads
-use Rattle.reader.proofs.records_due.Reads as records-due-reads
 
--- src/lib.rt:267:9
 digit-run-requires : tie.Need-digit-run-requires
 digit-run-requires c κs = search needs
 
--- src/lib.rt:269:9
 returns : tie.Need-returns
 returns c = count-cut _ _ (c .before .digit-run .ensures) (c .if1 .taken)
 
--- src/lib.rt:271:62
 slice-aggregate-record-count : tie.Need-slice-aggregate-record-count
 slice-aggregate-record-count c = front-length _ _ (c .before .before .digit-run .ensures)
 
--- src/lib.rt:271:40
 record-count-requires : tie.Need-record-count-requires
 record-count-requires c κs = search needs
 
--- src/lib.rt:271:28
 enum-known-count : tie.Need-enum-known-count
 enum-known-count c = search needs
 
--- src/lib.rt:272:9
 enum-told : tie.Need-enum-told
 enum-told c = search needs
 
--- src/lib.rt:272:9
 returns-2 : tie.Need-returns-2
 returns-2 c = count-no-number _ _ (c .before .before .before .before .before .digit-run .ensures) (sym (c .before .before .record-count .ensures) ∙ c .enum-told .given .1)
 
--- src/lib.rt:274:19
 add-if2 : tie.Need-add-if2
 add-if2 c = search needs
 
--- src/lib.rt:275:9
 returns-3 : tie.Need-returns-3
 returns-3 c = count-longer _ _ (c .before .before .before .before .before .before .before .digit-run .ensures) (c .if2 .taken)
 
--- src/lib.rt:277:8
 shared-slice-read-if3 : tie.Need-shared-slice-read-if3
 shared-slice-read-if3 c = search needs
 
--- src/lib.rt:278:9
 returns-4 : tie.Need-returns-4
 returns-4 c = count-unclosed _ _ (c .before .before .before .before .before .before .before .before .before .digit-run .ensures) (omega (arith, c .before .before .if2 .left)) (c .if3 .taken)
 
--- src/lib.rt:280:16
 records-due-requires : tie.Need-records-due-requires
 records-due-requires c κs = search needs
 
--- src/lib.rt:264:1
 returns-5 : tie.Need-returns-5
 returns-5 c =
     count-known _ _ (c .before .before .before .before .before .before .before .before .before .before .digit-run .ensures) (sym (c .before .before .before .before .before .before .before .record-count .ensures) ∙ c .before .before .before .before .before .count .given .1)

@@ -1,65 +1,46 @@
-use native.Mathlib.Omega.{arith}
-use mathlib.Core.Path.{_≡_, refl, sym, ap, _∙_}
-use mathlib.Core.Bool.{true, false}
-use Prim.Native.Nat.{ℕ, _+_, _-_, _*_, _≤_, _<_}
-use lib.ListN.{length, drop, take, getD, set}
 use Rattle.reader.specs.Read.{counted}
 use borrow.Author.Needs.{needs}
 use Rattle.reader.proofs.counted.Statement.{statement}
 use Rattle.reader.proofs.counted.Tie as tie
-use Rattle.reader.proofs.counted.Reads as reads
-use Rattle.reader.proofs.counted.Lts as lts
 
--- src/lib.rt:392:21
 enum-known-next : tie.Need-enum-known-next
 enum-known-next c = search needs
 
--- src/lib.rt:393:21
 enum-told : tie.Need-enum-told
 enum-told c = search needs
 
--- src/lib.rt:394:28
 enum-told-2 : tie.Need-enum-told-2
 enum-told-2 c = search needs
 
--- src/lib.rt:395:28
 enum-told-3 : tie.Need-enum-told-3
 enum-told-3 c = search needs
 
--- src/lib.rt:396:25
 enum-told-4 : tie.Need-enum-told-4
 enum-told-4 c = search needs
 
--- src/lib.rt:397:24
 enum-told-5 : tie.Need-enum-told-5
 enum-told-5 c = search needs
 
--- src/lib.rt:388:1
 returns : tie.Need-returns
 unfolding counted
 returns c = rw (c .before .next .given .1)
 
--- src/lib.rt:388:1
 returns-2 : tie.Need-returns-2
 unfolding counted
 returns-2 c = rw (c .enum-told .given .1)
 
--- src/lib.rt:388:1
 returns-3 : tie.Need-returns-3
 unfolding counted
 returns-3 c = rw (c .enum-told2 .given .1)
 
--- src/lib.rt:388:1
 returns-4 : tie.Need-returns-4
 unfolding counted
 returns-4 c = rw (c .enum-told3 .given .1)
 
--- src/lib.rt:388:1
 returns-5 : tie.Need-returns-5
 unfolding counted
 returns-5 c = rw (c .enum-told4 .given .1)
 
--- src/lib.rt:388:1
 returns-6 : tie.Need-returns-6
 unfolding counted
 returns-6 c = rw (c .enum-told5 .given .1)

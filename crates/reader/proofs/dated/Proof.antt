@@ -1,50 +1,33 @@
-use native.Mathlib.Omega.{arith}
-use mathlib.Core.Path.{_≡_, refl, sym, ap, _∙_}
-use mathlib.Core.Bool.{true, false}
-use Prim.Native.Nat.{ℕ, _+_, _-_, _*_, _≤_, _<_}
-use lib.ListN.{length, drop, take, getD, set}
+use mathlib.Core.Path.{sym, _∙_}
 use Rattle.reader.proofs.FirstLaws.{date-known, date-bad, date-missing, date-missed}
 use borrow.Author.Needs.{needs}
 use Rattle.reader.proofs.dated.Statement.{statement}
 use Rattle.reader.proofs.dated.Tie as tie
-use Rattle.reader.proofs.dated.Reads as reads
-use Rattle.reader.proofs.dated.Lts as lts
-use Rattle.figures.proofs.date.Reads as date-reads
-use Rattle.reader.proofs.third_is_error.Reads as third-is-error-reads
 
--- src/lib.rt:137:9
 date-requires : tie.Need-date-requires
 date-requires c κs = search needs
 
--- src/lib.rt:139:24
 enum-known-read : tie.Need-enum-known-read
 enum-known-read c = search needs
 
--- src/lib.rt:140:26
 enum-told : tie.Need-enum-told
 enum-told c = search needs
 
--- src/lib.rt:142:16
 enum-told-2 : tie.Need-enum-told-2
 enum-told-2 c = search needs
 
--- src/lib.rt:142:16
 third-is-error-requires : tie.Need-third-is-error-requires
 third-is-error-requires c κs = search needs
 
--- src/lib.rt:143:17
 returns : tie.Need-returns
 returns c = date-missing _ (sym (c .before .before .before .before .date .ensures) ∙ c .before .before .enum-told2 .given .1) (sym (c .before .third-is-error .ensures) ∙ c .if1 .taken)
 
--- src/lib.rt:134:1
 returns-2 : tie.Need-returns-2
 returns-2 c = date-known _ (sym (c .before .before .before .date .ensures) ∙ c .before .read .given .1)
 
--- src/lib.rt:134:1
 returns-3 : tie.Need-returns-3
 returns-3 c = date-bad _ (sym (c .before .before .date .ensures) ∙ c .enum-told .given .1)
 
--- src/lib.rt:134:1
 returns-4 : tie.Need-returns-4
 returns-4 c = date-missed _ (sym (c .before .before .before .before .date .ensures) ∙ c .before .before .enum-told2 .given .1) (sym (c .before .third-is-error .ensures) ∙ c .if1 .left)
 

@@ -1,19 +1,13 @@
 use borrow.Author.Needs.{needs}
-use native.Mathlib.Omega.{arith}
-use mathlib.Core.Path.{_≡_, refl, sym, ap, _∙_}
-use mathlib.Core.Bool.{true, false}
-use Prim.Native.Nat.{ℕ, _+_, _-_, _*_, _≤_, _<_}
-use lib.ListN.{length, drop, take, getD, set}
-use denote.Ref.{now}
+use mathlib.Core.Path.{refl, ap}
+use Prim.Native.Nat.{_-_}
+use lib.ListN.{length}
 use borrow.Author.Tests.{eq-eqb, ne-eqb}
 use mathlib.Core.Bool.{Bool, not}
-use Rattle.rules.specs.Text.{span}
 use Rattle.fields.specs.Field.{inField}
 use Rattle.fields.proofs.FieldLaws.{Within, run-starts, run-more, run-stops, run-ends}
 use Rattle.reader.proofs.field_end.Statement.{statement}
 use Rattle.reader.proofs.field_end.Tie as tie
-use Rattle.reader.proofs.field_end.Reads as reads
-use Rattle.reader.proofs.field_end.Lts as lts
 
 abbrev Inv-loop : tie.InvT-loop
 Inv-loop s at i₀ i = Within inField s at i
@@ -21,33 +15,26 @@ Inv-loop s at i₀ i = Within inField s at i
 abbrev μ-loop : tie.MeasureT-loop
 μ-loop s at i₀ i = length s - i
 
--- src/lib.rt:69:5
 loop-holds : tie.Need-loop-holds Inv-loop μ-loop
 loop-holds c = run-starts inField _ _
 
--- src/lib.rt:70:12
 shared-slice-read-if1 : tie.Need-shared-slice-read-if1 Inv-loop μ-loop
 shared-slice-read-if1 c = search needs
 
--- src/lib.rt:71:13
 returns : tie.Need-returns Inv-loop μ-loop
 returns c =
     run-stops (c .before .before .before .loop .inv) (c .before .before .loop-test .taken) refl (ap (λ (b : Bool). not (not b)) (eq-eqb _ _ (c .if1 .taken)))
 
--- src/lib.rt:73:9
 add-i : tie.Need-add-i Inv-loop μ-loop
 add-i c = search needs
 
--- src/lib.rt:69:5
 loop-less : tie.Need-loop-less Inv-loop μ-loop
 loop-less c = search needs
 
--- src/lib.rt:69:5
 loop-again : tie.Need-loop-again Inv-loop μ-loop
 loop-again c =
     run-more (c .before .before .before .loop .inv) (c .before .before .loop-test .taken) refl (ap (λ (b : Bool). not (not b)) (ne-eqb _ _ (c .if1 .left)))
 
--- src/lib.rt:65:1
 returns-2 : tie.Need-returns-2 Inv-loop μ-loop
 returns-2 c =
     run-ends (c .before .loop .inv) (c .loop-test .left)

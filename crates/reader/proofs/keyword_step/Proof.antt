@@ -1,70 +1,50 @@
-use native.Mathlib.Omega.{arith}
-use mathlib.Core.Path.{_≡_, refl, sym, ap, _∙_}
-use mathlib.Core.Bool.{true, false}
-use Prim.Native.Nat.{ℕ, _+_, _-_, _*_, _≤_, _<_}
-use lib.ListN.{length, drop, take, getD, set}
+use mathlib.Core.Path.{sym, _∙_}
 use Rattle.reader.proofs.DueLaws.{keyword-differs, keyword-long, argument-broken, keyword-follows, remarks-follow}
 use borrow.Author.Needs.{needs}
 use Rattle.reader.proofs.keyword_step.Statement.{statement}
 use Rattle.reader.proofs.keyword_step.Tie as tie
-use Rattle.reader.proofs.keyword_step.Reads as reads
-use Rattle.reader.proofs.keyword_step.Lts as lts
-use Rattle.header.proofs.argument.Reads as argument-reads
-use Rattle.header.proofs.keyword.Reads as keyword-reads
 
--- src/lib.rt:302:31
 keyword-requires : tie.Need-keyword-requires
 keyword-requires c κs = search needs
 
 enum-told : tie.Need-enum-told
 enum-told c = search needs
 
--- src/lib.rt:303:9
 enum-told-2 : tie.Need-enum-told-2
 enum-told-2 c = search needs
 
--- src/lib.rt:303:9
 returns : tie.Need-returns
 returns c = keyword-differs _ _ (sym (c .before .before .keyword .ensures) ∙ c .enum-told2 .given .1)
 
--- src/lib.rt:305:50
 sub-argument : tie.Need-sub-argument
 sub-argument c = keyword-long _ _ (sym (c .before .before .keyword .ensures) ∙ c .enum-told .given .1)
 
--- src/lib.rt:305:50
 part-argument-start : tie.Need-part-argument-start
 part-argument-start c = keyword-long _ _ (sym (c .before .before .keyword .ensures) ∙ c .enum-told .given .1)
 
--- src/lib.rt:305:50
 part-argument-end : tie.Need-part-argument-end
 part-argument-end c = search needs
 
--- src/lib.rt:305:30
 argument-requires : tie.Need-argument-requires
 argument-requires c κs = search needs
 
 enum-told-3 : tie.Need-enum-told-3
 enum-told-3 c = search needs
 
--- src/lib.rt:306:9
 enum-told-4 : tie.Need-enum-told-4
 enum-told-4 c = search needs
 
--- src/lib.rt:306:9
 returns-2 : tie.Need-returns-2
 returns-2 c =
     argument-broken _ _ (sym (c .before .before .before .before .before .before .keyword .ensures) ∙ c .before .before .before .before .enum-told .given .1) (sym (c .before .before .argument .ensures) ∙ c .enum-told4 .given .1)
 
--- src/lib.rt:309:40
 add-t10 : tie.Need-add-t10
 add-t10 c = search needs
 
--- src/lib.rt:309:9
 returns-3 : tie.Need-returns-3
 returns-3 c =
     keyword-follows _ _ (sym (c .before .before .before .before .before .before .before .keyword .ensures) ∙ c .before .before .before .before .before .enum-told .given .1) (sym (c .before .before .before .argument .ensures) ∙ c .before .enum-told3 .given .1) (c .if1 .taken)
 
--- src/lib.rt:299:1
 returns-4 : tie.Need-returns-4
 returns-4 c =
     remarks-follow _ _ (sym (c .before .before .before .before .before .before .before .keyword .ensures) ∙ c .before .before .before .before .before .enum-told .given .1) (sym (c .before .before .before .argument .ensures) ∙ c .before .enum-told3 .given .1) (c .if1 .left)

@@ -1,15 +1,15 @@
 use borrow.Author.Needs.{needs}
 use native.Mathlib.Omega.{arith}
-use mathlib.Core.Path.{_≡_, refl, sym, ap, _∙_}
+use mathlib.Core.Path.{_≡_, sym, ap, _∙_}
 use mathlib.Core.Bool.{Bool, false}
 use mathlib.Core.List.{[], _∷_}
 use Prim.Native.Nat.{_+_}
 use lib.ListN.{getD}
 use denote.Ref.{now}
-use Rattle.rules.specs.Text.{Text, parts, same}
+use Rattle.rules.specs.Text.{parts, same}
 use Rattle.rules.specs.Rules.{base}
 use Rattle.rules.specs.Fields.{timeOfDay, call, mode, report, serial, exchange, locator, emptyOr}
-use Rattle.fields.proofs.Picked.{Kept, call-picked, call-refused, mode-picked, mode-refused, report-picked, report-refused, serial-picked, serial-refused, exchange-picked, exchange-refused, locator-or-empty-picked, locator-or-empty-refused, mark-picked, mark-refused}
+use Rattle.fields.proofs.Picked.{call-picked, call-refused, mode-picked, mode-refused, report-picked, report-refused, serial-picked, serial-refused, exchange-picked, exchange-refused, locator-or-empty-picked, locator-or-empty-refused, mark-picked, mark-refused}
 use Rattle.figures.proofs.Picked.{time-picked, time-refused}
 use Rattle.reader.specs.Record.{scoreRule}
 use Rattle.reader.proofs.FirstLaws.{dated-picked, dated-refused, third-known, scored-picked, scored-refused}

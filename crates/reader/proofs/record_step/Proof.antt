@@ -1,46 +1,31 @@
 use native.Mathlib.Omega.{arith}
-use mathlib.Core.Path.{_≡_, refl, sym, ap, _∙_}
-use mathlib.Core.Bool.{true, false}
-use Prim.Native.Nat.{ℕ, _+_, _-_, _*_, _≤_, _<_}
-use lib.ListN.{length, drop, take, getD, set}
+use mathlib.Core.Path.{sym, _∙_}
 use Rattle.reader.proofs.DueLaws.{record-last, record-next, record-bad}
 use borrow.Author.Needs.{needs}
 use Rattle.reader.proofs.record_step.Statement.{statement}
 use Rattle.reader.proofs.record_step.Tie as tie
-use Rattle.reader.proofs.record_step.Reads as reads
-use Rattle.reader.proofs.record_step.Lts as lts
-use Rattle.reader.proofs.record.Reads as record-reads
-use Rattle.reader.proofs.records_due.Reads as records-due-reads
 
--- src/lib.rt:338:9
 record-requires : tie.Need-record-requires
 record-requires c κs = search needs
 
--- src/lib.rt:340:28
 enum-known-read : tie.Need-enum-known-read
 enum-known-read c = search needs
 
--- src/lib.rt:342:16
 enum-told : tie.Need-enum-told
 enum-told c = search needs
 
--- src/lib.rt:343:17
 returns : tie.Need-returns
 returns c = record-last _ _ (sym (c .before .before .before .record .ensures) ∙ c .before .enum-told .given .1) (c .if1 .taken)
 
--- src/lib.rt:345:36
 sub-records-due : tie.Need-sub-records-due
 sub-records-due c = omega (arith, c .if1 .left)
 
--- src/lib.rt:345:24
 records-due-requires : tie.Need-records-due-requires
 records-due-requires c κs = search needs
 
--- src/lib.rt:335:1
 returns-2 : tie.Need-returns-2
 returns-2 c = record-bad _ _ (sym (c .before .before .before .record .ensures) ∙ c .before .read .given .1)
 
--- src/lib.rt:335:1
 returns-3 : tie.Need-returns-3
 returns-3 c = record-next _ _ (sym (c .before .before .before .before .record .ensures) ∙ c .before .before .enum-told .given .1) (c .records-due .ensures)
 

@@ -1,51 +1,35 @@
-use native.Mathlib.Omega.{arith}
-use mathlib.Core.Path.{_≡_, refl, sym, ap, _∙_}
-use mathlib.Core.Bool.{true, false}
-use Prim.Native.Nat.{ℕ, _+_, _-_, _*_, _≤_, _<_}
-use lib.ListN.{length, drop, take, getD, set}
+use mathlib.Core.Path.{sym, _∙_}
 use Rattle.rules.specs.Log.{countStart}
 use Rattle.reader.proofs.DueLaws.{count-long, count-line, a-remark}
 use borrow.Author.Needs.{needs}
 use Rattle.reader.proofs.remark_step.Statement.{statement}
 use Rattle.reader.proofs.remark_step.Tie as tie
-use Rattle.reader.proofs.remark_step.Reads as reads
-use Rattle.reader.proofs.remark_step.Lts as lts
-use Rattle.header.proofs.begins_with.Reads as begins-with-reads
-use Rattle.reader.proofs.count_step.Reads as count-step-reads
 
--- src/lib.rt:328:28
 slice-aggregate-begins-with : tie.Need-slice-aggregate-begins-with
 slice-aggregate-begins-with c = search needs
 
--- src/lib.rt:328:8
 begins-with-requires : tie.Need-begins-with-requires
 begins-with-requires c κs = search needs
 
--- src/lib.rt:329:27
 sub-count-step : tie.Need-sub-count-step
 unfolding countStart
 sub-count-step c = count-long _ (sym (c .before .begins-with .ensures) ∙ c .if1 .taken)
 
--- src/lib.rt:329:27
 part-count-step-start : tie.Need-part-count-step-start
 unfolding countStart
 part-count-step-start c = count-long _ (sym (c .before .begins-with .ensures) ∙ c .if1 .taken)
 
--- src/lib.rt:329:27
 part-count-step-end : tie.Need-part-count-step-end
 part-count-step-end c = search needs
 
--- src/lib.rt:329:9
 count-step-requires : tie.Need-count-step-requires
 count-step-requires c κs = search needs
 
--- src/lib.rt:329:9
 returns : tie.Need-returns
 unfolding countStart
 returns c =
     count-line _ (sym (c .before .before .before .begins-with .ensures) ∙ c .before .before .if1 .taken) (c .count-step .ensures)
 
--- src/lib.rt:325:1
 returns-2 : tie.Need-returns-2
 unfolding countStart
 returns-2 c = a-remark _ (sym (c .before .begins-with .ensures) ∙ c .if1 .left)

@@ -1,17 +1,14 @@
 use borrow.Author.Needs.{needs}
 use native.Mathlib.Omega.{arith}
-use mathlib.Core.Path.{_≡_, refl, sym, ap, _∙_}
-use mathlib.Core.Bool.{true, false}
-use Prim.Native.Nat.{ℕ, _+_, _-_, _*_, _≤_, _<_}
-use lib.ListN.{length, drop, take, getD, set}
+use mathlib.Core.Path.{_≡_}
+use Prim.Native.Nat.{_+_, _-_, _≤_}
+use lib.ListN.{length, drop}
 use denote.Ref.{now}
 use mathlib.Core.Logic.{⊎-elim}
 use Rattle.rules.specs.Text.{parts}
 use Rattle.header.proofs.PartLaws.{count-semicolon, count-other, count-end}
 use Rattle.reader.proofs.semicolons.Statement.{statement}
 use Rattle.reader.proofs.semicolons.Tie as tie
-use Rattle.reader.proofs.semicolons.Reads as reads
-use Rattle.reader.proofs.semicolons.Lts as lts
 
 abbrev Inv-loop : tie.InvT-loop
 Inv-loop line n₀ i₀ n i = (n ≤ i) × (i ≤ length line) × (length (parts line) ≡ n + length (parts (drop i line)))
@@ -19,27 +16,21 @@ Inv-loop line n₀ i₀ n i = (n ≤ i) × (i ≤ length line) × (length (parts
 abbrev μ-loop : tie.MeasureT-loop
 μ-loop line n₀ i₀ n i = length line - i
 
--- src/lib.rt:84:5
 loop-holds : tie.Need-loop-holds Inv-loop μ-loop
 loop-holds c = (search needs, search needs, omega arith)
 
--- src/lib.rt:85:12
 shared-slice-read-if1 : tie.Need-shared-slice-read-if1 Inv-loop μ-loop
 shared-slice-read-if1 c = search needs
 
--- src/lib.rt:86:13
 add-n : tie.Need-add-n Inv-loop μ-loop
 add-n c = search needs
 
--- src/lib.rt:88:9
 add-i : tie.Need-add-i Inv-loop μ-loop
 add-i c = search needs
 
--- src/lib.rt:84:5
 loop-less : tie.Need-loop-less Inv-loop μ-loop
 loop-less c = search needs
 
--- src/lib.rt:84:5
 loop-again : tie.Need-loop-again Inv-loop μ-loop
 loop-again c =
     let line = now (c .before .before .before .before .args .line) in
@@ -49,7 +40,6 @@ loop-again c =
     (λ w. omega (arith, count-other line i (search needs) (w .0 .left), w .1))
     (c .if1 .came)
 
--- src/lib.rt:79:1
 returns : tie.Need-returns Inv-loop μ-loop
 returns c =
     omega (arith, count-end (now (c .before .before .args .line)) (c .before .loop .i) (search needs))

@@ -1,95 +1,65 @@
-use native.Mathlib.Omega.{arith}
-use mathlib.Core.Path.{_≡_, refl, sym, ap, _∙_}
-use mathlib.Core.Bool.{true, false}
-use Prim.Native.Nat.{ℕ, _+_, _-_, _*_, _≤_, _<_}
-use lib.ListN.{length, drop, take, getD, set}
 use Rattle.rules.specs.Log.{identifier, remarksLine}
 use Rattle.reader.proofs.DueLaws.{at-identifier, at-keyword, at-remarks, at-due, at-end}
 use borrow.Author.Needs.{needs}
 use Rattle.reader.proofs.step.Statement.{statement}
 use Rattle.reader.proofs.step.Tie as tie
-use Rattle.reader.proofs.step.Reads as reads
-use Rattle.reader.proofs.step.Lts as lts
-use Rattle.reader.proofs.keyword_step.Reads as keyword-step-reads
-use Rattle.reader.proofs.record_step.Reads as record-step-reads
-use Rattle.reader.proofs.remark_step.Reads as remark-step-reads
-use Rattle.reader.proofs.whole_step.Reads as whole-step-reads
 
--- src/lib.rt:355:39
 enum-told : tie.Need-enum-told
 enum-told c = search needs
 
--- src/lib.rt:355:39
 slice-aggregate-whole-step : tie.Need-slice-aggregate-whole-step
 slice-aggregate-whole-step c = search needs
 
--- src/lib.rt:355:28
 whole-step-requires : tie.Need-whole-step-requires
 whole-step-requires c κs = search needs
 
--- src/lib.rt:356:22
 enum-known-due : tie.Need-enum-known-due
 enum-known-due c = search needs
 
--- src/lib.rt:356:28
 keyword-step-requires : tie.Need-keyword-step-requires
 keyword-step-requires c κs = search needs
 
--- src/lib.rt:357:36
 enum-told-2 : tie.Need-enum-told-2
 enum-told-2 c = search needs
 
--- src/lib.rt:357:36
 slice-aggregate-whole-step-2 : tie.Need-slice-aggregate-whole-step-2
 slice-aggregate-whole-step-2 c = search needs
 
--- src/lib.rt:357:25
 whole-step-requires-2 : tie.Need-whole-step-requires-2
 whole-step-requires-2 c κs = search needs
 
--- src/lib.rt:358:24
 enum-told-3 : tie.Need-enum-told-3
 enum-told-3 c = search needs
 
--- src/lib.rt:358:24
 remark-step-requires : tie.Need-remark-step-requires
 remark-step-requires c κs = search needs
 
--- src/lib.rt:359:21
 enum-known-due-2 : tie.Need-enum-known-due-2
 enum-known-due-2 c = search needs
 
--- src/lib.rt:359:27
 record-step-requires : tie.Need-record-step-requires
 record-step-requires c κs = search needs
 
--- src/lib.rt:360:21
 enum-told-4 : tie.Need-enum-told-4
 enum-told-4 c = search needs
 
--- src/lib.rt:351:1
 returns : tie.Need-returns
 unfolding identifier
 returns c = at-identifier _ _ (c .before .before .enum-told .given .1) (c .whole-step .ensures)
 
--- src/lib.rt:351:1
 returns-2 : tie.Need-returns-2
 returns-2 c = at-keyword _ _ (c .before .before .due .given .1) (c .keyword-step .ensures)
 
--- src/lib.rt:351:1
 returns-3 : tie.Need-returns-3
 unfolding remarksLine
 returns-3 c = at-remarks _ _ (c .before .before .enum-told2 .given .1) (c .whole-step2 .ensures)
 
--- src/lib.rt:351:1
 returns-4 : tie.Need-returns-4
 returns-4 c = at-due _ _ (c .before .enum-told3 .given .1) (c .remark-step .ensures)
 
--- src/lib.rt:351:1
 returns-5 : tie.Need-returns-5
 returns-5 c = at-due _ _ (c .before .before .due2 .given .1) (c .record-step .ensures)
 
--- src/lib.rt:351:1
 returns-6 : tie.Need-returns-6
 returns-6 c = at-end _ _ (c .enum-told4 .given .1)
 

@@ -1,31 +1,21 @@
 use native.Mathlib.Omega.{arith}
-use mathlib.Core.Path.{_≡_, refl, sym, ap, _∙_}
-use mathlib.Core.Bool.{true, false}
-use Prim.Native.Nat.{ℕ, _+_, _-_, _*_, _≤_, _<_}
-use lib.ListN.{length, drop, take, getD, set}
+use mathlib.Core.Path.{sym, _∙_}
+use Prim.Native.Nat.{_+_}
 use denote.Ref.{now}
 use Rattle.reader.proofs.FirstLaws.{end-near, third-reached, third-known, third-unknown}
 use borrow.Author.Needs.{needs}
 use Rattle.reader.proofs.third_is_error.Statement.{statement}
 use Rattle.reader.proofs.third_is_error.Tie as tie
-use Rattle.reader.proofs.third_is_error.Reads as reads
-use Rattle.reader.proofs.third_is_error.Lts as lts
-use Rattle.fields.proofs.call.Reads as call-reads
-use Rattle.reader.proofs.field_end.Reads as field-end-reads
 
--- src/lib.rt:120:9
 field-end-requires : tie.Need-field-end-requires
 field-end-requires c κs = search needs
 
--- src/lib.rt:121:34
 add-field-end : tie.Need-add-field-end
 add-field-end c = omega (arith, end-near (now (c .before .before .args .line)) 0 (c .field-end .result) (c .field-end .ensures))
 
--- src/lib.rt:121:9
 field-end-requires-2 : tie.Need-field-end-requires-2
 field-end-requires-2 c κs = search needs
 
--- src/lib.rt:122:63
 add-call : tie.Need-add-call
 add-call c =
     omega (
@@ -34,26 +24,21 @@ add-call c =
       end-near (now (c .before .before .before .args .line)) (c .before .field-end .result + 1) (c .field-end2 .result) (c .field-end2 .ensures),
     )
 
--- src/lib.rt:122:44
 call-requires : tie.Need-call-requires
 call-requires c κs = search needs
 
--- src/lib.rt:122:34
 enum-known-error : tie.Need-enum-known-error
 enum-known-error c = search needs
 
--- src/lib.rt:123:9
 enum-told : tie.Need-enum-told
 enum-told c = search needs
 
--- src/lib.rt:123:9
 returns : tie.Need-returns
 returns c =
     third-unknown _ _
     (third-reached _ _ _ (c .before .before .before .before .field-end .ensures) (c .before .before .before .field-end2 .ensures))
     (sym (c .before .before .call .ensures) ∙ c .enum-told .given .1)
 
--- src/lib.rt:117:1
 returns-2 : tie.Need-returns-2
 returns-2 c =
     third-known _ _

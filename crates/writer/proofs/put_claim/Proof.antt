@@ -2,8 +2,7 @@
 -- Assumes nothing.
 use native.Mathlib.Omega.{arith}
 use mathlib.Core.Path.{_≡_}
-use Prim.Native.Nat.{_+_, _-_}
-use mathlib.Core.List.{_++_}
+use Prim.Native.Nat.{_-_}
 use lib.ListN.{length, length-append}
 use denote.Ref.{now}
 use Rattle.rules.specs.Text.{digits}

@@ -1,12 +1,11 @@
 -- `writer::put_claims` meets its contract. The loop's invariant: what is left of the text. The measure is how many claims are left.
 -- Assumes nothing.
 use native.Mathlib.Omega.{arith}
-use mathlib.Core.Path.{_≡_, refl, sym, ap, _∙_}
-use Prim.Native.Nat.{ℕ, _+_, _-_, _≤_}
+use mathlib.Core.Path.{_≡_, refl}
+use Prim.Native.Nat.{_-_, _≤_}
 use lib.ListN.{length}
 use denote.Ref.{now}
 use borrow.Author.Needs.{needs}
-use Rattle.places.specs.Places.{between}
 use Rattle.writer.specs.ClaimsText.{numberStart, numberEnd}
 use Rattle.writer.proofs.WrittenLaws.{part-length}
 use Rattle.writer.proofs.ClaimLoops.{Claiming, claiming-begins, claim-room, claiming-on, order, inside, number-is, number-within, last-room, claims-put, order-last, inside-last}

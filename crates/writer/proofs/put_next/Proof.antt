@@ -1,15 +1,12 @@
 -- `writer::put_next` meets its contract: the record is written by what is told from its points on, and by its verdict.
 -- Assumes nothing.
 use native.Mathlib.Omega.{arith}
-use mathlib.Core.Path.{_≡_, refl, sym, ap, subst, _∙_}
-use mathlib.Core.List.{List}
-use Prim.Native.Nat.{ℕ, _+_, _-_, _≤_}
+use mathlib.Core.Path.{ap, subst}
 use lib.ListN.{length}
 use denote.Ref.{now}
 use borrow.Author.Needs.{needs}
 use Rattle.rules.specs.Text.{Text}
 use Rattle.writer.specs.Written.{Puts}
-use Rattle.writer.specs.RecordText.{recordText, numberedText}
 use Rattle.writer.proofs.RecordLoops.{tail-is, text-is, points-rise, points-inside}
 use Rattle.writer.proofs.put_next.Statement.{statement}
 use Rattle.writer.proofs.put_next.Tie as tie

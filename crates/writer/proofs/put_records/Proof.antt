@@ -1,10 +1,9 @@
 -- `writer::put_records` meets its contract. The loop's invariant: what is left of the text. The measure is how many records are left.
 -- Assumes nothing.
 use native.Mathlib.Omega.{arith}
-use mathlib.Core.Path.{_≡_, refl, sym, ap, _∙_}
-use Prim.Native.Nat.{ℕ, _+_, _-_, _≤_}
+use mathlib.Core.Path.{_≡_, refl}
+use Prim.Native.Nat.{_-_}
 use lib.ListN.{length}
-use denote.Ref.{now}
 use borrow.Author.Needs.{needs}
 use Rattle.writer.proofs.RecordLoops.{Recording, recording-begins, record-lies, record-room, recording-on, records-put}
 use Rattle.writer.proofs.put_records.Statement.{statement}

@@ -7,7 +7,7 @@ use Rattle.writer.proofs.RecordWritten.{points-short, marks-length, rec
 use native.Mathlib.Omega.{arith}
 use mathlib.Core.Path.{_≡_}
 use Prim.Native.Nat.{_+_, _-_, _≤_}
-use lib.ListN.{length, take}
+use lib.ListN.{length}
 use denote.Ref.{now}
 use borrow.Author.Needs.{needs}
 use Rattle.writer.proofs.record_length.Statement.{statement}

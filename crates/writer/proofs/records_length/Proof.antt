@@ -2,10 +2,8 @@
 -- records are left.
 -- Assumes nothing.
 use native.Mathlib.Omega.{arith}
-use mathlib.Core.Path.{_≡_, refl, sym, ap, _∙_}
-use Prim.Native.Nat.{ℕ, _+_, _-_, _≤_}
+use Prim.Native.Nat.{_-_, _≤_}
 use lib.ListN.{length}
-use denote.Ref.{now}
 use borrow.Author.Needs.{needs}
 use Rattle.writer.proofs.RecordLoops.{Counting, counting-begins, counted-lies, counting-on, counting-small, records-counted}
 use Rattle.writer.proofs.records_length.Statement.{statement}
