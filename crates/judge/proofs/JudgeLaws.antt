@@ -30,16 +30,16 @@ use Rattle.judge.specs.declared.Weighed.{Weighed}
 use Rattle.judge.specs.declared.Weighed.the-variants as Weighed
 use Rattle.judge.specs.declared.Judged.the-variants as Judged
 use Rattle.reader.specs.declared.ReadAnswer.the-variants as ReadAnswer
-use Rattle.reader.specs.Read.{readTold, readOf}
+use Rattle.reader.specs.Read.{claimsStart, readTold, readOf}
 use Rattle.judge.specs.Count.{closing, asDeclared, Small, Closable}
 use Rattle.judge.specs.Weigh.{recordsIn, recordsOf, numbersOf, Weighable, Weighs}
-use Rattle.judge.specs.Judge.{firstOf, weighedBy, weighedOf, judgedBy, judgedOf, verdictsAfterwards, pointsTold, pointsAfterwards, Accepts}
+use Rattle.judge.specs.Judge.{firstOf, claimsOf, weighedBy, weighedOf, judgedBy, judgedOf, verdictsAfterwards, pointsTold, pointsAfterwards, Accepts}
 use Rattle.judge.proofs.CountLaws.{closed-totals}
 
 -- What is declared keeps its rules, whatever the log.
-declared-small : (s : Text) → Small (declaredAt s)
-declared-small s =
-    let d = declared-below s in
+declared-small : (s : Text) (claims : ℕ) → Small (declaredAt s claims)
+declared-small s claims =
+    let d = declared-below s claims in
     record {
       squarebonus = d .squarebonus;
       squaremultiplier = d .squaremultiplier;
@@ -49,10 +49,10 @@ declared-small s =
       countrymultiplier = d .countrymultiplier;
     }
 
-pub closable : {s : Text} {first n : ℕ} {slice points slice' points' : List ℕ} {t : Totals} {d : Declared} → Weighs s first n slice points t slice' points' → d ≡ declaredAt s → Closable t d
-closable {s = s} w e = record { few = w .few; small = rw e (declared-small s) }
+pub closable : {s : Text} {first n : ℕ} (claims : ℕ) {slice points slice' points' : List ℕ} {t : Totals} {d : Declared} → Weighs s first n slice points t slice' points' → d ≡ declaredAt s claims → Closable t d
+closable {s = s} claims w e = record { few = w .few; small = rw e (declared-small s claims) }
 
-module _ {s : Text} {records first : ℕ} (a : Accepts s records first) where
+module _ {s : Text} {records first claims : ℕ} (a : Accepts s records first claims) where
   abbrev log : Log
   log = a .log
 
@@ -97,7 +97,11 @@ module _ {s : Text} {records first : ℕ} (a : Accepts s records first) where
     enough : ltb (length slice) (length (log .records)) ≡ false
     enough = le-ltb (length slice) (length (log .records)) (omega (arith, a .count))
 
-    declared-are : asDeclared (declaredAt s) ≡ declared log
+    claims-are : declaredAt s claims ≡ declaredAt s (claimsStart log)
+    unfolding claimsOf
+    claims-are = ap (declaredAt s) (a .claiming)
+
+    declared-are : asDeclared (declaredAt s (claimsStart log)) ≡ declared log
     unfolding asDeclared
     declared-are =
         let d = declared-held s log (a .isRead) in
@@ -111,18 +115,18 @@ module _ {s : Text} {records first : ℕ} (a : Accepts s records first) where
           countryMultiplier = d .countrymultiplier i;
         }
 
-    totals-are : {t u : Totals} {d : Declared} {points slice' points' : List ℕ} → Weighs s first records slice points t slice' points' → d ≡ declaredAt s → u ≡ closing t d → u ≡ totalsOfLog base log
+    totals-are : {t u : Totals} {d : Declared} {points slice' points' : List ℕ} → Weighs s first records slice points t slice' points' → d ≡ declaredAt s claims → u ≡ closing t d → u ≡ totalsOfLog base log
     unfolding totalsOfLog totals
     totals-are w e f =
         f
-        ∙ (λ i. closing (w .totals i) (e i))
-        ∙ closed-totals (declaredAt s) (recordsOf s) (verdicts base (recordsOf s)) (length-verdicts base (recordsOf s))
+        ∙ (λ i. closing (w .totals i) ((e ∙ claims-are) i))
+        ∙ closed-totals (declaredAt s (claimsStart log)) (recordsOf s) (verdicts base (recordsOf s)) (length-verdicts base (recordsOf s))
         ∙ (λ i. totalsOf (declared-are i) (records-are i) (verdicts base (records-are i)))
 
-    pub done : {t u : Totals} {d : Declared} {points slice' points' : List ℕ} → Weighs s first records slice points t slice' points' → d ≡ declaredAt s → u ≡ closing t d → Weighed.Done u records first ≡ weighedOf (length slice) s
+    pub done : {t u : Totals} {d : Declared} {points slice' points' : List ℕ} → Weighs s first records slice points t slice' points' → d ≡ declaredAt s claims → u ≡ closing t d → Weighed.Done u records first claims ≡ weighedOf (length slice) s
     unfolding weighedOf weighedBy judge judgeReading judgeLog recordsOfReading
     done w e f =
-        rw (a .isRead, enough) (λ i. Weighed.Done (totals-are w e f i) (a .count i) (a .place i))
+        rw (a .isRead, enough) (λ i. Weighed.Done (totals-are w e f i) (a .count i) (a .place i) (a .claiming i))
 
     pub written-done : {t : Totals} {points slice' points' : List ℕ} → Weighs s first records slice points t slice' points' → slice' ≡ verdictsAfterwards s slice
     unfolding judge judgeReading judgeLog numbersOfJudgement verdictsOfLog
@@ -135,26 +139,26 @@ module _ (s : Text) (room : ℕ) (points : List ℕ) where
   unfolding pointsTold over
   places-refused e = ap (λ (x : Weighed). over (pointsTold s x) points) e
 
-  pub places-done : {t : Totals} {records first : ℕ} {points' : List ℕ} → points' ≡ over (pointsPlaces s first records) points → Weighed.Done t records first ≡ weighedOf room s → points' ≡ pointsAfterwards room s points
+  pub places-done : {t : Totals} {records first claims : ℕ} {points' : List ℕ} → points' ≡ over (pointsPlaces s first records) points → Weighed.Done t records first claims ≡ weighedOf room s → points' ≡ pointsAfterwards room s points
   unfolding pointsTold
   places-done p e = p ∙ ap (λ (x : Weighed). over (pointsTold s x) points) e
 
 -- # From the reader's answer
 
 -- Two answers of different kinds.
-no-answer : {records first : ℕ} {r : Refusal} → ReadAnswer.Refused r ≡ ReadAnswer.Accepted records first → ⊥
+no-answer : {records first claims : ℕ} {r : Refusal} → ReadAnswer.Refused r ≡ ReadAnswer.Accepted records first claims → ⊥
 no-answer e = let z : _≡_ {A = ℕ} 0 1 = cc in omega arith
 
-not-weighed : {t : Totals} {records first : ℕ} {r : Refusal} → Weighed.Refused r ≡ Weighed.Done t records first → ⊥
+not-weighed : {t : Totals} {records first claims : ℕ} {r : Refusal} → Weighed.Refused r ≡ Weighed.Done t records first claims → ⊥
 not-weighed e = let z : _≡_ {A = ℕ} 0 1 = cc in omega arith
 
 module _ (s : Text) where
-  pub accepts : {records first : ℕ} → readOf s ≡ ReadAnswer.Accepted records first → Accepts s records first
-  unfolding readOf firstOf
-  accepts {records} {first} = by (read base s) refl
+  pub accepts : {records first claims : ℕ} → readOf s ≡ ReadAnswer.Accepted records first claims → Accepts s records first claims
+  unfolding readOf firstOf claimsOf
+  accepts {records} {first} {claims} = by (read base s) refl
     where
-      by : (x : Reading) → read base s ≡ x → readTold (length s) x ≡ ReadAnswer.Accepted records first → Accepts s records first
-      by (accepted log) e f = record { log = log; isRead = e; count = cc; place = cc }
+      by : (x : Reading) → read base s ≡ x → readTold (length s) x ≡ ReadAnswer.Accepted records first claims → Accepts s records first claims
+      by (accepted log) e f = record { log = log; isRead = e; count = cc; place = cc; claiming = cc }
       by (refused r) e f = absurd (no-answer f)
 
   refuses : {r : Refusal} → readOf s ≡ ReadAnswer.Refused r → read base s ≡ refused r
@@ -176,11 +180,11 @@ module _ (s : Text) where
 
   -- The totals alone.
   module _ (room : ℕ) where
-    pub totals-alone : {t : Totals} {records first : ℕ} → weighedOf room s ≡ Weighed.Done t records first → Judged.Totals t ≡ judgedOf room s
+    pub totals-alone : {t : Totals} {records first claims : ℕ} → weighedOf room s ≡ Weighed.Done t records first claims → Judged.Totals t ≡ judgedOf room s
     unfolding weighedOf judgedOf
-    totals-alone {t} {records} {first} = by (judge base room s)
+    totals-alone {t} {records} {first} {claims} = by (judge base room s)
       where
-        by : (j : Judgement) → weighedBy j (recordsOfReading (read base s)) (firstOf s (read base s)) ≡ Weighed.Done t records first → Judged.Totals t ≡ judgedBy j
+        by : (j : Judgement) → weighedBy j (recordsOfReading (read base s)) (firstOf s (read base s)) (claimsOf (read base s)) ≡ Weighed.Done t records first claims → Judged.Totals t ≡ judgedBy j
         by (judged u vs) e = let k : t ≡ u = cc in ap Judged.Totals k
         by (unjudged r) e = absurd (not-weighed e)
 
@@ -188,6 +192,6 @@ module _ (s : Text) where
     unfolding weighedOf judgedOf
     refusal-alone {r} = by (judge base room s)
       where
-        by : (j : Judgement) → weighedBy j (recordsOfReading (read base s)) (firstOf s (read base s)) ≡ Weighed.Refused r → Judged.Refused r ≡ judgedBy j
+        by : (j : Judgement) → weighedBy j (recordsOfReading (read base s)) (firstOf s (read base s)) (claimsOf (read base s)) ≡ Weighed.Refused r → Judged.Refused r ≡ judgedBy j
         by (judged u vs) e = absurd (not-weighed (sym e))
         by (unjudged q) e = let k : r ≡ q = cc in ap Judged.Refused k

@@ -570,13 +570,14 @@ fn weigh_records(
     weigh_many(log, first, n, verdicts, points)
 }
 
-// What a log is judged to be, with how many records it has and where the first begins, for a caller that walks them again.
+// What a log is judged to be, with how many records it has, where the first begins and where the claims do, for a caller that walks them again.
 pub enum Weighed {
     Refused(Refusal),
     Done {
         totals: Totals,
         records: usize,
         first: usize,
+        claims: usize,
     },
 }
 
@@ -591,10 +592,11 @@ fn weigh_accepted(
     log: &[u8],
     records: usize,
     first: usize,
+    claims: usize,
     verdicts: &mut [u8],
     points: &mut [u16; 999],
 ) -> Weighed
-    requires { ⌜ Accepts (now log) records first ⌝ }
+    requires { ⌜ Accepts (now log) records first claims ⌝ }
     ensures answer { λ r. ⌜ r ≡ weighedOf (length (now (verdicts .entry))) (now (log .entry)) ⌝ }
     ensures slice { λ r. ⌜ now (verdicts .exit) ≡ verdictsAfterwards (now (log .entry)) (now (verdicts .entry)) ⌝ }
     ensures places { λ r. ⌜ now (points .exit) ≡ pointsAfterwards (length (now (verdicts .entry))) (now (log .entry)) (now (points .entry)) ⌝ }
@@ -607,11 +609,12 @@ fn weigh_accepted(
         });
     }
     let sums = weigh_records(log, first, records, verdicts, points);
-    let totals = closed(sums, places::declared_at(log));
+    let totals = closed(sums, places::declared_at(log, claims));
     Weighed::Done {
         totals,
         records,
         first,
+        claims,
     }
 }
 
@@ -623,13 +626,11 @@ pub fn weigh(log: &[u8], verdicts: &mut [u8], points: &mut [u16; 999]) -> Weighe
     ensures places { λ r. ⌜ now (points .exit) ≡ pointsAfterwards (length (now (verdicts .entry))) (now (log .entry)) (now (points .entry)) ⌝ }
 {
     match reader::read(log) {
-        ReadAnswer::Accepted { records, first } => weigh_accepted(
-            log,
+        ReadAnswer::Accepted {
             records,
             first,
-            verdicts,
-            points,
-        ),
+            claims,
+        } => weigh_accepted(log, records, first, claims, verdicts, points),
         ReadAnswer::Refused(r) => Weighed::Refused(r),
     }
 }
@@ -645,6 +646,7 @@ pub fn judge(log: &[u8], verdicts: &mut [u8]) -> Judged
             totals,
             records: _,
             first: _,
+            claims: _,
         } => Judged::Totals(totals),
         Weighed::Refused(r) => Judged::Refused(r),
     }

@@ -35,7 +35,7 @@ abbrev aReading : ℕ → SumpquinceRefusal → SumpquinceReading
 aReading n f = record { refusal = f; records = n }
 
 abbrev readingShown : ReadAnswer → SumpquinceReading
-readingShown (ReadAnswer.Accepted n first) = aReading n (refusalFace noRefusal)
+readingShown (ReadAnswer.Accepted n first claims) = aReading n (refusalFace noRefusal)
 readingShown (ReadAnswer.Refused r) = aReading 0 (refusalFace r)
 
 module _ (s : Text) where
@@ -47,7 +47,7 @@ module _ (s : Text) where
       by (accepted log) = refl
       by (refused r) = refl
 
-  pub records-shown : {f : SumpquinceRefusal} {n first : ℕ} → f ≡ refusalFace noRefusal → ReadAnswer.Accepted n first ≡ readOf s → aReading n f ≡ readingFace (read base s)
+  pub records-shown : {f : SumpquinceRefusal} {n first claims : ℕ} → f ≡ refusalFace noRefusal → ReadAnswer.Accepted n first claims ≡ readOf s → aReading n f ≡ readingFace (read base s)
   records-shown {n = n} e a = ap (aReading n) e ∙ ap readingShown a ∙ reading-shown
 
   pub unread-shown : {f : SumpquinceRefusal} {r : Refusal} → f ≡ refusalFace r → ReadAnswer.Refused r ≡ readOf s → aReading 0 f ≡ readingFace (read base s)

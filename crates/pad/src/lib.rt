@@ -103,7 +103,11 @@ pub extern "C" fn sumpquince_read(log: &[u8]) -> SumpquinceReading
     ensures { λ r. ⌜ r ≡ readingFace (read base (now (log .entry))) ⌝ }
 {
     match reader::read(log) {
-        ReadAnswer::Accepted { records, first: _ } => SumpquinceReading {
+        ReadAnswer::Accepted {
+            records,
+            first: _,
+            claims: _,
+        } => SumpquinceReading {
             refusal: no_refusal(),
             records: records as u64,
         },

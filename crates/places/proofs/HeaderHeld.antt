@@ -19,8 +19,10 @@ use Rattle.rules.proofs.Tests.{so, holds, never, and-l, and-r, not-true, eq-of-
 use Rattle.rules.proofs.TextLaws.{same-refl}
 use Rattle.rules.proofs.Bounds.{each-at}
 use Rattle.rules.proofs.Format.{of-valid, accepted-exactly}
+use Rattle.reader.specs.Read.{claimsStart}
 use Rattle.places.specs.declared.Declared.{Declared}
-use Rattle.places.specs.Places.{lineTextAt, lineStart, argumentAt, valueBy, declaredAt}
+use Rattle.places.specs.Places.{lineTextAt, lineOn, lineStart, argumentOn, argumentAt, valueBy, declaredAt}
+use Rattle.places.proofs.LineStarts.{line-more}
 use Rattle.places.proofs.LinesHeld.{start-of-line, text-of-line, line-inside}
 
 -- Nothing stands behind the end of a table.
@@ -152,7 +154,7 @@ module _ (s : Text) (log : Log) (w : read base s ≡ accepted log) where
     argument-is = argument-at base entries (log .arguments) j e rest all-apart ruled h
 
     held : argumentAt s (suc j) ≡ argument log (e .keyword)
-    unfolding argumentAt
+    unfolding argumentOn
     held =
         ap (drop 6) line-is ∙ drop-at (keywordStart e) (getD (log .arguments) j []) 6 six ∙ sym argument-is
 
@@ -167,7 +169,7 @@ module _ (s : Text) (log : Log) (w : read base s ≡ accepted log) where
     line-long = ap length line-is ∙ length-append (keywordStart e) (getD (log .arguments) j []) ∙ ap (λ (n : ℕ). n + length (getD (log .arguments) j [])) six
 
     within : lineStart s (suc j) + 6 + length (argumentAt s (suc j)) ≤ length s
-    unfolding argumentAt lineTextAt
+    unfolding argumentOn lineTextAt
     within =
         omega (
           arith,
@@ -205,12 +207,26 @@ module _ (s : Text) (log : Log) (w : read base s ≡ accepted log) where
     pub argument-within : lineStart s k + 6 + length (argumentAt s k) ≤ length s
     argument-within = rw counted at (within (k - 1) e rest h)
 
-  pub declared-held : Declares (declaredAt s) (declared log)
+  -- The claims begin with keyword 27, and what stands so many lines behind it is as many keywords further.
+  pub claims-line : claimsStart log ≡ lineStart s 27
+  unfolding claimsStart entries
+  claims-line = sym (start-of-line s log is-valid is-written 27 (omega (arith, line-there 26 _ _ refl)))
+
+  claims-argument : (i : ℕ) → argumentOn s (claimsStart log) i ≡ argumentAt s (suc (26 + i))
+  unfolding argumentOn
+  claims-argument i =
+      let n : 27 + i ≡ suc (26 + i) = omega arith in
+      ap (λ (at : ℕ). drop 6 (lineTextAt s at)) (ap (λ (at : ℕ). lineOn s at i) claims-line ∙ line-more s 0 27 i ∙ ap (lineStart s) n)
+
+  claims-held : (i : ℕ) (e : Entry) (rest : List Entry) → drop (26 + i) entries ≡ e ∷ rest → e .rule ≡ countBonusMultiplier → (valueBy (bonus base) (part 1 (argumentOn s (claimsStart log) i)) ≡ value (part 1 (argument log (e .keyword)))) × (valueBy (multiplier base) (part 2 (argumentOn s (claimsStart log) i)) ≡ value (part 2 (argument log (e .keyword))))
+  claims-held i e rest h g = rw (claims-argument i) (three-held (26 + i) e rest h g)
+
+  pub declared-held : Declares (declaredAt s (claimsStart log)) (declared log)
   unfolding declaredAt declared entries
   declared-held =
-      let squares = three-held 28 _ _ refl refl in
-      let exchanges = three-held 30 _ _ refl refl in
-      let countries = three-held 32 _ _ refl refl in
+      let squares = claims-held 2 _ _ refl refl in
+      let exchanges = claims-held 4 _ _ refl refl in
+      let countries = claims-held 6 _ _ refl refl in
       record {
         squarebonus = squares .0;
         squaremultiplier = squares .1;

@@ -5,7 +5,7 @@ use native.Mathlib.Omega.{arith}
 use native.Mathlib.Nat.{add-zero, add-suc}
 use native.Mathlib.Numerals.{add-one}
 use native.Mathlib.Decide.{decLe}
-use mathlib.Core.Path.{_≡_, ap, _∙_}
+use mathlib.Core.Path.{_≡_, refl, ap, _∙_}
 use lib.ListN.{length, take, drop, drop-of-length-le}
 use lib.Seq.{drop-drop}
 use Rattle.rules.specs.Text.{Text, allowed, span}
@@ -14,7 +14,7 @@ use Rattle.rules.specs.Arguments.{part, bonus, multiplier}
 use Rattle.fields.specs.Field.{inField, textAt, endOf}
 use Rattle.header.proofs.PartLaws.{end-by-span, reach-first, reach-next, text-of}
 use Rattle.places.specs.declared.Declared.{Declared}
-use Rattle.places.specs.Places.{lineTextAt, lineStart, argumentAt, valueBy, declaredAt}
+use Rattle.places.specs.Places.{lineTextAt, lineOn, lineStart, argumentOn, valueBy, declaredAt}
 
 rates : {ab am bb bm cb cm ab′ am′ bb′ bm′ cb′ cm′ : ℕ} → ab ≡ ab′ → am ≡ am′ → bb ≡ bb′ → bm ≡ bm′ → cb ≡ cb′ → cm ≡ cm′
     → _≡_ {A = Declared}
@@ -28,19 +28,28 @@ module _ (s : Text) where
   inside at = min at (length s)
 
   pub line-first : 0 ≡ inside (lineStart s 0)
-  unfolding lineStart
+  unfolding lineOn
   line-first = omega arith
 
-  pub line-on : (k : ℕ) {at : ℕ} → at ≡ inside (lineStart s k) → inside (at + span allowed (drop at s) + 2) ≡ inside (lineStart s (k + 1))
-  unfolding lineStart
-  line-on k {at} e = rw (add-one k) (by (decLe (lineStart s k) (length s)))
+  pub line-next : (from : ℕ) → inside (from + span allowed (drop from s) + 2) ≡ inside (lineOn s from 1)
+  unfolding lineOn
+  line-next from = refl
+
+  pub line-on : (from k : ℕ) {at : ℕ} → at ≡ inside (lineOn s from k) → inside (at + span allowed (drop at s) + 2) ≡ inside (lineOn s from (k + 1))
+  unfolding lineOn
+  line-on from k {at} e = rw (add-one k) (by (decLe (lineOn s from k) (length s)))
     where
-      by : Dec (lineStart s k ≤ length s) → inside (at + span allowed (drop at s) + 2) ≡ inside (lineStart s k + span allowed (drop (lineStart s k) s) + 2)
-      by (yes h) = let g : at ≡ lineStart s k = omega arith in rw g
+      by : Dec (lineOn s from k ≤ length s) → inside (at + span allowed (drop at s) + 2) ≡ inside (lineOn s from k + span allowed (drop (lineOn s from k) s) + 2)
+      by (yes h) = let g : at ≡ lineOn s from k = omega arith in rw g
       by (no h) = omega arith
 
+  pub line-more : (from i k : ℕ) → lineOn s (lineOn s from i) k ≡ lineOn s from (i + k)
+  unfolding lineOn
+  line-more from i zero = rw (add-zero i)
+  line-more from i (suc k) = rw (add-suc i k, line-more from i k)
+
   lines-rise : (k d : ℕ) → lineStart s k ≤ lineStart s (k + d)
-  unfolding lineStart
+  unfolding lineOn
   lines-rise k zero = rw (add-zero k) (omega arith)
   lines-rise k (suc d) = rw (add-suc k d) (omega (arith, lines-rise k d))
 
@@ -68,22 +77,22 @@ module _ (s : Text) where
       let n : e - at ≡ span allowed (drop at s) = omega arith in
       ap (λ (k : ℕ). take k (drop at s)) n
 
-  pub argument-told : (i : ℕ) {at : ℕ} → at ≡ inside (lineStart s i) → drop 6 (lineTextAt s at) ≡ argumentAt s i
-  unfolding argumentAt
-  argument-told i e = ap (λ (n : ℕ). drop 6 (lineTextAt s n)) e ∙ ap (drop 6) (text-inside (lineStart s i))
+  pub argument-told : (from i : ℕ) {at : ℕ} → at ≡ inside (lineOn s from i) → drop 6 (lineTextAt s at) ≡ argumentOn s from i
+  unfolding argumentOn
+  argument-told from i e = ap (λ (n : ℕ). drop 6 (lineTextAt s n)) e ∙ ap (drop 6) (text-inside (lineOn s from i))
 
-  module _ (i : ℕ) {at : ℕ} (e : at ≡ inside (lineStart s i)) where
-    bonus-told : valueBy (bonus base) (part 1 (drop 6 (lineTextAt s at))) ≡ valueBy (bonus base) (part 1 (argumentAt s i))
-    bonus-told = ap (λ (t : Text). valueBy (bonus base) (part 1 t)) (argument-told i e)
+  module _ (from i : ℕ) {at : ℕ} (e : at ≡ inside (lineOn s from i)) where
+    bonus-told : valueBy (bonus base) (part 1 (drop 6 (lineTextAt s at))) ≡ valueBy (bonus base) (part 1 (argumentOn s from i))
+    bonus-told = ap (λ (t : Text). valueBy (bonus base) (part 1 t)) (argument-told from i e)
 
-    multiplier-told : valueBy (multiplier base) (part 2 (drop 6 (lineTextAt s at))) ≡ valueBy (multiplier base) (part 2 (argumentAt s i))
-    multiplier-told = ap (λ (t : Text). valueBy (multiplier base) (part 2 t)) (argument-told i e)
+    multiplier-told : valueBy (multiplier base) (part 2 (drop 6 (lineTextAt s at))) ≡ valueBy (multiplier base) (part 2 (argumentOn s from i))
+    multiplier-told = ap (λ (t : Text). valueBy (multiplier base) (part 2 t)) (argument-told from i e)
 
   -- What is declared, put together from the three lines.
-  pub declared-told : {a b c : ℕ} {ab am bb bm cb cm : ℕ}
-      → a ≡ inside (lineStart s 29)
-      → b ≡ inside (lineStart s 31)
-      → c ≡ inside (lineStart s 33)
+  pub declared-told : (claims : ℕ) {a b c : ℕ} {ab am bb bm cb cm : ℕ}
+      → a ≡ inside (lineOn s claims 2)
+      → b ≡ inside (lineOn s claims 4)
+      → c ≡ inside (lineOn s claims 6)
       → (ab ≡ valueBy (bonus base) (part 1 (drop 6 (lineTextAt s a)))) × (am ≡ valueBy (multiplier base) (part 2 (drop 6 (lineTextAt s a))))
       → (bb ≡ valueBy (bonus base) (part 1 (drop 6 (lineTextAt s b)))) × (bm ≡ valueBy (multiplier base) (part 2 (drop 6 (lineTextAt s b))))
       → (cb ≡ valueBy (bonus base) (part 1 (drop 6 (lineTextAt s c)))) × (cm ≡ valueBy (multiplier base) (part 2 (drop 6 (lineTextAt s c))))
@@ -96,16 +105,16 @@ module _ (s : Text) where
         countrybonus = cb;
         countrymultiplier = cm;
       })
-      (declaredAt s)
+      (declaredAt s claims)
   unfolding declaredAt
-  declared-told a b c p q r =
+  declared-told claims a b c p q r =
       rates
-      (p .0 ∙ bonus-told 29 a)
-      (p .1 ∙ multiplier-told 29 a)
-      (q .0 ∙ bonus-told 31 b)
-      (q .1 ∙ multiplier-told 31 b)
-      (r .0 ∙ bonus-told 33 c)
-      (r .1 ∙ multiplier-told 33 c)
+      (p .0 ∙ bonus-told claims 2 a)
+      (p .1 ∙ multiplier-told claims 2 a)
+      (q .0 ∙ bonus-told claims 4 b)
+      (q .1 ∙ multiplier-told claims 4 b)
+      (r .0 ∙ bonus-told claims 6 c)
+      (r .1 ∙ multiplier-told claims 6 c)
 
 -- The parts of the text that is left of a line behind so many characters, by their places in the line.
 module _ (l : Text) (n : ℕ) where

@@ -16,7 +16,7 @@ use Rattle.rules.proofs.Tests.{so, and-r}
 use Rattle.rules.proofs.TextLaws.{span-run}
 use Rattle.rules.proofs.LogLaws.{length-ended-more, length-ended-append}
 use Rattle.rules.proofs.Format.{of-valid, render-law}
-use Rattle.places.specs.Places.{lineTextAt, lineStart}
+use Rattle.places.specs.Places.{lineTextAt, lineOn, lineStart}
 use Rattle.places.proofs.FieldsHeld.{every-at}
 
 -- Lines that keep the rule of lines, put together to a text.
@@ -47,7 +47,7 @@ module _ (s : Text) (ls : List Text) (r : every (lineRule base) ls ≡ true) (e 
         ∙ drop-append-add (getD ls i []) (13 ∷ 10 ∷ ended (drop (suc i) ls)) 2
 
   stands : (i : ℕ) → i ≤ length ls → drop (lineStart s i) s ≡ ended (drop i ls)
-  unfolding lineStart
+  unfolding lineOn
   stands zero h = e
   stands (suc i) h = behind (lineStart s i) i h (stands i (omega arith))
 
@@ -59,7 +59,7 @@ module _ (s : Text) (ls : List Text) (r : every (lineRule base) ls ≡ true) (e 
       ∙ omega (arith, length-ended-append (take i ls) (l ∷ []), length-ended-more l [], none)
 
   pub line-starts : (i : ℕ) → i ≤ length ls → lineStart s i ≡ length (ended (take i ls))
-  unfolding lineStart ended
+  unfolding lineOn ended
   line-starts zero h = refl
   line-starts (suc i) h =
       omega (arith, line-starts i (omega arith), runs (lineStart s i) i h (stands i (omega arith)), longer i h)

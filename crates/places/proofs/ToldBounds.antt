@@ -10,7 +10,7 @@ use Rattle.rules.specs.Arguments.{bonus, multiplier, part}
 use Rattle.rules.proofs.NumberLaws.{number-from, number-below}
 use Rattle.fields.specs.Field.{textAt}
 use Rattle.places.specs.declared.Declared.{Declared}
-use Rattle.places.specs.Places.{fieldStart, argumentAt, valueBy, contactAt, declaredAt}
+use Rattle.places.specs.Places.{fieldStart, argumentOn, valueBy, contactAt, declaredAt}
 
 -- A number that keeps a rule is as small as the rule has it, and 0 is smaller still.
 kept-below : (rule : Text → Bool) (most : ℕ) (t : Text) → (rule t ≡ true → value t ≤ most) → valueBy rule t ≤ most
@@ -46,14 +46,14 @@ pub record DeclaredBelow (d : Declared) : Type 0 where
   pub countrybonus : d .countrybonus ≤ 9999
   pub countrymultiplier : d .countrymultiplier ≤ 99
 
-pub declared-below : (s : Text) → DeclaredBelow (declaredAt s)
+pub declared-below : (s : Text) (claims : ℕ) → DeclaredBelow (declaredAt s claims)
 unfolding declaredAt
-declared-below s =
+declared-below s claims =
     record {
-      squarebonus = bonus-below (part 1 (argumentAt s 29));
-      squaremultiplier = multiplier-below (part 2 (argumentAt s 29));
-      exchangebonus = bonus-below (part 1 (argumentAt s 31));
-      exchangemultiplier = multiplier-below (part 2 (argumentAt s 31));
-      countrybonus = bonus-below (part 1 (argumentAt s 33));
-      countrymultiplier = multiplier-below (part 2 (argumentAt s 33));
+      squarebonus = bonus-below (part 1 (argumentOn s claims 2));
+      squaremultiplier = multiplier-below (part 2 (argumentOn s claims 2));
+      exchangebonus = bonus-below (part 1 (argumentOn s claims 4));
+      exchangemultiplier = multiplier-below (part 2 (argumentOn s claims 4));
+      countrybonus = bonus-below (part 1 (argumentOn s claims 6));
+      countrymultiplier = multiplier-below (part 2 (argumentOn s claims 6));
     }

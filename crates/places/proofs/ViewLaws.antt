@@ -23,7 +23,7 @@ use Rattle.reader.specs.declared.ReadAnswer.the-variants as ReadAnswer
 use Rattle.reader.specs.Read.{readTold, readOf}
 use Rattle.places.specs.declared.ViewRead.{ViewRead}
 use Rattle.places.specs.declared.ViewRead.the-variants as ViewRead
-use Rattle.places.specs.Places.{lineTextAt, lineStart, argumentAt, partSeen, viewTold, viewOf}
+use Rattle.places.specs.Places.{lineTextAt, lineStart, argumentOn, argumentAt, partSeen, viewTold, viewOf}
 use Rattle.places.proofs.HeaderHeld.{argument-held, argument-starts, argument-inside, argument-within}
 
 -- The part behind six characters of a line.
@@ -103,7 +103,7 @@ module _ (k : ℕ) (s : Text) where
     part-law at = refl
 
     argument-law : argumentAt s k ≡ drop 6 (lineTextAt s (lineStart s k))
-    unfolding argumentAt
+    unfolding argumentOn
     argument-law = refl
 
     seen-at : (log : Log) → read base s ≡ accepted log → partSeen s (min (lineStart s k) (length s)) ≡ viewOf k s
@@ -114,12 +114,12 @@ module _ (k : ℕ) (s : Text) where
         (ap length (sym argument-law ∙ argument-held s log a k due (drop (suc (k - 1)) entries) low is-due))
         ∙ sym (due-view ∙ ap (λ (x : Reading). viewTold (viewOfReading k (due ∷ drop (suc (k - 1)) entries) x)) a ∙ shown-law log)
 
-    accepted-by : (a : Reading) {n f : ℕ} → readTold (length s) a ≡ ReadAnswer.Accepted n f → (log : Log) × (a ≡ accepted log)
+    accepted-by : (a : Reading) {n f c : ℕ} → readTold (length s) a ≡ ReadAnswer.Accepted n f c → (log : Log) × (a ≡ accepted log)
     unfolding readTold
     accepted-by (accepted log) q = (log, refl)
     accepted-by (refused r) q = let z : _≡_ {A = ℕ} 0 1 = cc in absurd (omega arith)
 
-    pub view-seen : {n f : ℕ} → readOf s ≡ ReadAnswer.Accepted n f → partSeen s (min (lineStart s k) (length s)) ≡ viewOf k s
+    pub view-seen : {n f c : ℕ} → readOf s ≡ ReadAnswer.Accepted n f c → partSeen s (min (lineStart s k) (length s)) ≡ viewOf k s
     unfolding readOf
     view-seen q = let g = accepted-by (read base s) q in seen-at (g .0) (g .1)
 
@@ -143,7 +143,7 @@ module _ (k : ℕ) (s : Text) where
       ap (λ (t : Text). take (length t) (drop (at + 6) s)) same ∙ take-its-length (n - 6) (drop (at + 6) s) ∙ sym same
 
   argument-part-is : take (length (argumentAt s k)) (drop (lineStart s k + 6) s) ≡ argumentAt s k
-  unfolding argumentAt
+  unfolding argumentOn
   argument-part-is = part-of (lineStart s k)
 
   shows-argument : (log : Log) (e : Entry) (rest : List Entry) → read base s ≡ accepted log → 1 ≤ k → drop (k - 1) entries ≡ e ∷ rest → Shows s (argumentStart log k e) (argument log (e .keyword))

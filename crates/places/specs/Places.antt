@@ -25,11 +25,15 @@ unfoldable pub lineTextAt : Text → ℕ → Text
 unfolding span
 lineTextAt s at = take (span allowed (drop at s)) (drop at s)
 
--- Where the line behind so many lines begins: two characters, CR LF, stand behind each.
-unfoldable pub lineStart : Text → ℕ → ℕ
+-- Where the line behind so many lines begins, from the first one's place on: two characters, CR LF, stand behind each.
+unfoldable pub lineOn : Text → ℕ → ℕ → ℕ
 unfolding span
-lineStart s zero = 0
-lineStart s (suc i) = lineStart s i + span allowed (drop (lineStart s i) s) + 2
+lineOn s at zero = at
+lineOn s at (suc i) = lineOn s at i + span allowed (drop (lineOn s at i) s) + 2
+
+-- The same from the front of the text on.
+abbrev pub lineStart : Text → ℕ → ℕ
+lineStart s i = lineOn s 0 i
 
 -- Where the field behind so many fields begins, from the first one's place on: one semicolon stands behind each.
 unfoldable pub fieldStart : Text → ℕ → ℕ → ℕ
@@ -78,22 +82,27 @@ unfolding contactAt
 pointsPlaces s at zero = []
 pointsPlaces s at (suc n) = (contactAt s at) .points ∷ pointsPlaces s ((contactAt s at) .next) n
 
--- The argument on the line behind so many lines: what stands behind the six characters of its keyword and `=`.
-unfoldable pub argumentAt : Text → ℕ → Text
-unfolding lineTextAt lineStart
-argumentAt s i = drop 6 (lineTextAt s (lineStart s i))
+-- The argument on the line behind so many lines, from a place on or from the front on: what stands behind the six characters of its keyword
+-- and `=`.
+unfoldable pub argumentOn : Text → ℕ → ℕ → Text
+unfolding lineTextAt lineOn
+argumentOn s at i = drop 6 (lineTextAt s (lineOn s at i))
 
--- The bonuses and multipliers of CWWLs, CExcs and CDXCs: keywords 29, 31 and 33, so on the lines behind as many.
-unfoldable pub declaredAt : Text → Declared
-unfolding argumentAt part valueBy bonus multiplier base
-declaredAt s =
+abbrev pub argumentAt : Text → ℕ → Text
+argumentAt s i = argumentOn s 0 i
+
+-- The bonuses and multipliers of CWWLs, CExcs and CDXCs, by the place where the claims begin: keywords 29, 31 and 33, of which the first claim,
+-- CQSOs, is keyword 27.
+unfoldable pub declaredAt : Text → ℕ → Declared
+unfolding argumentOn part valueBy bonus multiplier base
+declaredAt s claims =
     record {
-      squarebonus = valueBy (bonus base) (part 1 (argumentAt s 29));
-      squaremultiplier = valueBy (multiplier base) (part 2 (argumentAt s 29));
-      exchangebonus = valueBy (bonus base) (part 1 (argumentAt s 31));
-      exchangemultiplier = valueBy (multiplier base) (part 2 (argumentAt s 31));
-      countrybonus = valueBy (bonus base) (part 1 (argumentAt s 33));
-      countrymultiplier = valueBy (multiplier base) (part 2 (argumentAt s 33));
+      squarebonus = valueBy (bonus base) (part 1 (argumentOn s claims 2));
+      squaremultiplier = valueBy (multiplier base) (part 2 (argumentOn s claims 2));
+      exchangebonus = valueBy (bonus base) (part 1 (argumentOn s claims 4));
+      exchangemultiplier = valueBy (multiplier base) (part 2 (argumentOn s claims 4));
+      countrybonus = valueBy (bonus base) (part 1 (argumentOn s claims 6));
+      countrymultiplier = valueBy (multiplier base) (part 2 (argumentOn s claims 6));
     }
 
 -- # What is told of an accepted log

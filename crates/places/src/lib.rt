@@ -247,11 +247,12 @@ fn rates_at(s: &[u8], at: usize) -> Rates
     rates_of(&s[at..end])
 }
 
-// The bonuses and multipliers of CWWLs, CExcs and CDXCs, which stand two lines apart: the lines are walked once.
-pub fn declared_at(s: &[u8]) -> Declared
-    ensures { λ r. ⌜ r ≡ declaredAt (now (s .entry)) ⌝ }
+// The bonuses and multipliers of CWWLs, CExcs and CDXCs, by the place where the claims begin: the first of these three stands two lines behind
+// it, and each of the others two lines behind the last.
+pub fn declared_at(s: &[u8], claims: usize) -> Declared
+    ensures { λ r. ⌜ r ≡ declaredAt (now (s .entry)) claims ⌝ }
 {
-    let squares = line_start(s, 29);
+    let squares = next_line(s, next_line(s, claims));
     let exchanges = next_line(s, next_line(s, squares));
     let countries = next_line(s, next_line(s, exchanges));
     let forsquares = rates_at(s, squares);
@@ -316,6 +317,7 @@ pub fn view(log: &[u8], k: usize) -> ViewRead
         ReadAnswer::Accepted {
             records: _,
             first: _,
+            claims: _,
         } => argument_part(log, k),
     }
 }

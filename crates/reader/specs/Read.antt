@@ -1,9 +1,10 @@
 -- What is answered of a log as a whole.
 -- Assumes nothing.
 use Prim.Native.Nat.{ℕ, _+_, _-_}
-use mathlib.Core.Bool.{Bool, true, false}
+use mathlib.Core.Bool.{Bool, true, false, cond}
 use mathlib.Core.List.{List, [], _∷_, map}
-use lib.ListN.{length}
+use lib.Dec.{eqb}
+use lib.ListN.{length, take}
 use Rattle.rules.specs.declared.Refusal.{Refusal}
 use Rattle.rules.specs.declared.Due.{Due}
 use Rattle.rules.specs.declared.Due.the-variants.{Identifier, Keyword, Remarks, Remark, Record, End}
@@ -11,18 +12,23 @@ use Rattle.rules.specs.declared.Next.{Next}
 use Rattle.rules.specs.declared.Next.the-variants.{Goes, Stops}
 use Rattle.rules.specs.Text.{Text}
 use Rattle.rules.specs.Rules.{base}
-use Rattle.rules.specs.Log.{ended, recordLine}
+use Rattle.rules.specs.Log.{Log, linesOf, ended, recordLine}
 use Rattle.rules.specs.Reading.{Reading, accepted, refused, refusal, step, read}
 use Rattle.reader.specs.declared.Mark.{Mark}
 use Rattle.reader.specs.declared.ReadAnswer.{ReadAnswer}
 use Rattle.reader.specs.declared.ReadAnswer.the-variants as ReadAnswer
 
--- The code's word for each case: of an accepted log, how many records there are, and where the first begins, which is as far from the end as
--- the records are long.
+-- Where the nine claims begin: their lines stand behind 27, the identifier's and those of 26 keywords.
+unfoldable pub claimsStart : Log → ℕ
+unfolding ended linesOf
+claimsStart log = length (ended (take 27 (linesOf log)))
+
+-- The code's word for each case: of an accepted log, how many records there are, where the first begins, which is as far from the end as the
+-- records are long, and where the claims begin.
 unfoldable pub readTold : ℕ → Reading → ReadAnswer
-unfolding ended recordLine
+unfolding ended recordLine claimsStart
 readTold end (accepted log) =
-    ReadAnswer.Accepted (length (log .records)) (end - length (ended (map recordLine (log .records))))
+    ReadAnswer.Accepted (length (log .records)) (end - length (ended (map recordLine (log .records)))) (claimsStart log)
 readTold end (refused r) = ReadAnswer.Refused r
 
 unfoldable pub readOf : Text → ReadAnswer
@@ -37,13 +43,15 @@ counted Identifier m at = m
 counted (Keyword k) m at = m
 counted Remarks m at = m
 counted Remark m at = m
-counted (Record n) m at = record { records = n; first = at }
-counted End m at = record { records = 0; first = at }
+counted (Record n) m at = record { records = n; first = at; claims = m .claims }
+counted End m at = record { records = 0; first = at; claims = m .claims }
 
+-- The claims begin behind the line of the keyword that comes after 25.
 unfoldable pub noted : Due → Due → Mark → ℕ → Mark
 unfolding counted
 noted Identifier next m at = m
-noted (Keyword k) next m at = m
+noted (Keyword k) next m at =
+    cond (eqb k 25) (record { records = m .records; first = m .first; claims = at }) m
 noted Remarks next m at = m
 noted Remark next m at = counted next m at
 noted (Record n) next m at = m
@@ -58,4 +66,4 @@ restTold Remark n left m = ReadAnswer.Refused (refusal 2 n 0)
 restTold (Record k) n true m = ReadAnswer.Refused (refusal 2 n 0)
 restTold (Record k) n false m = ReadAnswer.Refused (refusal 6 n 0)
 restTold End n true m = ReadAnswer.Refused (refusal 6 n 0)
-restTold End n false m = ReadAnswer.Accepted (m .records) (m .first)
+restTold End n false m = ReadAnswer.Accepted (m .records) (m .first) (m .claims)

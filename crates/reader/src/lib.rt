@@ -378,10 +378,12 @@ pub fn step(due: Due, line: &[u8]) -> Next
     }
 }
 
-// How many records a log has and where the first begins, once its count line is read.
+// How many records a log has and where the first begins, once its count line is read; and where the first of the nine claims does, once the line in
+// front of it is read.
 pub struct Mark {
     pub records: usize,
     pub first: usize,
+    pub claims: usize,
 }
 
 // What is noted of the count line, behind which the first record begins.
@@ -392,10 +394,12 @@ fn counted(next: Due, mark: Mark, at: usize) -> Mark
         Due::Record(n) => Mark {
             records: n,
             first: at,
+            claims: mark.claims,
         },
         Due::End => Mark {
             records: 0,
             first: at,
+            claims: mark.claims,
         },
         Due::Identifier => mark,
         Due::Keyword(_) => mark,
@@ -404,22 +408,36 @@ fn counted(next: Due, mark: Mark, at: usize) -> Mark
     }
 }
 
+// What is noted of a line, behind which the next begins: the claims begin behind the line of the keyword that comes after 25.
 fn noted(due: Due, next: Due, mark: Mark, at: usize) -> Mark
     ensures { λ r. ⌜ r ≡ noted due next mark at ⌝ }
 {
     match due {
         Due::Remark => counted(next, mark, at),
+        Due::Keyword(k) => {
+            if k == 25 {
+                return Mark {
+                    records: mark.records,
+                    first: mark.first,
+                    claims: at,
+                };
+            }
+            mark
+        }
         Due::Identifier => mark,
-        Due::Keyword(_) => mark,
         Due::Remarks => mark,
         Due::Record(_) => mark,
         Due::End => mark,
     }
 }
 
-// What is answered of a log: how many records it has and where the first begins, or why it is refused.
+// What is answered of a log: how many records it has, where the first begins and where the first of the nine claims does, or why it is refused.
 pub enum ReadAnswer {
-    Accepted { records: usize, first: usize },
+    Accepted {
+        records: usize,
+        first: usize,
+        claims: usize,
+    },
     Refused(Refusal),
 }
 
@@ -451,6 +469,7 @@ fn at_rest(due: Due, line: u32, left: bool, mark: Mark) -> ReadAnswer
             ReadAnswer::Accepted {
                 records: mark.records,
                 first: mark.first,
+                claims: mark.claims,
             }
         }
         Due::Identifier => missing,
@@ -475,6 +494,7 @@ pub fn read(log: &[u8]) -> ReadAnswer
     let mut mark = Mark {
         records: 0,
         first: 0,
+        claims: 0,
     };
     let mut at = 0;
     let mut line: u32 = 1;

@@ -32,7 +32,11 @@ fn show_refusal(r: Refusal) {
 fn show_read(log: &[u8]) -> usize {
     say(b"  read:");
     match reader::read(log) {
-        ReadAnswer::Accepted { records, first: _ } => {
+        ReadAnswer::Accepted {
+            records,
+            first: _,
+            claims: _,
+        } => {
             show(b" records ", records as u64);
             say(b"\n");
             records

@@ -1,6 +1,6 @@
 -- From what was judged to what is answered: the result's text by its places is the log written back, and where it does not fit nothing is written.
 -- Assumes nothing.
-use Prim.Native.Nat.{ℕ, zero, suc, _+_, _-_, _≤_, _<_, min}
+use Prim.Native.Nat.{ℕ, zero, suc, _+_, _-_, _≤_, _<_}
 use native.Mathlib.Omega.{arith}
 use native.Mathlib.Nat.{zero-add}
 use mathlib.Core.Path.{_≡_, refl, sym, ap, ap₂, subst, _∙_}
@@ -33,10 +33,10 @@ use Rattle.rules.proofs.WrittenValid.{written-length}
 use Rattle.rules.proofs.WritingRefused.{writing-fits, writing-is-refused-for-length}
 use Rattle.places.specs.Places.{lineStart, pointsPlaces}
 use Rattle.places.proofs.RecordsHeld.{recordsStart, header, records, rendered}
-use Rattle.places.proofs.HeaderHeld.{argument-inside}
+use Rattle.places.proofs.HeaderHeld.{claims-line}
 use Rattle.judge.specs.declared.Weighed.{Weighed}
 use Rattle.judge.specs.declared.Weighed.the-variants as Weighed
-use Rattle.judge.specs.Judge.{firstOf, weighedBy, weighedOf, verdictsAfterwards, pointsTold, pointsAfterwards}
+use Rattle.judge.specs.Judge.{firstOf, claimsOf, weighedBy, weighedOf, verdictsAfterwards, pointsTold, pointsAfterwards}
 use Rattle.judge.proofs.WeighLaws.{length-places}
 use Rattle.writer.specs.declared.Wrote.the-variants as Wrote
 use Rattle.writer.specs.Written.{Puts}
@@ -50,7 +50,7 @@ use Rattle.writer.proofs.WrittenLaws.{puts-room, puts-then}
 
 -- # A judged log
 
-module _ {s : Text} {t : Totals} {first : ℕ} {ps ns : List ℕ} (w : Writable s t first ps ns) where
+module _ {s : Text} {t : Totals} {first line : ℕ} {ps ns : List ℕ} (w : Writable s t first line ps ns) where
   abbrev log : Log
   log = w .log
 
@@ -73,13 +73,13 @@ module _ {s : Text} {t : Totals} {first : ℕ} {ps ns : List ℕ} (w : Writable 
   as-many = length-verdicts base (log .records)
 
   -- The places of the claims and of the records.
-  pub line-is : {line : ℕ} → line ≡ min (lineStart s 27) (length s) → line ≡ lineStart s 27
-  unfolding entries
-  line-is e = e ∙ argument-inside s log (w .isRead) 27 _ _ (omega arith) refl
+  line-is : line ≡ lineStart s 27
+  unfolding claimsOf
+  line-is = w .claiming ∙ claims-line s log (w .isRead)
 
-  pub nine-lie : {line : ℕ} → line ≡ min (lineStart s 27) (length s) → ClaimsLie s first 0 line 9
-  nine-lie e =
-      subst (λ (n : ℕ). ClaimsLie s first 0 n 9) (sym (line-is e))
+  pub nine-lie : ClaimsLie s first 0 line 9
+  nine-lie =
+      subst (λ (n : ℕ). ClaimsLie s first 0 n 9) (sym line-is)
       (subst (λ (n : ℕ). ClaimsLie s n 0 (lineStart s 27) 9) (sym place-is) (claims-lie s log (w .isRead)))
 
   pub all-lie : RecordsLie s first ps
@@ -133,52 +133,51 @@ module _ {s : Text} {t : Totals} {first : ℕ} {ps ns : List ℕ} (w : Writable 
   result-is = ap₂ (λ (a b : Text). a ++ b) head-is records-are ∙ sym (rendered after)
 
   -- The text as the code puts it together.
-  module _ {line : ℕ} (e : line ≡ min (lineStart s 27) (length s)) where
-    pub head-text : claimsText s first 0 line (claimNumbers t) ≡ headText s first t
-    unfolding headText
-    head-text = ap (λ (n : ℕ). claimsText s first 0 n (claimNumbers t)) (line-is e)
+  pub head-text : claimsText s first 0 line (claimNumbers t) ≡ headText s first t
+  unfolding headText
+  head-text = ap (λ (n : ℕ). claimsText s first 0 n (claimNumbers t)) line-is
 
-    whole-text : claimsText s first 0 line (claimNumbers t) ++ recordsText s first ps ns ≡ result
-    whole-text = ap (λ (a : Text). a ++ recordsText s first ps ns) head-text ∙ result-is
+  whole-text : claimsText s first 0 line (claimNumbers t) ++ recordsText s first ps ns ≡ result
+  whole-text = ap (λ (a : Text). a ++ recordsText s first ps ns) head-text ∙ result-is
 
-    pub whole-length : length (claimsText s first 0 line (claimNumbers t)) + length (recordsText s first ps ns) ≡ length result
-    whole-length = sym (length-append (claimsText s first 0 line (claimNumbers t)) (recordsText s first ps ns)) ∙ ap length whole-text
+  pub whole-length : length (claimsText s first 0 line (claimNumbers t)) + length (recordsText s first ps ns) ≡ length result
+  whole-length = sym (length-append (claimsText s first 0 line (claimNumbers t)) (recordsText s first ps ns)) ∙ ap length whole-text
 
-    -- # The answers
+  -- # The answers
 
-    -- Where the result is too long, for a log or for the slice, nothing is written.
-    module _ (slice : List ℕ) (h : (65_535 < length result) ⊎ (length slice < length result)) where
-      refuses : write base (length slice) s ≡ unwritten (refusal 8 0 0)
-      refuses = writing-is-refused-for-length s log (length slice) (w .isRead) .1 h
+  -- Where the result is too long, for a log or for the slice, nothing is written.
+  module _ (slice : List ℕ) (h : (65_535 < length result) ⊎ (length slice < length result)) where
+    refuses : write base (length slice) s ≡ unwritten (refusal 8 0 0)
+    refuses = writing-is-refused-for-length s log (length slice) (w .isRead) .1 h
 
-      pub refused-answer : Wrote.Refused (refusal 8 0 0) ≡ wroteOf (length slice) s
-      unfolding wroteOf wroteBy
-      refused-answer = rw refuses
+    pub refused-answer : Wrote.Refused (refusal 8 0 0) ≡ wroteOf (length slice) s
+    unfolding wroteOf wroteBy
+    refused-answer = rw refuses
 
-      pub refused-slice : slice ≡ writtenAfterwards s slice
-      unfolding bytesOfWriting over
-      refused-slice = rw refuses
+    pub refused-slice : slice ≡ writtenAfterwards s slice
+    unfolding bytesOfWriting over
+    refused-slice = rw refuses
 
-    -- Otherwise the text that was put together is the answer.
-    module _ {slice slice' : List ℕ} {end : ℕ} (h : length result ≤ 65_535)
-        (p : Puts slice 0 (claimsText s first 0 line (claimNumbers t) ++ recordsText s first ps ns) slice' end) where
-      put-result : Puts slice 0 result slice' end
-      put-result = subst (λ (x : Text). Puts slice 0 x slice' end) whole-text p
+  -- Otherwise the text that was put together is the answer.
+  module _ {slice slice' : List ℕ} {end : ℕ} (h : length result ≤ 65_535)
+      (p : Puts slice 0 (claimsText s first 0 line (claimNumbers t) ++ recordsText s first ps ns) slice' end) where
+    put-result : Puts slice 0 result slice' end
+    put-result = subst (λ (x : Text). Puts slice 0 x slice' end) whole-text p
 
-      writes : write base (length slice) s ≡ written result
-      writes = writing-fits s log (length slice) (w .isRead) h (omega (arith, put-result .fits))
+    writes : write base (length slice) s ≡ written result
+    writes = writing-fits s log (length slice) (w .isRead) h (omega (arith, put-result .fits))
 
-      pub written-answer : Wrote.Length end ≡ wroteOf (length slice) s
-      unfolding wroteOf wroteBy
-      written-answer = rw writes (ap Wrote.Length (put-result .place ∙ zero-add (length result)))
+    pub written-answer : Wrote.Length end ≡ wroteOf (length slice) s
+    unfolding wroteOf wroteBy
+    written-answer = rw writes (ap Wrote.Length (put-result .place ∙ zero-add (length result)))
 
-      laid-over : Over.written slice 0 result ≡ over result slice
-      unfolding Over.written over
-      laid-over = ap (λ (n : ℕ). result ++ drop n slice) (zero-add (length result))
+    laid-over : Over.written slice 0 result ≡ over result slice
+    unfolding Over.written over
+    laid-over = ap (λ (n : ℕ). result ++ drop n slice) (zero-add (length result))
 
-      pub written-slice : slice' ≡ writtenAfterwards s slice
-      unfolding bytesOfWriting
-      written-slice = rw writes (put-result .list ∙ laid-over)
+    pub written-slice : slice' ≡ writtenAfterwards s slice
+    unfolding bytesOfWriting
+    written-slice = rw writes (put-result .list ∙ laid-over)
 
 -- # From the judge's answer
 
@@ -187,7 +186,7 @@ front-over : (new slice : List ℕ) (n : ℕ) → n ≡ length new → take n (o
 unfolding over
 front-over new slice n e = take-at new (drop (length new) slice) n (sym e)
 
-not-done : {t : Totals} {records first : ℕ} {r : Refusal} → Weighed.Refused r ≡ Weighed.Done t records first → ⊥
+not-done : {t : Totals} {records first claims : ℕ} {r : Refusal} → Weighed.Refused r ≡ Weighed.Done t records first claims → ⊥
 not-done e = let z : _≡_ {A = ℕ} 0 1 = cc in omega arith
 
 -- With room for 999 verdicts a log is refused by the judge only where it is refused by the reader.
@@ -198,7 +197,7 @@ module _ (s : Text) (room : ℕ) (enough : 999 ≤ room) where
       let most = count-valid base log (accepted-exactly s log .0 e .0) in
       rw (e, le-ltb room (length (log .records)) (omega arith))
 
-  weighed-by : (log : Log) → read base s ≡ accepted log → weighedOf room s ≡ Weighed.Done (totalsOfLog base log) (length (log .records)) (firstOf s (accepted log))
+  weighed-by : (log : Log) → read base s ≡ accepted log → weighedOf room s ≡ Weighed.Done (totalsOfLog base log) (length (log .records)) (firstOf s (accepted log)) (claimsOf (accepted log))
   unfolding weighedOf weighedBy recordsOfReading
   weighed-by log e = rw (judged-by log e, e)
 
@@ -207,7 +206,7 @@ module _ (s : Text) (room : ℕ) (enough : 999 ≤ room) where
   refused-by r e = rw e
 
   -- What the judge has told of a log is what writing asks for.
-  module _ {t : Totals} {n first : ℕ} (h : weighedOf room s ≡ Weighed.Done t n first) where
+  module _ {t : Totals} {n first claims : ℕ} (h : weighedOf room s ≡ Weighed.Done t n first claims) where
     log-read : (log : Log) × (read base s ≡ accepted log)
     log-read = by (read base s) refl
       where
@@ -215,7 +214,7 @@ module _ (s : Text) (room : ℕ) (enough : 999 ≤ room) where
         by (accepted log) e = (log, e)
         by (refused r) e = absurd (not-done {r = r} (sym (refused-by r e) ∙ h))
 
-    abbrev known : Weighed.Done t n first ≡ Weighed.Done (totalsOfLog base (log-read .0)) (length ((log-read .0) .records)) (firstOf s (accepted (log-read .0)))
+    abbrev known : Weighed.Done t n first claims ≡ Weighed.Done (totalsOfLog base (log-read .0)) (length ((log-read .0) .records)) (firstOf s (accepted (log-read .0))) (claimsOf (accepted (log-read .0)))
     known = sym h ∙ weighed-by (log-read .0) (log-read .1)
 
     many : n ≡ length ((log-read .0) .records)
@@ -266,13 +265,14 @@ module _ (s : Text) (room : ℕ) (enough : 999 ≤ room) where
         length slice ≡ room →
         numbers ≡ verdictsAfterwards s slice →
         points ≡ pointsAfterwards room s places →
-        Writable s t first (take n points) (take n numbers)
+        Writable s t first claims (take n points) (take n numbers)
     writable slice places l v p =
         record {
           log = log-read .0;
           isRead = log-read .1;
           totals = let e = known in cc;
           place = let e = known in cc;
+          claiming = let e = known in cc;
           places = places-told places p ∙ ap (pointsPlaces s first) many;
           verdicts = numbers-are slice l v;
         }

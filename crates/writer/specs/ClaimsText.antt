@@ -5,7 +5,7 @@ use mathlib.Core.List.{List, [], _∷_, _++_}
 use lib.ListN.{length, drop}
 use Rattle.rules.specs.declared.Totals.{Totals}
 use Rattle.rules.specs.Text.{Text, digit, allowed, span, digits}
-use Rattle.places.specs.Places.{lineStart, between}
+use Rattle.places.specs.Places.{lineOn, lineStart, between}
 
 -- The nine numbers that are claimed, in the order of their lines.
 unfoldable pub claimNumbers : Totals → List ℕ
@@ -46,7 +46,7 @@ claimsText s first from line (n ∷ ns) =
 
 -- The nine claims stand behind 27 lines: the identifier's, and those of 26 keywords.
 unfoldable pub headText : Text → ℕ → Totals → Text
-unfolding claimsText lineStart claimNumbers
+unfolding claimsText lineOn claimNumbers
 headText s first t = claimsText s first 0 (lineStart s 27) (claimNumbers t)
 
 -- So many lines with a number stand in order, from a place on, in front of the first record.

@@ -12,7 +12,7 @@ use Rattle.rules.specs.Judging.{verdictNumber, verdictsOfLog, totalsOfLog}
 use Rattle.rules.specs.Reading.{read, accepted}
 use Rattle.rules.specs.Answers.{Writing, written, unwritten, write, bytesOfWriting, over}
 use Rattle.places.specs.Places.{pointsPlaces}
-use Rattle.judge.specs.Judge.{firstOf}
+use Rattle.judge.specs.Judge.{firstOf, claimsOf}
 use Rattle.writer.specs.declared.Wrote.{Wrote}
 use Rattle.writer.specs.declared.Wrote.the-variants as Wrote
 
@@ -29,11 +29,13 @@ wroteOf room s = wroteBy (write base room s)
 abbrev pub writtenAfterwards : Text → List ℕ → List ℕ
 writtenAfterwards s slice = over (bytesOfWriting (write base (length slice) s)) slice
 
--- The log was judged: these are its totals, where its first record and the points of each begin, and the numbers of its verdicts.
-pub record Writable (s : Text) (t : Totals) (first : ℕ) (points numbers : List ℕ) : Type 0 where
+-- The log was judged: these are its totals, where its first record, the line of its first claim and the points of each record begin, and the
+-- numbers of its verdicts.
+pub record Writable (s : Text) (t : Totals) (first line : ℕ) (points numbers : List ℕ) : Type 0 where
   pub log : Log
   pub isRead : read base s ≡ accepted log
   pub totals : t ≡ totalsOfLog base log
   pub place : first ≡ firstOf s (accepted log)
+  pub claiming : line ≡ claimsOf (accepted log)
   pub places : points ≡ pointsPlaces s first (length (log .records))
   pub verdicts : numbers ≡ map verdictNumber (verdictsOfLog base log)

@@ -359,17 +359,18 @@ pub enum Wrote {
     Refused(Refusal),
 }
 
-// A judged log is written back, if the slice has room for the result; otherwise the slice is left as it is. The result is measured before its
-// first byte is written.
+// A judged log, the first claim of which stands on the line that begins at `line`, is written back, if the slice has room for the result; otherwise
+// the slice is left as it is. The result is measured before its first byte is written.
 fn write_weighed(
     log: &[u8],
     t: Totals,
     first: usize,
+    line: usize,
     points: &[u16],
     numbers: &[u8],
     out: &mut [u8],
 ) -> Wrote
-    requires { ⌜ Writable (now log) t first (now points) (now numbers) ⌝ }
+    requires { ⌜ Writable (now log) t first line (now points) (now numbers) ⌝ }
     ensures answer { λ r. ⌜ r ≡ wroteOf (length (now (out .entry))) (now (log .entry)) ⌝ }
     ensures slice { λ r. ⌜ now (out .exit) ≡ writtenAfterwards (now (log .entry)) (now (out .entry)) ⌝ }
 {
@@ -384,7 +385,6 @@ fn write_weighed(
         t.countrybonus,
         t.total,
     ];
-    let line = places::line_start(log, 27);
     let head = claims_length(log, first, line, &claims);
     let length = head + records_length(log, first, points, numbers);
     if 65535 < length {
@@ -417,10 +417,12 @@ pub fn write(log: &[u8], out: &mut [u8]) -> Wrote
             totals,
             records,
             first,
+            claims,
         } => write_weighed(
             log,
             totals,
             first,
+            claims,
             &points[..records],
             &verdicts[..records],
             out,

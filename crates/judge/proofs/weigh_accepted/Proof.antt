@@ -18,7 +18,7 @@ declared-at-requires : tie.Need-declared-at-requires
 declared-at-requires c κs = search needs
 
 closed-requires : tie.Need-closed-requires
-closed-requires c κs = closable (c .before .before .before .weigh-records .ensures) (c .declared-at .ensures)
+closed-requires c κs = closable _ (c .before .before .before .weigh-records .ensures) (c .declared-at .ensures)
 
 same-length : tie.Need-same-length
 same-length c = search needs

@@ -1,12 +1,9 @@
 use mathlib.Core.Path.{_∙_}
 use denote.Ref.{now}
-use Rattle.places.proofs.LineStarts.{line-on, declared-told}
+use Rattle.places.proofs.LineStarts.{line-next, line-on, declared-told}
 use borrow.Author.Needs.{needs}
 use Rattle.places.proofs.declared_at.Statement.{statement}
 use Rattle.places.proofs.declared_at.Tie as tie
-
-line-start-requires : tie.Need-line-start-requires
-line-start-requires c κs = search needs
 
 next-line-requires : tie.Need-next-line-requires
 next-line-requires c κs = search needs
@@ -20,6 +17,12 @@ next-line-requires-3 c κs = search needs
 next-line-requires-4 : tie.Need-next-line-requires-4
 next-line-requires-4 c κs = search needs
 
+next-line-requires-5 : tie.Need-next-line-requires-5
+next-line-requires-5 c κs = search needs
+
+next-line-requires-6 : tie.Need-next-line-requires-6
+next-line-requires-6 c κs = search needs
+
 rates-at-requires : tie.Need-rates-at-requires
 rates-at-requires c κs = search needs
 
@@ -31,23 +34,26 @@ rates-at-requires-3 c κs = search needs
 
 returns : tie.Need-returns
 returns c =
-    let s = now (c .before .before .before .before .before .before .before .before .before .args .s) in
-    let squares = c .before .before .before .before .before .before .before .line-start .ensures in
-    let between = c .before .before .before .before .before .before .next-line .ensures ∙ line-on s 29 squares in
-    let exchanges = c .before .before .before .before .before .next-line2 .ensures ∙ line-on s 30 between in
-    let behind = c .before .before .before .before .next-line3 .ensures ∙ line-on s 31 exchanges in
-    let countries = c .before .before .before .next-line4 .ensures ∙ line-on s 32 behind in
-    declared-told s squares exchanges countries (c .before .before .rates-at .ensures) (c .before .rates-at2 .ensures) (c .rates-at3 .ensures)
+    let a = c .before .before .before .before .before .before .before .before .before .before .args in
+    let s = now (a .s) in
+    let points = c .before .before .before .before .before .before .before .before .next-line .ensures ∙ line-next s (a .claims) in
+    let squares = c .before .before .before .before .before .before .before .next-line2 .ensures ∙ line-on s (a .claims) 1 points in
+    let between = c .before .before .before .before .before .before .next-line3 .ensures ∙ line-on s (a .claims) 2 squares in
+    let exchanges = c .before .before .before .before .before .next-line4 .ensures ∙ line-on s (a .claims) 3 between in
+    let behind = c .before .before .before .before .next-line5 .ensures ∙ line-on s (a .claims) 4 exchanges in
+    let countries = c .before .before .before .next-line6 .ensures ∙ line-on s (a .claims) 5 behind in
+    declared-told s (a .claims) squares exchanges countries (c .before .before .rates-at .ensures) (c .before .rates-at2 .ensures) (c .rates-at3 .ensures)
 
 pub declared-at-spec : {M : Type 1} → statement M
 declared-at-spec =
     tie.close
     (tie.spec
-    line-start-requires
     next-line-requires
     next-line-requires-2
     next-line-requires-3
     next-line-requires-4
+    next-line-requires-5
+    next-line-requires-6
     rates-at-requires
     rates-at-requires-2
     rates-at-requires-3

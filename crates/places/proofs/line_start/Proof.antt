@@ -32,7 +32,7 @@ loop-less : tie.Need-loop-less Inv-loop μ-loop
 loop-less c = search needs
 
 loop-again : tie.Need-loop-again Inv-loop μ-loop
-loop-again c = (omega arith, c .next-line .ensures ∙ line-on _ (c .before .before .before .loop .k) (c .before .before .before .loop .inv .1))
+loop-again c = (omega arith, c .next-line .ensures ∙ line-on _ 0 (c .before .before .before .loop .k) (c .before .before .before .loop .inv .1))
 
 returns-2 : tie.Need-returns-2 Inv-loop μ-loop
 returns-2 c =

@@ -13,7 +13,7 @@ use Rattle.writer.proofs.write.Statement.{statement}
 use Rattle.writer.proofs.write.Tie as tie
 
 -- What the judge has told.
-told : (c : tie.After-known-told) → weighedOf 999 (now (c .before .before .before .before .before .before .before .before .before .args .log)) ≡ Weighed.Done (c .before .totals .given .0 .0) (c .before .totals .given .0 .1 .0) (c .before .totals .given .0 .1 .1 .0)
+told : (c : tie.After-known-told) → weighedOf 999 (now (c .before .before .before .before .before .before .before .before .before .args .log)) ≡ Weighed.Done (c .before .totals .given .0 .0) (c .before .totals .given .0 .1 .0) (c .before .totals .given .0 .1 .1 .0) (c .before .totals .given .0 .1 .1 .1 .0)
 told c = sym (c .before .before .before .before .weigh .ensures .0) ∙ c .before .totals .given .1
 
 slice-aggregate-weigh : tie.Need-slice-aggregate-weigh
