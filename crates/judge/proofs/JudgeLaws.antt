@@ -149,7 +149,7 @@ module _ (s : Text) (room : ℕ) (points : List ℕ) where
 no-answer : {records first claims : ℕ} {r : Refusal} → ReadAnswer.Refused r ≡ ReadAnswer.Accepted records first claims → ⊥
 no-answer e = let z : _≡_ {A = ℕ} 0 1 = cc in omega arith
 
-not-weighed : {t : Totals} {records first claims : ℕ} {r : Refusal} → Weighed.Refused r ≡ Weighed.Done t records first claims → ⊥
+pub not-weighed : {t : Totals} {records first claims : ℕ} {r : Refusal} → Weighed.Refused r ≡ Weighed.Done t records first claims → ⊥
 not-weighed e = let z : _≡_ {A = ℕ} 0 1 = cc in omega arith
 
 module _ (s : Text) where

@@ -6,12 +6,11 @@ use mathlib.Core.Path.{_≡_}
 use mathlib.Core.Bool.{Bool, cond}
 use mathlib.Core.List.{List, [], _∷_}
 use lib.ListN.{length, take, drop}
-use Rattle.rules.specs.Text.{Text, bytes, allowed, span, same, value, numberOf}
+use Rattle.rules.specs.Text.{Text, allowed, span, same, value, numberOf}
 use Rattle.rules.specs.Rules.{base}
 use Rattle.rules.specs.Fields.{Qso, errorCall, newMark, isError}
 use Rattle.rules.specs.Arguments.{part, bonus, multiplier}
-use Rattle.rules.specs.Log.{Log}
-use Rattle.rules.specs.Judging.{claimsCountry, square, declared}
+use Rattle.rules.specs.Judging.{claimsCountry}
 use Rattle.fields.specs.Field.{textAt, endOf}
 use Rattle.rules.specs.Answers.{Viewing, seen, unseen, view}
 use Rattle.places.specs.declared.ViewRead.{ViewRead}

@@ -1,23 +1,20 @@
 -- Laws of the walk over the lines of a log: from each place on it tells what is told of the log.
 -- Assumes nothing.
-use Prim.Native.Nat.{ℕ, zero, suc, _+_, _-_, _≤_, _<_}
+use Prim.Native.Nat.{ℕ, _+_, _-_, _≤_}
 use native.Mathlib.Omega.{arith}
-use native.Mathlib.Decide.{decLt}
 use mathlib.Core.Path.{_≡_, refl, sym, ap, ap₂, _∙_}
-use mathlib.Core.Bool.{Bool, true, false, cond, not, _&&_, true≢false}
-use mathlib.Core.List.{List, [], _∷_, _++_, map}
+use mathlib.Core.Bool.{Bool, true, false, cond, not, _&&_}
+use mathlib.Core.List.{List, [], _∷_}
 use lib.Dec.{leb, ltb}
-use lib.ListN.{length, take, drop, length-drop, drop-of-length-le}
+use lib.ListN.{length, take, drop, length-drop}
 use lib.Seq.{length-take-le, drop-drop}
 use borrow.Author.Tests.{le-ltb, lt-ltb}
-use Rattle.rules.specs.declared.Refusal.{Refusal}
 use Rattle.rules.specs.declared.Due.{Due}
-use Rattle.rules.specs.declared.Due.the-variants as Due
 use Rattle.rules.specs.declared.Next.{Next}
 use Rattle.rules.specs.declared.Next.the-variants as Next
 use Rattle.rules.specs.Text.{Text, allowed, span, begins, empty}
 use Rattle.rules.specs.Rules.{base}
-use Rattle.rules.specs.Log.{Log, crlf}
+use Rattle.rules.specs.Log.{crlf}
 use Rattle.rules.specs.Reading.{Lines, FirstLine, aLine, noLine, firstLine, onFirstLine, lines, refusal, step}
 use Rattle.rules.proofs.Tests.{and-r}
 use Rattle.rules.proofs.LineLaws.{lines-law}

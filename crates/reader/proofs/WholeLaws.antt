@@ -5,7 +5,7 @@ use native.Mathlib.Omega.{arith}
 use native.Mathlib.Nat.{zero-add}
 use mathlib.Core.Path.{_≡_, refl, sym, ap, ap₂, _∙_}
 use mathlib.Core.Logic.{_⊎_, inl, inr}
-use mathlib.Core.Bool.{Bool, true, false, cond, not, true≢false}
+use mathlib.Core.Bool.{Bool, true, false, cond, true≢false}
 use mathlib.Core.List.{List, [], _∷_, _++_, map}
 use lib.Dec.{ltb}
 use lib.ListN.{length, length-append, length-drop, take, drop}
@@ -14,14 +14,14 @@ use Rattle.rules.specs.declared.Due.{Due}
 use Rattle.rules.specs.declared.Due.the-variants as Due
 use Rattle.rules.specs.declared.Next.{Next}
 use Rattle.rules.specs.declared.Next.the-variants as Next
-use Rattle.rules.specs.Text.{Text, same, begins, empty}
+use Rattle.rules.specs.Text.{Text, same, begins}
 use Rattle.rules.specs.Rules.{base}
 use Rattle.rules.specs.Arguments.{Entry, entries, meets}
 use Rattle.rules.specs.Log.{linesOf, ended, recordLine, keywordStart, countStart, identifier, remarksLine}
 use Rattle.rules.specs.Reading.{RecordRule, keeps, breaks, recordRule, recordsDue, whole, argumentOn, keywordLine, keywordDue, countRule, afterRecord, Reading, accepted, refused, refusal, lines, step, atRest, withLine, put, onNext, walk, read}
 use Rattle.rules.proofs.LineLaws.{lines-are}
 use Rattle.rules.proofs.LogLaws.{length-ended-more}
-use Rattle.rules.proofs.WalkLaws.{RecordsAre, records-are, log-is}
+use Rattle.rules.proofs.WalkLaws.{records-are, log-is}
 use Rattle.reader.specs.declared.Mark.{Mark}
 use Rattle.reader.specs.declared.ReadAnswer.{ReadAnswer}
 use Rattle.reader.specs.declared.ReadAnswer.the-variants as ReadAnswer

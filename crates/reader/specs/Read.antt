@@ -1,19 +1,16 @@
 -- What is answered of a log as a whole.
 -- Assumes nothing.
-use Prim.Native.Nat.{ℕ, _+_, _-_}
+use Prim.Native.Nat.{ℕ, _-_}
 use mathlib.Core.Bool.{Bool, true, false, cond}
-use mathlib.Core.List.{List, [], _∷_, map}
+use mathlib.Core.List.{map}
 use lib.Dec.{eqb}
 use lib.ListN.{length, take}
-use Rattle.rules.specs.declared.Refusal.{Refusal}
 use Rattle.rules.specs.declared.Due.{Due}
 use Rattle.rules.specs.declared.Due.the-variants.{Identifier, Keyword, Remarks, Remark, Record, End}
-use Rattle.rules.specs.declared.Next.{Next}
-use Rattle.rules.specs.declared.Next.the-variants.{Goes, Stops}
 use Rattle.rules.specs.Text.{Text}
 use Rattle.rules.specs.Rules.{base}
 use Rattle.rules.specs.Log.{Log, linesOf, ended, recordLine}
-use Rattle.rules.specs.Reading.{Reading, accepted, refused, refusal, step, read}
+use Rattle.rules.specs.Reading.{Reading, accepted, refused, refusal, read}
 use Rattle.reader.specs.declared.Mark.{Mark}
 use Rattle.reader.specs.declared.ReadAnswer.{ReadAnswer}
 use Rattle.reader.specs.declared.ReadAnswer.the-variants as ReadAnswer

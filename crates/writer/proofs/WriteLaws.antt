@@ -1,29 +1,25 @@
 -- From what was judged to what is answered: the result's text by its places is the log written back, and where it does not fit nothing is written.
 -- Assumes nothing.
-use Prim.Native.Nat.{ℕ, zero, suc, _+_, _-_, _≤_, _<_}
+use Prim.Native.Nat.{ℕ, _+_, _-_, _≤_, _<_}
 use native.Mathlib.Omega.{arith}
 use native.Mathlib.Nat.{zero-add}
 use mathlib.Core.Path.{_≡_, refl, sym, ap, ap₂, subst, _∙_}
-use mathlib.Core.Bool.{Bool, true, false, cond}
 use mathlib.Core.List.{List, [], _∷_, _++_, map}
-use mathlib.Core.Logic.{_⊎_, inl, inr}
-use lib.Dec.{ltb}
+use mathlib.Core.Logic.{_⊎_}
 use lib.ListN.{length, take, drop, length-append, length-take}
 use lib.Seq.{take-at}
 use lib.ListN.{length-map}
 use borrow.Author.Tests.{le-ltb}
 use Rattle.rules.specs.declared.Refusal.{Refusal}
 use Rattle.rules.specs.declared.Totals.{Totals}
-use Rattle.rules.specs.declared.Verdict.{Verdict}
 use Rattle.rules.specs.Text.{Text, digits}
 use Rattle.rules.specs.Rules.{base}
-use Rattle.rules.specs.Fields.{Qso}
 use Rattle.rules.specs.Arguments.{entries}
 use Rattle.rules.specs.Log.{Log, render, ended, countLine, valid}
 use Rattle.rules.specs.Judging.{verdicts, verdictNumber, verdictsOfLog, totalsOfLog}
-use Rattle.rules.specs.Writing.{writtenArguments, claims, writtenRecords, writtenBack}
+use Rattle.rules.specs.Writing.{writtenArguments, claims, writtenBack}
 use Rattle.rules.specs.Reading.{Reading, accepted, refused, refusal, read}
-use Rattle.rules.specs.Answers.{Judgement, judged, unjudged, judge, judgeReading, judgeLog, numbersOfJudgement, recordsOfReading, Writing, written, unwritten, write, writeReading, bytesOfWriting, over}
+use Rattle.rules.specs.Answers.{judged, judge, judgeReading, judgeLog, numbersOfJudgement, recordsOfReading, written, unwritten, write, writeReading, bytesOfWriting, over}
 use Rattle.rules.proofs.LogLaws.{front}
 use Rattle.rules.proofs.Tests.{so}
 use Rattle.rules.proofs.Format.{of-valid, accepted-exactly}
@@ -38,6 +34,7 @@ use Rattle.judge.specs.declared.Weighed.{Weighed}
 use Rattle.judge.specs.declared.Weighed.the-variants as Weighed
 use Rattle.judge.specs.Judge.{firstOf, claimsOf, weighedBy, weighedOf, verdictsAfterwards, pointsTold, pointsAfterwards}
 use Rattle.judge.proofs.WeighLaws.{length-places}
+use Rattle.judge.proofs.JudgeLaws.{not-weighed}
 use Rattle.writer.specs.declared.Wrote.the-variants as Wrote
 use Rattle.writer.specs.Written.{Puts}
 use Rattle.writer.specs.Written as Over
@@ -46,7 +43,11 @@ use Rattle.writer.specs.RecordText.{recordsText, RecordsLie}
 use Rattle.writer.specs.LogText.{wroteBy, wroteOf, writtenAfterwards, Writable}
 use Rattle.writer.proofs.ClaimsWritten.{claims-lie, head-written}
 use Rattle.writer.proofs.RecordsWritten.{records-written, records-lie}
-use Rattle.writer.proofs.WrittenLaws.{puts-room, puts-then}
+
+-- There are as many verdicts as records.
+as-many : (log : Log) → length (verdictsOfLog base log) ≡ length (log .records)
+unfolding verdictsOfLog
+as-many log = length-verdicts base (log .records)
 
 -- # A judged log
 
@@ -68,10 +69,6 @@ module _ {s : Text} {t : Totals} {first line : ℕ} {ps ns : List ℕ} (w : Writ
   places-are : ps ≡ pointsPlaces s (recordsStart s log) (length (log .records))
   places-are = w .places ∙ ap (λ (n : ℕ). pointsPlaces s n (length (log .records))) place-is
 
-  as-many : length (verdictsOfLog base log) ≡ length (log .records)
-  unfolding verdictsOfLog
-  as-many = length-verdicts base (log .records)
-
   -- The places of the claims and of the records.
   line-is : line ≡ lineStart s 27
   unfolding claimsOf
@@ -91,7 +88,7 @@ module _ {s : Text} {t : Totals} {first line : ℕ} {ps ns : List ℕ} (w : Writ
   same-many =
       ap length (w .verdicts)
       ∙ length-map (verdictsOfLog base log) verdictNumber
-      ∙ as-many
+      ∙ as-many log
       ∙ sym (ap length (w .places) ∙ length-places s first (length (log .records)))
 
   pub few : length ps ≤ 999
@@ -127,7 +124,7 @@ module _ {s : Text} {t : Totals} {first line : ℕ} {ps ns : List ℕ} (w : Writ
   unfolding writtenBack
   records-are =
       (λ i. recordsText s (place-is i) (places-are i) (w .verdicts i))
-      ∙ records-written s log (w .isRead) (verdictsOfLog base log) as-many
+      ∙ records-written s log (w .isRead) (verdictsOfLog base log) (as-many log)
 
   pub result-is : headText s first t ++ recordsText s first ps ns ≡ result
   result-is = ap₂ (λ (a b : Text). a ++ b) head-is records-are ∙ sym (rendered after)
@@ -186,9 +183,6 @@ front-over : (new slice : List ℕ) (n : ℕ) → n ≡ length new → take n (o
 unfolding over
 front-over new slice n e = take-at new (drop (length new) slice) n (sym e)
 
-not-done : {t : Totals} {records first claims : ℕ} {r : Refusal} → Weighed.Refused r ≡ Weighed.Done t records first claims → ⊥
-not-done e = let z : _≡_ {A = ℕ} 0 1 = cc in omega arith
-
 -- With room for 999 verdicts a log is refused by the judge only where it is refused by the reader.
 module _ (s : Text) (room : ℕ) (enough : 999 ≤ room) where
   judged-by : (log : Log) → read base s ≡ accepted log → judge base room s ≡ judged (totalsOfLog base log) (map verdictNumber (verdictsOfLog base log))
@@ -212,23 +206,13 @@ module _ (s : Text) (room : ℕ) (enough : 999 ≤ room) where
       where
         by : (x : Reading) → read base s ≡ x → (log : Log) × (read base s ≡ accepted log)
         by (accepted log) e = (log, e)
-        by (refused r) e = absurd (not-done {r = r} (sym (refused-by r e) ∙ h))
+        by (refused r) e = absurd (not-weighed {r = r} (sym (refused-by r e) ∙ h))
 
     abbrev known : Weighed.Done t n first claims ≡ Weighed.Done (totalsOfLog base (log-read .0)) (length ((log-read .0) .records)) (firstOf s (accepted (log-read .0))) (claimsOf (accepted (log-read .0)))
     known = sym h ∙ weighed-by (log-read .0) (log-read .1)
 
     many : n ≡ length ((log-read .0) .records)
     many = let e = known in cc
-
-    pub few-told : n ≤ 999
-    unfolding base
-    few-told =
-        let most = count-valid base (log-read .0) (accepted-exactly s (log-read .0) .0 (log-read .1) .0) in
-        omega (arith, many)
-
-    as-told : length (verdictsOfLog base (log-read .0)) ≡ length ((log-read .0) .records)
-    unfolding verdictsOfLog
-    as-told = length-verdicts base ((log-read .0) .records)
 
     numbers-are : (slice : List ℕ) {numbers : List ℕ} → length slice ≡ room → numbers ≡ verdictsAfterwards s slice → take n numbers ≡ map verdictNumber (verdictsOfLog base (log-read .0))
     unfolding numbersOfJudgement
@@ -237,7 +221,7 @@ module _ (s : Text) (room : ℕ) (enough : 999 ≤ room) where
         let new : List ℕ = map verdictNumber (verdictsOfLog base log) in
         let told : numbersOfJudgement (judge base (length slice) s) ≡ new = ap (λ (m : ℕ). numbersOfJudgement (judge base m s)) l ∙ ap numbersOfJudgement (judged-by log (log-read .1)) in
         ap (take n) (e ∙ ap (λ (x : List ℕ). over x slice) told)
-        ∙ front-over new slice n (many ∙ sym (length-map (verdictsOfLog base log) verdictNumber ∙ as-told))
+        ∙ front-over new slice n (many ∙ sym (length-map (verdictsOfLog base log) verdictNumber ∙ as-many log))
 
     places-told : (slice : List ℕ) {points : List ℕ} → points ≡ pointsAfterwards room s slice → take n points ≡ pointsPlaces s first n
     unfolding pointsTold
@@ -255,7 +239,7 @@ module _ (s : Text) (room : ℕ) (enough : 999 ≤ room) where
           length-take n numbers,
           many,
           length-map (verdictsOfLog base log) verdictNumber,
-          as-told,
+          as-many log,
         )
 
     pub many-points : (slice : List ℕ) {points : List ℕ} → points ≡ pointsAfterwards room s slice → n ≤ length points
@@ -283,7 +267,7 @@ module _ (s : Text) (room : ℕ) (enough : 999 ≤ room) where
     unread = by (read base s) refl
       where
         by : (x : Reading) → read base s ≡ x → read base s ≡ refused r
-        by (accepted log) e = absurd (not-done {r = r} (sym h ∙ weighed-by log e))
+        by (accepted log) e = absurd (not-weighed {r = r} (sym h ∙ weighed-by log e))
         by (refused q) e = let k : Weighed.Refused q ≡ Weighed.Refused r = sym (refused-by q e) ∙ h in let i : q ≡ r = cc in e ∙ ap refused i
 
     pub unread-answer : (slice : List ℕ) → Wrote.Refused r ≡ wroteOf (length slice) s

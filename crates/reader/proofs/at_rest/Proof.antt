@@ -1,14 +1,8 @@
-use native.Mathlib.Omega.{arith}
-use mathlib.Core.Path.{_≡_, refl, sym, ap, _∙_}
-use mathlib.Core.Bool.{true, false}
-use Prim.Native.Nat.{ℕ, _+_, _-_, _*_, _≤_, _<_}
-use lib.ListN.{length, drop, take, getD, set}
+use Prim.Native.Nat.{_-_}
 use Rattle.reader.specs.Read.{restTold}
 use borrow.Author.Needs.{needs}
 use Rattle.reader.proofs.at_rest.Statement.{statement}
 use Rattle.reader.proofs.at_rest.Tie as tie
-use Rattle.reader.proofs.at_rest.Reads as reads
-use Rattle.reader.proofs.at_rest.Lts as lts
 
 -- src/lib.rt:428:16
 enum-told : tie.Need-enum-told

@@ -1,9 +1,8 @@
 use borrow.Author.Needs.{needs}
 use native.Mathlib.Omega.{arith}
-use mathlib.Core.Path.{_≡_, refl, sym, ap, _∙_}
-use mathlib.Core.Bool.{true, false}
-use Prim.Native.Nat.{ℕ, _+_, _-_, _*_, _≤_, _<_}
-use lib.ListN.{length, drop, take, getD, set}
+use mathlib.Core.Path.{_≡_, sym, ap, _∙_}
+use Prim.Native.Nat.{_+_, _-_, _≤_}
+use lib.ListN.{length}
 use denote.Ref.{now}
 use Rattle.reader.specs.Read.{readOf}
 use Rattle.reader.specs.declared.Mark.{Mark}
@@ -11,12 +10,6 @@ use Rattle.reader.proofs.ReadLaws.{told, Stood, stood, told-rest, told-
 use Rattle.reader.proofs.WholeLaws.{read-starts, read-too-long}
 use Rattle.reader.proofs.read.Statement.{statement}
 use Rattle.reader.proofs.read.Tie as tie
-use Rattle.reader.proofs.read.Reads as reads
-use Rattle.reader.proofs.read.Lts as lts
-use Rattle.reader.proofs.at_rest.Reads as at-rest-reads
-use Rattle.reader.proofs.line_end.Reads as line-end-reads
-use Rattle.reader.proofs.noted.Reads as noted-reads
-use Rattle.reader.proofs.step.Reads as step-reads
 
 abbrev Inv-loop : tie.InvT-loop
 Inv-loop log due₀ mark₀ at₀ line₀ due mark at line =

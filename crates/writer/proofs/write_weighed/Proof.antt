@@ -1,10 +1,7 @@
 -- `writer::write_weighed` meets its contract: the result is measured, and where it fits the claims and the records are written one behind the other.
 -- Assumes nothing.
 use native.Mathlib.Omega.{arith}
-use mathlib.Core.Path.{_≡_}
 use mathlib.Core.Logic.{inl, inr}
-use Prim.Native.Nat.{_+_}
-use lib.ListN.{length}
 use denote.Ref.{now}
 use Rattle.writer.specs.ClaimsText.{claimNumbers}
 use Rattle.writer.specs.RecordText.{recordsText}
