@@ -186,7 +186,7 @@ fn next_line(s: &[u8], at: usize) -> usize
 }
 
 // The place of the line behind so many lines, or the log's end where there are not so many.
-pub fn line_start(s: &[u8], i: usize) -> usize
+fn line_start(s: &[u8], i: usize) -> usize
     ensures { λ r. ⌜ r ≡ min (lineStart (now (s .entry)) i) (length (now (s .entry))) ⌝ }
 {
     let mut at = 0;
