@@ -58,8 +58,9 @@ tailAt s at =
 -- What is told of the record that begins at a place: where its call, exchange, locator and points begin and end, what they are worth, and where
 -- the next record begins.
 unfoldable pub contactAt : Text → ℕ → Contact
-unfolding fieldStart endOf textAt same errorCall newMark valueBy numberOf span
+unfolding fieldStart endOf textAt same errorCall valueBy numberOf tailAt
 contactAt s at =
+    let tail = tailAt s (fieldStart s at 10) in
     record {
       call = fieldStart s at 2;
       callend = endOf s (fieldStart s at 2);
@@ -68,11 +69,11 @@ contactAt s at =
       locator = fieldStart s at 9;
       locatorend = endOf s (fieldStart s at 9);
       points = fieldStart s at 10;
-      pointsend = endOf s (fieldStart s at 10);
+      pointsend = tail .pointsend;
       worth = valueBy (numberOf 6) (textAt s (fieldStart s at 10));
       error = same (textAt s (fieldStart s at 2)) errorCall;
-      country = same (textAt s (fieldStart s at 13)) newMark;
-      next = fieldStart s at 14 + span allowed (drop (fieldStart s at 14) s) + 2;
+      country = tail .country;
+      next = tail .next;
     }
 
 -- Where the points begin of each of so many records, the first of which begins at a place.

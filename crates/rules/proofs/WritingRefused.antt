@@ -21,7 +21,8 @@ use Rattle.rules.specs.Demands.{WritingIsRefusedForLength}
 pub one-answer : {A : Type 0} {answer other promised : A} → answer ≡ promised → other ≡ promised → answer ≡ other
 one-answer p q = p ∙ sym q
 
-write-law : (room : ℕ) (s : Text) (log : Log) → read base s ≡ accepted log →
+-- What is answered for an accepted log.
+pub write-law : (room : ℕ) (s : Text) (log : Log) → read base s ≡ accepted log →
     write base room s
     ≡ cond (leb (length (render (writtenBack base log))) 65_535 && leb (length (render (writtenBack base log))) room) (written (render (writtenBack base log))) (unwritten (refusal 8 0 0))
 write-law room s log e = opened ∙ ap (writeReading base room) e ∙ law
@@ -66,12 +67,3 @@ writing-is-refused-for-length s log room e =
     let t = render (writtenBack base log) in
     let law = write-law room s log e in
     (λ q. which (length t) room t (sym law ∙ q), λ h. law ∙ either-way (length t) room t h)
-
--- Otherwise the result is written.
-pub writing-fits : (s : Text) (log : Log) (room : ℕ) → read base s ≡ accepted log →
-    length (render (writtenBack base log)) ≤ 65_535 →
-    length (render (writtenBack base log)) ≤ room →
-    write base room s ≡ written (render (writtenBack base log))
-writing-fits s log room e h k =
-    let t = render (writtenBack base log) in
-    write-law room s log e ∙ fits (length t) room t h k

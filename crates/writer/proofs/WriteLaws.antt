@@ -1,11 +1,12 @@
 -- From what was judged to what is answered: the result's text by its places is the log written back, and where it does not fit nothing is written.
 -- Assumes nothing.
-use Prim.Native.Nat.{ℕ, _+_, _-_, _≤_, _<_}
+use Prim.Native.Nat.{ℕ, _+_, _-_, _≤_}
 use native.Mathlib.Omega.{arith}
 use native.Mathlib.Nat.{zero-add}
+use mathlib.Core.Bool.{Bool, true, false, cond, _&&_}
+use lib.Dec.{leb}
 use mathlib.Core.Path.{_≡_, refl, sym, ap, ap₂, subst, _∙_}
 use mathlib.Core.List.{List, [], _∷_, _++_, map}
-use mathlib.Core.Logic.{_⊎_}
 use lib.ListN.{length, take, drop, length-append, length-take}
 use lib.Seq.{take-at}
 use lib.ListN.{length-map}
@@ -26,7 +27,7 @@ use Rattle.rules.proofs.Format.{of-valid, accepted-exactly}
 use Rattle.rules.proofs.ValidLogs.{count-valid}
 use Rattle.rules.proofs.Classes.{length-verdicts}
 use Rattle.rules.proofs.WrittenValid.{written-length}
-use Rattle.rules.proofs.WritingRefused.{writing-fits, writing-is-refused-for-length}
+use Rattle.rules.proofs.WritingRefused.{write-law}
 use Rattle.places.specs.Places.{lineStart, pointsPlaces}
 use Rattle.places.proofs.RecordsHeld.{recordsStart, header, records, rendered}
 use Rattle.places.proofs.HeaderHeld.{claims-line}
@@ -142,10 +143,19 @@ module _ {s : Text} {t : Totals} {first line : ℕ} {ps ns : List ℕ} (w : Writ
 
   -- # The answers
 
-  -- Where the result is too long, for a log or for the slice, nothing is written.
-  module _ (slice : List ℕ) (h : (65_535 < length result) ⊎ (length slice < length result)) where
+  -- Whether the result fits, for a log and for the slice.
+  abbrev tested : ℕ → Bool
+  tested room = leb (length result) 65_535 && leb (length result) room
+
+  -- The test is made of the length that was measured.
+  pub as-tested : (room n : ℕ) {b : Bool} → n ≡ length result → b ≡ (leb n 65_535 && leb n room) → b ≡ tested room
+  as-tested room n e f = f ∙ ap (λ (m : ℕ). leb m 65_535 && leb m room) e
+
+  -- Where it fails, nothing is written.
+  module _ (slice : List ℕ) (h : tested (length slice) ≡ false) where
     refuses : write base (length slice) s ≡ unwritten (refusal 8 0 0)
-    refuses = writing-is-refused-for-length s log (length slice) (w .isRead) .1 h
+    refuses =
+        write-law (length slice) s log (w .isRead) ∙ ap (λ (b : Bool). cond b (written result) (unwritten (refusal 8 0 0))) h
 
     pub refused-answer : Wrote.Refused (refusal 8 0 0) ≡ wroteOf (length slice) s
     unfolding wroteOf wroteBy
@@ -155,14 +165,15 @@ module _ {s : Text} {t : Totals} {first line : ℕ} {ps ns : List ℕ} (w : Writ
     unfolding bytesOfWriting over
     refused-slice = rw refuses
 
-  -- Otherwise the text that was put together is the answer.
-  module _ {slice slice' : List ℕ} {end : ℕ} (h : length result ≤ 65_535)
+  -- Where it holds, the text that was put together is the answer.
+  module _ {slice slice' : List ℕ} {end : ℕ} (h : tested (length slice) ≡ true)
       (p : Puts slice 0 (claimsText s first 0 line (claimNumbers t) ++ recordsText s first ps ns) slice' end) where
     put-result : Puts slice 0 result slice' end
     put-result = subst (λ (x : Text). Puts slice 0 x slice' end) whole-text p
 
     writes : write base (length slice) s ≡ written result
-    writes = writing-fits s log (length slice) (w .isRead) h (omega (arith, put-result .fits))
+    writes =
+        write-law (length slice) s log (w .isRead) ∙ ap (λ (b : Bool). cond b (written result) (unwritten (refusal 8 0 0))) h
 
     pub written-answer : Wrote.Length end ≡ wroteOf (length slice) s
     unfolding wroteOf wroteBy

@@ -4,6 +4,7 @@ ghost use mathlib.Core.Path.{_≡_};
 ghost use mathlib.Core.Bool.{_&&_};
 ghost use mathlib.Core.List.{List, [], _∷_};
 ghost use Prim.Native.Nat.{ℕ, _+_, _-_, _*_, _<_, _≤_};
+ghost use lib.Dec.{leb};
 ghost use lib.ListN.{length};
 ghost use Rattle.rules.specs.Text.{digits};
 ghost use Rattle.rules.specs.declared.Class.the-variants.{Credited, Duplicate};
@@ -359,6 +360,16 @@ pub enum Wrote {
     Refused(Refusal),
 }
 
+// A result of this length is no longer than a log may be, nor than the slice.
+fn result_fits(length: usize, room: usize) -> bool
+    ensures { λ r. ⌜ r ≡ (leb length 65_535 && leb length room) ⌝ }
+{
+    if 65535 < length {
+        return false;
+    }
+    length <= room
+}
+
 // A judged log, the first claim of which stands on the line that begins at `line`, is written back, if the slice has room for the result; otherwise
 // the slice is left as it is. The result is measured before its first byte is written.
 fn write_weighed(
@@ -387,14 +398,7 @@ fn write_weighed(
     ];
     let head = claims_length(log, first, line, &claims);
     let length = head + records_length(log, first, points, numbers);
-    if 65535 < length {
-        return Wrote::Refused(Refusal {
-            number: 8,
-            line: 0,
-            field: 0,
-        });
-    }
-    if out.len() < length {
+    if !result_fits(length, out.len()) {
         return Wrote::Refused(Refusal {
             number: 8,
             line: 0,
