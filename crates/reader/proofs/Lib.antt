@@ -6,3 +6,6 @@ pub mod StepLaws
 pub mod DueLaws
 pub mod ReadLaws
 pub mod WholeLaws
+pub mod PlaceLaws
+pub mod FieldsHeld
+pub mod RecordsHeld

@@ -2,3 +2,4 @@
 pub mod Line
 pub mod Record
 pub mod Read
+pub mod Contact

@@ -113,6 +113,22 @@ pub fn semicolons(line: &[u8]) -> usize
     n
 }
 
+// What is told of the record that begins at a place: where its parts begin and end, and what they say.
+pub struct Contact {
+    pub call: usize,
+    pub callend: usize,
+    pub exchange: usize,
+    pub exchangeend: usize,
+    pub locator: usize,
+    pub locatorend: usize,
+    pub points: usize,
+    pub pointsend: usize,
+    pub worth: u64,
+    pub error: bool,
+    pub country: bool,
+    pub end: usize,
+}
+
 // Whether a record keeps the rules, or which field breaks one; 0 for a wrong number of semicolons.
 pub enum RecordRead {
     Kept,
