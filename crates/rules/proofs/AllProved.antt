@@ -3,13 +3,13 @@
 use Rattle.rules.specs.Demands.{TheThreeDemands}
 use Rattle.rules.proofs.Refusals.{every-input, refused-with, refused-judging, refused-writing, refused-view}
 use Rattle.rules.proofs.Format.{accepted-exactly, accepted-format}
-use Rattle.rules.proofs.Classes.{four-counts-add-up, classes-as-defined}
+use Rattle.rules.proofs.Classes.{four-counts-add-up, calls-byte-for-byte, classes-as-defined}
 use Rattle.rules.proofs.Bounds.{total-is-bounded}
 use Rattle.rules.proofs.WritingLaws.{writing-changes, writing-keeps-points}
 use Rattle.rules.proofs.WritingStable.{writing-is-stable}
 use Rattle.rules.proofs.WritingRefused.{writing-is-refused-for-length}
 use Rattle.rules.proofs.Struck.{struck-is-accepted}
-use Rattle.rules.proofs.Falls.{striking-rule-for-any-sameness, striking-rule-for-the-base}
+use Rattle.rules.proofs.Falls.{striking-rule-for-any-home, striking-rule-for-the-base}
 use Rattle.rules.proofs.PremiseNeeded.{premise-is-needed}
 
 pub the-three-demands : TheThreeDemands
@@ -20,6 +20,7 @@ the-three-demands =
       aRefusalChangesNothing = record { judging = refused-judging; writing = refused-writing; viewing = refused-view };
       acceptedExactlyWhenWritten = accepted-exactly;
       acceptedExactlyWhenFormat = accepted-format;
+      callsAreComparedByteForByte = calls-byte-for-byte;
       classesAndMarksAsDefined = classes-as-defined;
       fourCountsAddUp = four-counts-add-up;
       totalIsBounded = total-is-bounded;
@@ -28,7 +29,7 @@ the-three-demands =
       writingBackIsStable = writing-is-stable;
       writingIsRefusedForLength = writing-is-refused-for-length;
       struckIsAccepted = struck-is-accepted;
-      strikingRuleForAnySameness = striking-rule-for-any-sameness;
+      strikingRuleForAnyHome = striking-rule-for-any-home;
       strikingRuleForTheBase = striking-rule-for-the-base;
       premiseIsNeeded = premise-is-needed;
     }

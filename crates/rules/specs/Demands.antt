@@ -16,7 +16,7 @@ use Rattle.rules.specs.Text.{Text, same, empty}
 use Rattle.rules.specs.Rules.{Rules, base}
 use Rattle.rules.specs.Fields.{Qso, isError}
 use Rattle.rules.specs.Log.{Log, valid, render, IsWrittenAs, FollowsTheFormat}
-use Rattle.rules.specs.Judging.{claimsPoints, square, claimsCountry, verdicts, multipliers, declared, verdictsOfLog, totalsOfLog, zeroTotals}
+use Rattle.rules.specs.Judging.{claimsPoints, sameCall, square, claimsCountry, verdicts, multipliers, declared, verdictsOfLog, totalsOfLog, zeroTotals}
 use Rattle.rules.specs.Writing.{writtenBack, unclaimed}
 use Rattle.rules.specs.Reading.{accepted, refused, refusal, lines, read}
 use Rattle.rules.specs.Answers.{unseen, view, startOfView, viewed, unjudged, judge, totalsOfJudgement, numbersOfJudgement, written, unwritten, write, bytesOfWriting, over}
@@ -115,7 +115,11 @@ SomeEarlierCredited R qs f j =
     (i : ℕ) × (i < j) × (classAt R qs i ≡ Credited) × T (f (qsoAt qs i) (qsoAt qs j))
 
 abbrev pub sameCallAs : Rules → Qso → Qso → Bool
-sameCallAs R e q = R .sameCall (e .call) (q .call)
+sameCallAs R e q = sameCall R (e .call) (q .call)
+
+-- "the same call, byte for byte"
+abbrev pub CallsAreComparedByteForByte : Type 0
+CallsAreComparedByteForByte = (call other : Text) → T (sameCall base call other) ↔ (call ≡ other)
 
 abbrev pub sameSquareAs : Qso → Qso → Bool
 sameSquareAs e q = same (square e) (square q)
@@ -197,7 +201,7 @@ WritingIsRefusedForLength =
     (write base room s ≡ unwritten (refusal 8 0 0))
     ↔ ((65_535 < length (render (writtenBack base log))) ⊎ (room < length (render (writtenBack base log))))
 
--- # Demand 3, over any sameness of calls
+-- # Demand 3, over any home part of a call
 
 -- "Strike any set of records from an accepted log and correct the count line": what is written so is accepted.
 abbrev pub StruckIsAccepted : Type 0
@@ -259,21 +263,15 @@ pub record StrikesCheaply (R : Rules) (log : Log) (struck : Places) : Type 0 whe
       ≤ (totalsOfLog R (strike struck log)) .total
       + struckWorth (declared log) struck (log .records) (verdictsOfLog R log) * multipliers (declared log)
 
--- The sameness of calls is an equivalence.
-pub record SamenessOfCalls (R : Rules) : Type 0 where
-  pub reflexive : (a : Text) → T (R .sameCall a a)
-  pub symmetric : (a b : Text) → T (R .sameCall a b) → T (R .sameCall b a)
-  pub transitive : (a b c : Text) → T (R .sameCall a b) → T (R .sameCall b c) → T (R .sameCall a c)
-
 abbrev pub StrikingRule : Rules → Type 0
 StrikingRule R =
     (log : Log) (struck : Places) →
     T (valid R log) →
     StrikesRightly R log struck × (DuplicatesClaimNothing R log → StrikesCheaply R log struck)
 
--- What is claimed: of any sameness of calls, and so of the base rules.
-abbrev pub StrikingRuleForAnySameness : Type 0
-StrikingRuleForAnySameness = (R : Rules) → SamenessOfCalls R → StrikingRule R
+-- What is claimed: whatever the home part of a call is, and so of the base rules.
+abbrev pub StrikingRuleForAnyHome : Type 0
+StrikingRuleForAnyHome = (R : Rules) → StrikingRule R
 
 abbrev pub StrikingRuleForTheBase : Type 0
 StrikingRuleForTheBase = StrikingRule base
@@ -295,6 +293,7 @@ pub record TheThreeDemands : Type 0 where
   pub aRefusalChangesNothing : ARefusalChangesNothing
   pub acceptedExactlyWhenWritten : AcceptedExactlyWhenWritten
   pub acceptedExactlyWhenFormat : AcceptedExactlyWhenFormat
+  pub callsAreComparedByteForByte : CallsAreComparedByteForByte
   pub classesAndMarksAsDefined : ClassesAndMarksAsDefined
   pub fourCountsAddUp : FourCountsAddUp
   pub totalIsBounded : TotalIsBounded
@@ -303,6 +302,6 @@ pub record TheThreeDemands : Type 0 where
   pub writingBackIsStable : WritingBackIsStable
   pub writingIsRefusedForLength : WritingIsRefusedForLength
   pub struckIsAccepted : StruckIsAccepted
-  pub strikingRuleForAnySameness : StrikingRuleForAnySameness
+  pub strikingRuleForAnyHome : StrikingRuleForAnyHome
   pub strikingRuleForTheBase : StrikingRuleForTheBase
   pub premiseIsNeeded : PremiseIsNeeded

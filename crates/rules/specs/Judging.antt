@@ -36,16 +36,20 @@ unfoldable pub claimsPoints : Qso → Bool
 unfolding value
 claimsPoints q = not (eqb (value (q .points)) 0)
 
+-- "has the same call, byte for byte": by the rules of document 01 the home part of a call is the call.
+abbrev pub sameCall : Rules → Text → Text → Bool
+sameCall R call other = same (R .home call) (R .home other)
+
 -- The class of a record after these credited ones:
 -- "Error: the call is ERROR."
 -- "Duplicate: otherwise, if some earlier credited record has the same call, byte for byte."
 -- "Void: otherwise, if points are 0."
 -- "Credited: otherwise."
 unfoldable pub classOf : Rules → List Qso → Qso → Class
-unfolding isError some claimsPoints
+unfolding isError some claimsPoints same
 classOf R credited q =
     cond (isError q) Error
-    (cond (some (λ e. R .sameCall (e .call) (q .call)) credited) Duplicate
+    (cond (some (λ e. sameCall R (e .call) (q .call)) credited) Duplicate
     (cond (claimsPoints q) Credited Void))
 
 -- "a square is the first four characters of the received locator"
