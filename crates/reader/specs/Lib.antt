@@ -3,3 +3,4 @@ pub mod Line
 pub mod Record
 pub mod Read
 pub mod Contact
+pub mod Noted
