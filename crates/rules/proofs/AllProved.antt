@@ -1,11 +1,14 @@
 -- The three demands, all of them: what `specs/Demands.antt` states is proved.
 -- Assumes nothing.
+use Rattle.rules.specs.Rules.{base}
 use Rattle.rules.specs.Demands.{TheThreeDemands}
 use Rattle.rules.proofs.Refusals.{every-input, refused-with, refused-judging, refused-writing, refused-view}
 use Rattle.rules.proofs.Format.{accepted-exactly, accepted-format}
 use Rattle.rules.proofs.Classes.{four-counts-add-up, calls-byte-for-byte, classes-as-defined}
+use Rattle.rules.proofs.TotalLaws.{totals-as-defined}
 use Rattle.rules.proofs.Bounds.{total-is-bounded}
-use Rattle.rules.proofs.WritingLaws.{writing-changes, writing-keeps-points}
+use Rattle.rules.proofs.WritingLaws.{writing-changes}
+use Rattle.rules.proofs.WritingSets.{writing-sets-the-named}
 use Rattle.rules.proofs.WritingStable.{writing-is-stable}
 use Rattle.rules.proofs.WritingRefused.{writing-is-refused-for-length}
 use Rattle.rules.proofs.Struck.{struck-is-accepted}
@@ -22,10 +25,11 @@ the-three-demands =
       acceptedExactlyWhenFormat = accepted-format;
       callsAreComparedByteForByte = calls-byte-for-byte;
       classesAndMarksAsDefined = classes-as-defined;
+      totalsAsDefined = totals-as-defined base;
       fourCountsAddUp = four-counts-add-up;
       totalIsBounded = total-is-bounded;
       writingChangesOnlyTheNamed = writing-changes;
-      writingKeepsPoints = writing-keeps-points;
+      writingSetsTheNamed = writing-sets-the-named base;
       writingBackIsStable = writing-is-stable;
       writingIsRefusedForLength = writing-is-refused-for-length;
       struckIsAccepted = struck-is-accepted;

@@ -24,4 +24,7 @@ pub mod WrittenClaims
 pub mod Bounds
 pub mod WritingStable
 pub mod WritingRefused
+pub mod WritingSets
+pub mod TotalLaws
+pub mod OneAnswer
 pub mod AllProved

@@ -1,5 +1,4 @@
--- Writing an accepted log back is refused 8 exactly where the result is too long; and, of any promise that is an equation, two answers that
--- meet it are equal.
+-- Writing an accepted log back is refused 8 exactly where the result is too long.
 -- Assumes nothing.
 use Prim.Native.Nat.{ℕ, _≤_, _<_}
 use native.Mathlib.Omega.{arith}
@@ -17,9 +16,6 @@ use Rattle.rules.specs.Writing.{writtenBack}
 use Rattle.rules.specs.Reading.{accepted, refusal, read}
 use Rattle.rules.specs.Answers.{Writing, written, unwritten, writeReading, write}
 use Rattle.rules.specs.Demands.{WritingIsRefusedForLength}
-
-pub one-answer : {A : Type 0} {answer other promised : A} → answer ≡ promised → other ≡ promised → answer ≡ other
-one-answer p q = p ∙ sym q
 
 -- What is answered for an accepted log.
 pub write-law : (room : ℕ) (s : Text) (log : Log) → read base s ≡ accepted log →

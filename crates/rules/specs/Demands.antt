@@ -1,22 +1,25 @@
 -- The three demands of document 00, sentence by sentence, as statements over the definitions. They are proved elsewhere; here one reads what
 -- is claimed. `A ↔ B` is "A exactly when B", `A ⊎ B` "A or B", `A → ⊥` "not A", `T b` "the test b holds".
 -- Assumes nothing.
-use Prim.Native.Nat.{ℕ, _+_, _*_, _≤_, _<_}
+use Prim.Native.Nat.{ℕ, zero, suc, _+_, _*_, _≤_, _<_}
+use Prim.Native.String.{String}
 use mathlib.Core.Path.{_≡_}
 use mathlib.Core.Logic.{_⊎_, _↔_}
-use mathlib.Core.Bool.{Bool, false, not}
-use mathlib.Core.List.{List, []}
+use mathlib.Core.Bool.{Bool, false, cond, not}
+use mathlib.Core.List.{List, [], _∷_}
 use lib.Dec.{T}
-use lib.ListN.{length, getD}
+use lib.ListN.{length, getD, take, drop}
 use Rattle.rules.specs.declared.Refusal.{Refusal}
 use Rattle.rules.specs.declared.Class.{Class}
 use Rattle.rules.specs.declared.Class.the-variants.{Credited, Void, Duplicate, Error}
 use Rattle.rules.specs.declared.Verdict.{Verdict}
-use Rattle.rules.specs.Text.{Text, same, empty}
+use Rattle.rules.specs.declared.Totals.{Totals}
+use Rattle.rules.specs.Text.{Text, bytes, same, empty, parts, value, digits}
 use Rattle.rules.specs.Rules.{Rules, base}
-use Rattle.rules.specs.Fields.{Qso, isError}
-use Rattle.rules.specs.Log.{Log, valid, render, IsWrittenAs, FollowsTheFormat}
-use Rattle.rules.specs.Judging.{claimsPoints, sameCall, square, claimsCountry, verdicts, multipliers, declared, verdictsOfLog, totalsOfLog, zeroTotals}
+use Rattle.rules.specs.Fields.{Qso, isError, fieldsOf}
+use Rattle.rules.specs.Arguments.{among}
+use Rattle.rules.specs.Log.{Log, argument, valid, render, IsWrittenAs, FollowsTheFormat}
+use Rattle.rules.specs.Judging.{Declared, is, claimsPoints, sameCall, square, claimsCountry, verdicts, multipliers, declared, verdictsOfLog, totalsOfLog, zeroTotals}
 use Rattle.rules.specs.Writing.{writtenBack, unclaimed}
 use Rattle.rules.specs.Reading.{accepted, refused, refusal, lines, read}
 use Rattle.rules.specs.Answers.{unseen, view, startOfView, viewed, unjudged, judge, totalsOfJudgement, numbersOfJudgement, written, unwritten, write, bytesOfWriting, over}
@@ -154,6 +157,51 @@ pub record AsTheDocumentDefines (R : Rules) (qs : List Qso) (j : ℕ) : Type 0 w
 abbrev pub ClassesAndMarksAsDefined : Type 0
 ClassesAndMarksAsDefined = (qs : List Qso) (j : ℕ) → j < length qs → AsTheDocumentDefines base qs j
 
+-- "and the total": the sum of a number over the first so many places, and how many of them pass a test.
+unfoldable pub sumOver : ℕ → (ℕ → ℕ) → ℕ
+sumOver zero f = 0
+sumOver (suc n) f = f 0 + sumOver n (λ j. f (suc j))
+
+abbrev pub howMany : ℕ → (ℕ → Bool) → ℕ
+howMany n test = sumOver n (λ j. cond (test j) 1 0)
+
+-- "So four counts, each defined over the list of records"; "Countries are counted by the claimed New-DXCC marks on credited records. P is the
+-- sum of credited points. A bonus is the number of new ones times the declared bonus. Total = (P + three bonuses) x the three declared
+-- multipliers of CWWLs, CExcs and CDXCs".
+pub record TotalsAre (R : Rules) (d : Declared) (qs : List Qso) (t : Totals) : Type 0 where
+  pub credited : t .credited ≡ howMany (length qs) (λ j. is Credited (classAt R qs j))
+  pub voids : t .voids ≡ howMany (length qs) (λ j. is Void (classAt R qs j))
+  pub duplicates : t .duplicates ≡ howMany (length qs) (λ j. is Duplicate (classAt R qs j))
+  pub errors : t .errors ≡ howMany (length qs) (λ j. is Error (classAt R qs j))
+  pub points :
+      t .points ≡ sumOver (length qs) (λ j. cond (is Credited (classAt R qs j)) (value ((qsoAt qs j) .points)) 0)
+  pub squares : t .squares ≡ howMany (length qs) (λ j. (verdictAt R qs j) .square)
+  pub exchanges : t .exchanges ≡ howMany (length qs) (λ j. (verdictAt R qs j) .exchange)
+  pub countries : t .countries ≡ howMany (length qs) (λ j. (verdictAt R qs j) .country)
+  pub squarebonus : t .squarebonus ≡ t .squares * d .squareBonus
+  pub exchangebonus : t .exchangebonus ≡ t .exchanges * d .exchangeBonus
+  pub countrybonus : t .countrybonus ≡ t .countries * d .countryBonus
+  pub total :
+      t .total
+      ≡ (t .points + t .squarebonus + t .exchangebonus + t .countrybonus)
+      * (d .squareMultiplier * d .exchangeMultiplier * d .countryMultiplier)
+
+-- "CWWLs, CExcs, CDXCs: count, bonus, multiplier"
+abbrev pub Declares : Log → String → ℕ → ℕ → Type 0
+Declares log keyword bonus multiplier =
+    (count second third : Text) →
+    parts (argument log (bytes keyword)) ≡ count ∷ second ∷ third ∷ [] →
+    (bonus ≡ value second) × (multiplier ≡ value third)
+
+pub record DeclaredIs (log : Log) (d : Declared) : Type 0 where
+  pub squares : Declares log "CWWLs" (d .squareBonus) (d .squareMultiplier)
+  pub exchanges : Declares log "CExcs" (d .exchangeBonus) (d .exchangeMultiplier)
+  pub countries : Declares log "CDXCs" (d .countryBonus) (d .countryMultiplier)
+
+abbrev pub TotalsAsDefined : Rules → Type 0
+TotalsAsDefined R =
+    (log : Log) → TotalsAre R (declared log) (log .records) (totalsOfLog R log) × DeclaredIs log (declared log)
+
 -- "So four counts .. add up to N", and "It is at most 998,404,684,715,196", of every log that is accepted.
 abbrev pub FourCountsAddUp : Type 0
 FourCountsAddUp =
@@ -168,16 +216,71 @@ abbrev pub TotalIsBounded : Type 0
 TotalIsBounded =
     (s : Text) (log : Log) → read base s ≡ accepted log → (totalsOfLog base log) .total ≤ 998_404_684_715_196
 
--- "Writing back changes only the claims, points and marks named there": without them the two logs are one; and the points change on
--- duplicates alone.
+-- "Writing back changes only the claims, points and marks named there": without them the two logs are one.
 abbrev pub WritingChangesOnlyTheNamed : Type 0
 WritingChangesOnlyTheNamed = (log : Log) → unclaimed (writtenBack base log) ≡ unclaimed log
 
-abbrev pub WritingKeepsPoints : Type 0
-WritingKeepsPoints =
-    (log : Log) (j : ℕ) →
-    (classAt base (log .records) j ≡ Duplicate → ⊥) →
-    (qsoAt ((writtenBack base log) .records) j) .points ≡ (qsoAt (log .records) j) .points
+-- And the named become what they are named to become. A text is the one where something holds, and else the other.
+abbrev pub IsWhere : Type 0 → Text → Text → Text → Type 0
+IsWhere P text one other = (P → text ≡ one) × ((P → ⊥) → text ≡ other)
+
+-- "In each record New-Exchange and New-WWL become the judged marks, New-DXCC is kept on credited records and emptied elsewhere, the last field
+-- is `D` exactly on duplicates, and a duplicate's points become 0"; the ten fields in front of them are copied.
+pub record RecordIsSet (v : Verdict) (before after : Qso) : Type 0 where
+  pub copied : take 10 (fieldsOf after) ≡ take 10 (fieldsOf before)
+  pub points : IsWhere (v .class ≡ Duplicate) (after .points) (bytes "0") (before .points)
+  pub newExchange : IsWhere (T (v .exchange)) (after .newExchange) (bytes "N") []
+  pub newSquare : IsWhere (T (v .square)) (after .newSquare) (bytes "N") []
+  pub newCountry : IsWhere (v .class ≡ Credited) (after .newCountry) (before .newCountry) []
+  pub duplicate : IsWhere (v .class ≡ Duplicate) (after .duplicate) (bytes "D") []
+
+-- A count becomes this number, and what stands behind it, bonus and multiplier, is kept; a whole claim becomes this number.
+abbrev pub CountBecomes : Log → Log → String → ℕ → Type 0
+CountBecomes before after keyword n =
+    parts (argument after (bytes keyword)) ≡ digits n ∷ drop 1 (parts (argument before (bytes keyword)))
+
+abbrev pub ClaimBecomes : Log → String → ℕ → Type 0
+ClaimBecomes after keyword n = argument after (bytes keyword) ≡ digits n
+
+-- "the counts in CQSOs, CWWLs, CExcs, CDXCs, and CQSOP, CWWLB, CExcB, CDXCB and CToSc, become the recomputed ones."
+pub record ClaimsAreSet (t : Totals) (before after : Log) : Type 0 where
+  pub contacts : CountBecomes before after "CQSOs" (t .credited)
+  pub points : ClaimBecomes after "CQSOP" (t .points)
+  pub squares : CountBecomes before after "CWWLs" (t .squares)
+  pub squarebonus : ClaimBecomes after "CWWLB" (t .squarebonus)
+  pub exchanges : CountBecomes before after "CExcs" (t .exchanges)
+  pub exchangebonus : ClaimBecomes after "CExcB" (t .exchangebonus)
+  pub countries : CountBecomes before after "CDXCs" (t .countries)
+  pub countrybonus : ClaimBecomes after "CDXCB" (t .countrybonus)
+  pub total : ClaimBecomes after "CToSc" (t .total)
+
+unfoldable pub theNine : List Text
+theNine =
+    bytes "CQSOs"
+    ∷ bytes "CQSOP"
+    ∷ bytes "CWWLs"
+    ∷ bytes "CWWLB"
+    ∷ bytes "CExcs"
+    ∷ bytes "CExcB"
+    ∷ bytes "CDXCs"
+    ∷ bytes "CDXCB"
+    ∷ bytes "CToSc"
+    ∷ []
+
+-- "Every byte is copied but these"
+pub record NamedAreSet (R : Rules) (before after : Log) : Type 0 where
+  pub claims : ClaimsAreSet (totalsOfLog R before) before after
+  pub otherArguments :
+      (keyword : Text) → T (not (among theNine keyword)) → argument after keyword ≡ argument before keyword
+  pub remarks : after .remarks ≡ before .remarks
+  pub asMany : length (after .records) ≡ length (before .records)
+  pub eachRecord :
+      (j : ℕ) →
+      j < length (before .records) →
+      RecordIsSet (verdictAt R (before .records) j) (qsoAt (before .records) j) (qsoAt (after .records) j)
+
+abbrev pub WritingSetsTheNamed : Rules → Type 0
+WritingSetsTheNamed R = (log : Log) → T (valid R log) → NamedAreSet R log (writtenBack R log)
 
 -- "and a log so written reads to the same classes and total and is written back unchanged."
 pub record WrittenReadsTheSame (log : Log) (t : Text) : Type 0 where
@@ -295,10 +398,11 @@ pub record TheThreeDemands : Type 0 where
   pub acceptedExactlyWhenFormat : AcceptedExactlyWhenFormat
   pub callsAreComparedByteForByte : CallsAreComparedByteForByte
   pub classesAndMarksAsDefined : ClassesAndMarksAsDefined
+  pub totalsAsDefined : TotalsAsDefined base
   pub fourCountsAddUp : FourCountsAddUp
   pub totalIsBounded : TotalIsBounded
   pub writingChangesOnlyTheNamed : WritingChangesOnlyTheNamed
-  pub writingKeepsPoints : WritingKeepsPoints
+  pub writingSetsTheNamed : WritingSetsTheNamed base
   pub writingBackIsStable : WritingBackIsStable
   pub writingIsRefusedForLength : WritingIsRefusedForLength
   pub struckIsAccepted : StruckIsAccepted
