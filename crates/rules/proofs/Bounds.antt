@@ -18,11 +18,11 @@ use Rattle.rules.specs.Fields.{Qso, isError, pointsRule, fieldRules}
 use Rattle.rules.specs.Arguments.{Rule, anything, countBonusMultiplier, Entry, entries, each, count, bonus, multiplier, part, meets}
 use Rattle.rules.specs.Log.{Log, argumentIn, argument, argumentRules, conjunction, recordRules, valid}
 use Rattle.rules.specs.Judging.{is, classOf, square, isNew, claimsCountry, verdictOf, creditedAfter, verdictsAfter, verdicts, countOf, creditedPoints, Declared, declared, multipliers, totalsOf, totals, totalsOfLog}
-use Rattle.rules.specs.Demands.{TotalIsBounded}
+use Rattle.rules.specs.Demands.{mostTotal, TotalIsBounded}
 use Rattle.rules.proofs.Tests.{so}
 use Rattle.rules.proofs.NumberLaws.{number-from, number-below}
 use Rattle.rules.proofs.Passing.{first, second}
-use Rattle.rules.proofs.Format.{accepted-exactly}
+use Rattle.rules.proofs.Format.{accepted-when-written}
 use Rattle.rules.proofs.Classes.{ofClass, length-verdictsAfter}
 use Rattle.rules.proofs.Distinct.{tally}
 use Rattle.rules.proofs.ValidLogs.{points-ruled, arguments-valid, count-valid, records-valid}
@@ -259,5 +259,10 @@ base-within log v =
       total = w .total;
     }
 
-pub total-is-bounded : TotalIsBounded
-total-is-bounded s log e = base-within log (accepted-exactly s log .0 e .0) .total
+pub total-is-bounded : (R : Rules) → TotalIsBounded R
+unfolding mostTotal
+total-is-bounded R s log e = log-within R log (accepted-when-written R s log .0 e .0) .total
+
+pub the-most-total : mostTotal base ≡ 998_404_684_715_196
+unfolding mostTotal base
+the-most-total = refl

@@ -48,17 +48,9 @@ module _ (R : Rules) where
   unfolding verdicts
   length-verdicts qs = length-verdictsAfter [] qs
 
-  pub four-counts : (log : Log) →
-      (totalsOfLog R log) .credited
-      + (totalsOfLog R log) .voids
-      + (totalsOfLog R log) .duplicates
-      + (totalsOfLog R log) .errors
-      ≡ length (log .records)
+  pub four-counts : FourCountsAddUp R
   unfolding totalsOfLog totals totalsOf
   four-counts log = counts-add-up (verdicts R (log .records)) ∙ length-verdicts (log .records)
-
-pub four-counts-add-up : FourCountsAddUp
-four-counts-add-up = four-counts base
 
 -- A class is another exactly when the test says so.
 pub is→equal : (a b : Class) → T (is a b) → b ≡ a
@@ -309,5 +301,5 @@ pub calls-byte-for-byte : CallsAreComparedByteForByte
 unfolding base
 calls-byte-for-byte call other = (same→equal call other, equal→same call other)
 
-pub classes-as-defined : ClassesAndMarksAsDefined
-classes-as-defined = as-defined base
+pub classes-as-defined : (R : Rules) → ClassesAndMarksAsDefined R
+classes-as-defined R = as-defined R

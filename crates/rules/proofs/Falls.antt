@@ -19,7 +19,7 @@ use Rattle.rules.specs.Arguments.{among}
 use Rattle.rules.specs.Log.{Log}
 use Rattle.rules.specs.Judging.{Declared, declared, multipliers, is, some, sameCall, classOf, claimsPoints, square, isNew, claimsCountry, verdictOf, creditedAfter, verdictsAfter, verdicts, verdictsOfLog, countOf, creditedPoints, totalsOf, totals, totalsOfLog}
 use Rattle.rules.specs.Striking.{Places, later, kept, strike, struckWorth}
-use Rattle.rules.specs.Demands.{DuplicatesClaimNothing, StrikesCheaply, StrikingRuleForAnyHome, StrikingRuleForTheBase}
+use Rattle.rules.specs.Demands.{DuplicatesClaimNothing, StrikesCheaply, StrikingRule}
 use Rattle.rules.proofs.Passing.{both, first, second, left, right, one-of, failed, equal-tests}
 use Rattle.rules.proofs.Classes.{is→equal, by-duplicate, by-credited}
 use Rattle.rules.proofs.Distinct.{tally, fresh, news, lost, news-fall, news-kept}
@@ -333,8 +333,5 @@ module _ (R : Rules) where
               (mul-le-mul-right (multipliers d) (sum-fall-is-bounded d struck qs));
         }
 
-pub striking-rule-for-any-home : StrikingRuleForAnyHome
-striking-rule-for-any-home R log struck v = (strikes-rightly R log struck v, strikes-cheaply R log struck)
-
-pub striking-rule-for-the-base : StrikingRuleForTheBase
-striking-rule-for-the-base = striking-rule-for-any-home base
+pub striking-rule : (R : Rules) → StrikingRule R
+striking-rule R log struck v = (strikes-rightly R log struck v, strikes-cheaply R log struck)

@@ -109,9 +109,11 @@ module _ (R : Rules) (s : Text) (log : Log) where
     λ w. read-as (of-valid R log (so (valid R log) (w .0))) (w .1),
   )
 
-pub accepted-exactly : AcceptedExactlyWhenWritten
+pub accepted-exactly : AcceptedExactlyWhenWritten base
 accepted-exactly s log = accepted-when-written base s log
 
-pub accepted-format : AcceptedExactlyWhenFormat
-accepted-format s =
-    (λ p. (p .0, accepted-exactly s (p .0) .0 (p .1)), λ p. (p .0, accepted-exactly s (p .0) .1 (p .1)))
+pub accepted-format : (R : Rules) → AcceptedExactlyWhenFormat R
+accepted-format R s = (
+  λ p. (p .0, accepted-when-written R s (p .0) .0 (p .1)),
+  λ p. (p .0, accepted-when-written R s (p .0) .1 (p .1)),
+)

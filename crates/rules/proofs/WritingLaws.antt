@@ -10,7 +10,7 @@ use Rattle.rules.specs.declared.Class.the-variants.{Credited, Void, Dupl
 use Rattle.rules.specs.declared.Verdict.{Verdict}
 use Rattle.rules.specs.declared.Totals.{Totals}
 use Rattle.rules.specs.Text.{Text, all, same, digits, parts, joined}
-use Rattle.rules.specs.Rules.{base}
+use Rattle.rules.specs.Rules.{Rules}
 use Rattle.rules.specs.Fields.{Qso}
 use Rattle.rules.specs.Arguments.{Entry, entries, every}
 use Rattle.rules.specs.Judging.{classNumber, is, zeroTotals, verdictsOfLog, totalsOfLog}
@@ -109,9 +109,9 @@ records-again [] qs = refl
 records-again (v ∷ vs) [] = refl
 records-again (v ∷ vs) (q ∷ qs) = ap {B = List Qso} (λ r. unclaimedRecord q ∷ r) (records-again vs qs)
 
-pub writing-changes : WritingChangesOnlyTheNamed
+pub writing-changes : (R : Rules) → WritingChangesOnlyTheNamed R
 unfolding unclaimed writtenBack
-writing-changes log =
+writing-changes R log =
     ap₂ (λ (ts : List Text) (qs : List Qso). record { arguments = ts; remarks = log .remarks; records = qs })
-    (arguments-again (claims digits (totalsOfLog base log)) (claims (λ n. []) zeroTotals) entries (log .arguments) (later-claims (λ n. []) (totalsOfLog base log) zeroTotals))
-    (records-again (verdictsOfLog base log) (log .records))
+    (arguments-again (claims digits (totalsOfLog R log)) (claims (λ n. []) zeroTotals) entries (log .arguments) (later-claims (λ n. []) (totalsOfLog R log) zeroTotals))
+    (records-again (verdictsOfLog R log) (log .records))

@@ -1,7 +1,7 @@
 -- The three demands of document 00, sentence by sentence, as statements over the definitions. They are proved elsewhere; here one reads what
 -- is claimed. `A ↔ B` is "A exactly when B", `A ⊎ B` "A or B", `A → ⊥` "not A", `T b` "the test b holds".
 -- Assumes nothing.
-use Prim.Native.Nat.{ℕ, zero, suc, _+_, _*_, _≤_, _<_}
+use Prim.Native.Nat.{ℕ, zero, suc, _+_, _*_, _-_, _^_, _≤_, _<_}
 use Prim.Native.String.{String}
 use mathlib.Core.Path.{_≡_}
 use mathlib.Core.Logic.{_⊎_, _↔_}
@@ -29,9 +29,9 @@ use Rattle.rules.specs.Striking.{Places, strike, placeAfter, struckWorth
 
 -- "Every input gets an answer." What is answered is a function of the text, of the keyword's number and of the slice, with no condition on
 -- them: "No caller has to check first." Of a text, the answer is the log that it is, or a refusal.
-abbrev pub EveryInputGetsAnAnswer : Type 0
-EveryInputGetsAnAnswer =
-    (s : Text) → ((log : Log) × (read base s ≡ accepted log)) ⊎ ((r : Refusal) × (read base s ≡ refused r))
+abbrev pub EveryInputGetsAnAnswer : Rules → Type 0
+EveryInputGetsAnAnswer R =
+    (s : Text) → ((log : Log) × (read R s ≡ accepted log)) ⊎ ((r : Refusal) × (read R s ≡ refused r))
 
 -- "A file that breaks the rules is refused with a number, a line and a field": 1 with no line and no field, where it is too long; otherwise 2
 -- to 6 with a line of the text, or the one that is missing behind them, and with a field, one of fifteen or none, in 5 alone.
@@ -41,47 +41,47 @@ pub record OfALine (lines : ℕ) (r : Refusal) : Type 0 where
   pub field : r .field ≤ 15
   pub inFiveAlone : (r .number ≡ 5 → ⊥) → r .field ≡ 0
 
-abbrev pub RefusedWithNumberLineField : Type 0
-RefusedWithNumberLineField =
+abbrev pub RefusedWithNumberLineField : Rules → Type 0
+RefusedWithNumberLineField R =
     (s : Text) (r : Refusal) →
-    read base s ≡ refused r →
-    (r ≡ refusal 1 0 0) ⊎ OfALine (length ((lines base s) .whole)) r
+    read R s ≡ refused r →
+    (r ≡ refusal 1 0 0) ⊎ OfALine (length ((lines R s) .whole)) r
 
 -- "the totals are then zero and lent memory is as it was handed over", of each call that can be refused.
-abbrev pub RefusedJudgingChangesNothing : Type 0
-RefusedJudgingChangesNothing =
+abbrev pub RefusedJudgingChangesNothing : Rules → Type 0
+RefusedJudgingChangesNothing R =
     (s : Text) (slice : List ℕ) (r : Refusal) →
-    judge base (length slice) s ≡ unjudged r →
-    (totalsOfJudgement (judge base (length slice) s) ≡ zeroTotals)
-    × (over (numbersOfJudgement (judge base (length slice) s)) slice ≡ slice)
+    judge R (length slice) s ≡ unjudged r →
+    (totalsOfJudgement (judge R (length slice) s) ≡ zeroTotals)
+    × (over (numbersOfJudgement (judge R (length slice) s)) slice ≡ slice)
 
-abbrev pub RefusedWritingChangesNothing : Type 0
-RefusedWritingChangesNothing =
+abbrev pub RefusedWritingChangesNothing : Rules → Type 0
+RefusedWritingChangesNothing R =
     (s : Text) (slice : List ℕ) (r : Refusal) →
-    write base (length slice) s ≡ unwritten r →
-    (length (bytesOfWriting (write base (length slice) s)) ≡ 0)
-    × (over (bytesOfWriting (write base (length slice) s)) slice ≡ slice)
+    write R (length slice) s ≡ unwritten r →
+    (length (bytesOfWriting (write R (length slice) s)) ≡ 0)
+    × (over (bytesOfWriting (write R (length slice) s)) slice ≡ slice)
 
-abbrev pub RefusedViewIsEmpty : Type 0
-RefusedViewIsEmpty =
+abbrev pub RefusedViewIsEmpty : Rules → Type 0
+RefusedViewIsEmpty R =
     (s : Text) (k : ℕ) (r : Refusal) →
-    view base k s ≡ unseen r →
-    (startOfView (view base k s) ≡ 0) × (viewed (view base k s) ≡ [])
+    view R k s ≡ unseen r →
+    (startOfView (view R k s) ≡ 0) × (viewed (view R k s) ≡ [])
 
 -- One statement of it: whatever is refused changes nothing and shows nothing.
-pub record ARefusalChangesNothing : Type 0 where
-  pub judging : RefusedJudgingChangesNothing
-  pub writing : RefusedWritingChangesNothing
-  pub viewing : RefusedViewIsEmpty
+pub record ARefusalChangesNothing (R : Rules) : Type 0 where
+  pub judging : RefusedJudgingChangesNothing R
+  pub writing : RefusedWritingChangesNothing R
+  pub viewing : RefusedViewIsEmpty R
 
 -- # Demand 2
 
 -- "A file is accepted exactly when it follows the format as document 01 fixes it", and it is read as the log that it is written from.
-abbrev pub AcceptedExactlyWhenWritten : Type 0
-AcceptedExactlyWhenWritten = (s : Text) (log : Log) → (read base s ≡ accepted log) ↔ IsWrittenAs base s log
+abbrev pub AcceptedExactlyWhenWritten : Rules → Type 0
+AcceptedExactlyWhenWritten R = (s : Text) (log : Log) → (read R s ≡ accepted log) ↔ IsWrittenAs R s log
 
-abbrev pub AcceptedExactlyWhenFormat : Type 0
-AcceptedExactlyWhenFormat = (s : Text) → ((log : Log) × (read base s ≡ accepted log)) ↔ FollowsTheFormat base s
+abbrev pub AcceptedExactlyWhenFormat : Rules → Type 0
+AcceptedExactlyWhenFormat R = (s : Text) → ((log : Log) × (read R s ≡ accepted log)) ↔ FollowsTheFormat R s
 
 -- The record and the verdict at a place of a list, the first of which is 0.
 abbrev pub qsoAt : List Qso → ℕ → Qso
@@ -154,8 +154,8 @@ pub record AsTheDocumentDefines (R : Rules) (qs : List Qso) (j : ℕ) : Type 0 w
       × (SomeEarlierCredited R qs sameExchangeAs j → ⊥))
   pub newCountry : T ((verdictAt R qs j) .country) ↔ ((classAt R qs j ≡ Credited) × T (claimsCountry (qsoAt qs j)))
 
-abbrev pub ClassesAndMarksAsDefined : Type 0
-ClassesAndMarksAsDefined = (qs : List Qso) (j : ℕ) → j < length qs → AsTheDocumentDefines base qs j
+abbrev pub ClassesAndMarksAsDefined : Rules → Type 0
+ClassesAndMarksAsDefined R = (qs : List Qso) (j : ℕ) → j < length qs → AsTheDocumentDefines R qs j
 
 -- "and the total": the sum of a number over the first so many places, and how many of them pass a test.
 unfoldable pub sumOver : ℕ → (ℕ → ℕ) → ℕ
@@ -202,23 +202,31 @@ abbrev pub TotalsAsDefined : Rules → Type 0
 TotalsAsDefined R =
     (log : Log) → TotalsAre R (declared log) (log .records) (totalsOfLog R log) × DeclaredIs log (declared log)
 
--- "So four counts .. add up to N", and "It is at most 998,404,684,715,196", of every log that is accepted.
-abbrev pub FourCountsAddUp : Type 0
-FourCountsAddUp =
+-- "So four counts .. add up to N", and "It is at most ..", of every log that is accepted.
+abbrev pub FourCountsAddUp : Rules → Type 0
+FourCountsAddUp R =
     (log : Log) →
-    (totalsOfLog base log) .credited
-    + (totalsOfLog base log) .voids
-    + (totalsOfLog base log) .duplicates
-    + (totalsOfLog base log) .errors
+    (totalsOfLog R log) .credited
+    + (totalsOfLog R log) .voids
+    + (totalsOfLog R log) .duplicates
+    + (totalsOfLog R log) .errors
     ≡ length (log .records)
 
-abbrev pub TotalIsBounded : Type 0
-TotalIsBounded =
-    (s : Text) (log : Log) → read base s ≡ accepted log → (totalsOfLog base log) .total ≤ 998_404_684_715_196
+-- The most that so many records can come to, each with the most points and all three bonuses at their most, times three multipliers.
+unfoldable pub mostTotal : Rules → ℕ
+mostTotal R =
+    (R .mostRecords * (10 ^ R .pointsDigits - 1)
+    + R .mostRecords * R .mostBonus
+    + R .mostRecords * R .mostBonus
+    + R .mostRecords * R .mostBonus)
+    * (R .mostMultiplier * R .mostMultiplier * R .mostMultiplier)
+
+abbrev pub TotalIsBounded : Rules → Type 0
+TotalIsBounded R = (s : Text) (log : Log) → read R s ≡ accepted log → (totalsOfLog R log) .total ≤ mostTotal R
 
 -- "Writing back changes only the claims, points and marks named there": without them the two logs are one.
-abbrev pub WritingChangesOnlyTheNamed : Type 0
-WritingChangesOnlyTheNamed = (log : Log) → unclaimed (writtenBack base log) ≡ unclaimed log
+abbrev pub WritingChangesOnlyTheNamed : Rules → Type 0
+WritingChangesOnlyTheNamed R = (log : Log) → unclaimed (writtenBack R log) ≡ unclaimed log
 
 -- And the named become what they are named to become. A text is the one where something holds, and else the other.
 abbrev pub IsWhere : Type 0 → Text → Text → Text → Type 0
@@ -283,35 +291,35 @@ abbrev pub WritingSetsTheNamed : Rules → Type 0
 WritingSetsTheNamed R = (log : Log) → T (valid R log) → NamedAreSet R log (writtenBack R log)
 
 -- "and a log so written reads to the same classes and total and is written back unchanged."
-pub record WrittenReadsTheSame (log : Log) (t : Text) : Type 0 where
-  pub reads : read base t ≡ accepted (writtenBack base log)
-  pub sameVerdicts : verdictsOfLog base (writtenBack base log) ≡ verdictsOfLog base log
-  pub sameTotals : totalsOfLog base (writtenBack base log) ≡ totalsOfLog base log
-  pub unchanged : (room : ℕ) → length t ≤ room → write base room t ≡ written t
+pub record WrittenReadsTheSame (R : Rules) (log : Log) (t : Text) : Type 0 where
+  pub reads : read R t ≡ accepted (writtenBack R log)
+  pub sameVerdicts : verdictsOfLog R (writtenBack R log) ≡ verdictsOfLog R log
+  pub sameTotals : totalsOfLog R (writtenBack R log) ≡ totalsOfLog R log
+  pub unchanged : (room : ℕ) → length t ≤ room → write R room t ≡ written t
 
-abbrev pub WritingBackIsStable : Type 0
-WritingBackIsStable =
+abbrev pub WritingBackIsStable : Rules → Type 0
+WritingBackIsStable R =
     (s : Text) (log : Log) (room : ℕ) (t : Text) →
-    read base s ≡ accepted log →
-    write base room s ≡ written t →
-    WrittenReadsTheSame log t
+    read R s ≡ accepted log →
+    write R room s ≡ written t →
+    WrittenReadsTheSame R log t
 
 -- An accepted log is refused 8 exactly where what it is written as is too long, for a log or for the slice.
-abbrev pub WritingIsRefusedForLength : Type 0
-WritingIsRefusedForLength =
+abbrev pub WritingIsRefusedForLength : Rules → Type 0
+WritingIsRefusedForLength R =
     (s : Text) (log : Log) (room : ℕ) →
-    read base s ≡ accepted log →
-    (write base room s ≡ unwritten (refusal 8 0 0))
-    ↔ ((65_535 < length (render (writtenBack base log))) ⊎ (room < length (render (writtenBack base log))))
+    read R s ≡ accepted log →
+    (write R room s ≡ unwritten (refusal 8 0 0))
+    ↔ ((R .longestLog < length (render (writtenBack R log))) ⊎ (room < length (render (writtenBack R log))))
 
--- # Demand 3, over any home part of a call
+-- # Demand 3, whatever the home part of a call is
 
 -- "Strike any set of records from an accepted log and correct the count line": what is written so is accepted.
-abbrev pub StruckIsAccepted : Type 0
-StruckIsAccepted =
+abbrev pub StruckIsAccepted : Rules → Type 0
+StruckIsAccepted R =
     (s : Text) (log : Log) (struck : Places) →
-    read base s ≡ accepted log →
-    read base (render (strike struck log)) ≡ accepted (strike struck log)
+    read R s ≡ accepted log →
+    read R (render (strike struck log)) ≡ accepted (strike struck log)
 
 -- The class that a record which is not struck has once the others are.
 abbrev pub classStruck : Rules → Log → Places → ℕ → Class
@@ -372,13 +380,6 @@ StrikingRule R =
     T (valid R log) →
     StrikesRightly R log struck × (DuplicatesClaimNothing R log → StrikesCheaply R log struck)
 
--- What is claimed: whatever the home part of a call is, and so of the base rules.
-abbrev pub StrikingRuleForAnyHome : Type 0
-StrikingRuleForAnyHome = (R : Rules) → StrikingRule R
-
-abbrev pub StrikingRuleForTheBase : Type 0
-StrikingRuleForTheBase = StrikingRule base
-
 -- The premise is needed: some accepted log has a total that rises by a strike.
 abbrev pub PremiseIsNeeded : Type 0
 PremiseIsNeeded =
@@ -390,22 +391,26 @@ PremiseIsNeeded =
 
 -- # All of it
 
-pub record TheThreeDemands : Type 0 where
-  pub everyInputGetsAnAnswer : EveryInputGetsAnAnswer
-  pub refusedWithNumberLineField : RefusedWithNumberLineField
-  pub aRefusalChangesNothing : ARefusalChangesNothing
-  pub acceptedExactlyWhenWritten : AcceptedExactlyWhenWritten
-  pub acceptedExactlyWhenFormat : AcceptedExactlyWhenFormat
+pub record TheThreeDemands (R : Rules) : Type 0 where
+  pub everyInputGetsAnAnswer : EveryInputGetsAnAnswer R
+  pub refusedWithNumberLineField : RefusedWithNumberLineField R
+  pub aRefusalChangesNothing : ARefusalChangesNothing R
+  pub acceptedExactlyWhenWritten : AcceptedExactlyWhenWritten R
+  pub acceptedExactlyWhenFormat : AcceptedExactlyWhenFormat R
+  pub classesAndMarksAsDefined : ClassesAndMarksAsDefined R
+  pub totalsAsDefined : TotalsAsDefined R
+  pub fourCountsAddUp : FourCountsAddUp R
+  pub totalIsBounded : TotalIsBounded R
+  pub writingChangesOnlyTheNamed : WritingChangesOnlyTheNamed R
+  pub writingSetsTheNamed : WritingSetsTheNamed R
+  pub writingBackIsStable : WritingBackIsStable R
+  pub writingIsRefusedForLength : WritingIsRefusedForLength R
+  pub struckIsAccepted : StruckIsAccepted R
+  pub strikingRule : StrikingRule R
+
+-- Of the base rules besides: "the same call, byte for byte", "It is at most 998,404,684,715,196", and that the premise is needed.
+pub record TheBaseKeepsThem : Type 0 where
+  pub theThreeDemands : TheThreeDemands base
   pub callsAreComparedByteForByte : CallsAreComparedByteForByte
-  pub classesAndMarksAsDefined : ClassesAndMarksAsDefined
-  pub totalsAsDefined : TotalsAsDefined base
-  pub fourCountsAddUp : FourCountsAddUp
-  pub totalIsBounded : TotalIsBounded
-  pub writingChangesOnlyTheNamed : WritingChangesOnlyTheNamed
-  pub writingSetsTheNamed : WritingSetsTheNamed base
-  pub writingBackIsStable : WritingBackIsStable
-  pub writingIsRefusedForLength : WritingIsRefusedForLength
-  pub struckIsAccepted : StruckIsAccepted
-  pub strikingRuleForAnyHome : StrikingRuleForAnyHome
-  pub strikingRuleForTheBase : StrikingRuleForTheBase
+  pub theMostTotal : mostTotal base ≡ 998_404_684_715_196
   pub premiseIsNeeded : PremiseIsNeeded
