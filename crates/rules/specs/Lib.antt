@@ -12,4 +12,7 @@ pub mod Striking
 pub mod Desk
 pub mod Demands
 pub mod Cases
+pub mod TableArguments
+pub mod TableFields
+pub mod TableLogs
 pub mod Table
