@@ -12,6 +12,7 @@ use Rattle.rules.specs.declared.Class.{Class}
 use Rattle.rules.specs.declared.Class.the-variants.{Credited, Void, Duplicate, Error}
 use Rattle.rules.specs.declared.Verdict.{Verdict}
 use Rattle.rules.specs.declared.Totals.{Totals}
+use Rattle.rules.specs.Rules.{Rules}
 use Rattle.rules.specs.Text.{value}
 use Rattle.rules.specs.Fields.{Qso}
 use Rattle.rules.specs.Judging.{classNumber, is, countOf, creditedPoints, multipliers, totalsOf, zeroTotals}
@@ -164,9 +165,9 @@ sums t (q ∷ qs) (v ∷ vs) e =
     }
 
 -- Closed with what is declared, they are the totals of document 01.
-pub closed-totals : (d : Declared) (qs : List Qso) (vs : List Verdict) → length vs ≡ length qs → closing (addRecords zeroTotals qs vs) d ≡ totalsOf (asDeclared d) qs vs
+pub closed-totals : (R : Rules) (d : Declared) (qs : List Qso) (vs : List Verdict) → length vs ≡ length qs → closing (addRecords zeroTotals qs vs) d ≡ totalsOf R (asDeclared d) qs vs
 unfolding closing totalsOf asDeclared multipliers zeroTotals
-closed-totals d qs vs e =
+closed-totals R d qs vs e =
     let h = sums zeroTotals qs vs e in
     let credited = h .credited ∙ add-zero (countOf (λ v. is Credited (v .class)) vs) in
     let voids = h .voids ∙ add-zero (countOf (λ v. is Void (v .class)) vs) in

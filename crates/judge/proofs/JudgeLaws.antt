@@ -120,8 +120,8 @@ module _ {s : Text} {records first claims : ℕ} (a : Accepts s records first cl
     totals-are w e f =
         f
         ∙ (λ i. closing (w .totals i) ((e ∙ claims-are) i))
-        ∙ closed-totals (declaredAt s (claimsStart log)) (recordsOf s) (verdicts base (recordsOf s)) (length-verdicts base (recordsOf s))
-        ∙ (λ i. totalsOf (declared-are i) (records-are i) (verdicts base (records-are i)))
+        ∙ closed-totals base (declaredAt s (claimsStart log)) (recordsOf s) (verdicts base (recordsOf s)) (length-verdicts base (recordsOf s))
+        ∙ (λ i. totalsOf base (declared-are i) (records-are i) (verdicts base (records-are i)))
 
     pub done : {t u : Totals} {d : Declared} {points slice' points' : List ℕ} → Weighs s first records slice points t slice' points' → d ≡ declaredAt s claims → u ≡ closing t d → Weighed.Done u records first claims ≡ weighedOf (length slice) s
     unfolding weighedOf weighedBy judge judgeReading judgeLog recordsOfReading

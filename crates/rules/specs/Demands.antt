@@ -19,7 +19,7 @@ use Rattle.rules.specs.Rules.{Rules, base}
 use Rattle.rules.specs.Fields.{Qso, isError, fieldsOf}
 use Rattle.rules.specs.Arguments.{among}
 use Rattle.rules.specs.Log.{Log, argument, valid, render, IsWrittenAs, FollowsTheFormat}
-use Rattle.rules.specs.Judging.{Declared, is, claimsPoints, sameCall, square, claimsCountry, verdicts, multipliers, declared, verdictsOfLog, totalsOfLog, zeroTotals}
+use Rattle.rules.specs.Judging.{Declared, is, claimsPoints, sameCall, square, exchangeOf, claimsCountry, verdicts, multipliers, declared, verdictsOfLog, totalsOfLog, zeroTotals}
 use Rattle.rules.specs.Writing.{writtenBack, unclaimed}
 use Rattle.rules.specs.Reading.{accepted, refused, refusal, lines, read}
 use Rattle.rules.specs.Answers.{unseen, view, startOfView, viewed, unjudged, judge, totalsOfJudgement, numbersOfJudgement, written, unwritten, write, bytesOfWriting, over}
@@ -127,8 +127,8 @@ CallsAreComparedByteForByte = (call other : Text) → T (sameCall base call othe
 abbrev pub sameSquareAs : Qso → Qso → Bool
 sameSquareAs e q = same (square e) (square q)
 
-abbrev pub sameExchangeAs : Qso → Qso → Bool
-sameExchangeAs e q = same (e .exchange) (q .exchange)
+abbrev pub sameExchangeAs : Rules → Qso → Qso → Bool
+sameExchangeAs R e q = same (exchangeOf R e) (exchangeOf R q)
 
 -- "Each record's class, each mark and the total are those the document defines": the classes and marks of the record at a place, in terms of
 -- the classes before it.
@@ -150,8 +150,8 @@ pub record AsTheDocumentDefines (R : Rules) (qs : List Qso) (j : ℕ) : Type 0 w
   pub newExchange :
       T ((verdictAt R qs j) .exchange)
       ↔ ((classAt R qs j ≡ Credited)
-      × T (not (empty ((qsoAt qs j) .exchange)))
-      × (SomeEarlierCredited R qs sameExchangeAs j → ⊥))
+      × T (not (empty (exchangeOf R (qsoAt qs j))))
+      × (SomeEarlierCredited R qs (sameExchangeAs R) j → ⊥))
   pub newCountry : T ((verdictAt R qs j) .country) ↔ ((classAt R qs j ≡ Credited) × T (claimsCountry (qsoAt qs j)))
 
 abbrev pub ClassesAndMarksAsDefined : Rules → Type 0

@@ -155,7 +155,7 @@ module _ {s : Text} {t : Totals} {first line : ℕ} {ps ns : List ℕ} (w : Writ
   module _ (slice : List ℕ) (h : tested (length slice) ≡ false) where
     refuses : write base (length slice) s ≡ unwritten (refusal 8 0 0)
     refuses =
-        write-law (length slice) s log (w .isRead) ∙ ap (λ (b : Bool). cond b (written result) (unwritten (refusal 8 0 0))) h
+        write-law base (length slice) s log (w .isRead) ∙ ap (λ (b : Bool). cond b (written result) (unwritten (refusal 8 0 0))) h
 
     pub refused-answer : Wrote.Refused (refusal 8 0 0) ≡ wroteOf (length slice) s
     unfolding wroteOf wroteBy
@@ -173,7 +173,7 @@ module _ {s : Text} {t : Totals} {first line : ℕ} {ps ns : List ℕ} (w : Writ
 
     writes : write base (length slice) s ≡ written result
     writes =
-        write-law (length slice) s log (w .isRead) ∙ ap (λ (b : Bool). cond b (written result) (unwritten (refusal 8 0 0))) h
+        write-law base (length slice) s log (w .isRead) ∙ ap (λ (b : Bool). cond b (written result) (unwritten (refusal 8 0 0))) h
 
     pub written-answer : Wrote.Length end ≡ wroteOf (length slice) s
     unfolding wroteOf wroteBy
