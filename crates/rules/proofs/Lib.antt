@@ -7,6 +7,7 @@ pub mod LogLaws
 pub mod WalkLaws
 pub mod Format
 pub mod Refusals
+pub mod GivenLines
 pub mod Struck
 pub mod WritingLaws
 pub mod WrittenValid
