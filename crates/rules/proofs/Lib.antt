@@ -8,6 +8,7 @@ pub mod WalkLaws
 pub mod Format
 pub mod Refusals
 pub mod GivenLines
+pub mod GivenStops
 pub mod Struck
 pub mod WritingLaws
 pub mod WrittenValid
