@@ -99,8 +99,11 @@ record Halts (R : Rules) (due : Due) (n : ℕ) (ls : List Text) (rest : Text) (r
   number : line ≡ n + length before
   halts : HaltsAt R last line behind rest r
 
-no-refusal : {A : Type 0} {r : Refusal} {log : Log} → accepted log ≡ refused r → A
+pub no-refusal : {A : Type 0} {r : Refusal} {log : Log} → accepted log ≡ refused r → A
 no-refusal e = let z : _≡_ {A = ℕ} 0 1 = cc in absurd (omega arith)
+
+pub same-refusal : {r q : Refusal} → refused r ≡ refused q → r ≡ q
+same-refusal e = cc
 
 module _ (R : Rules) where
   one-further : {due next : Due} {n : ℕ} {l : Text} {ls : List Text} {rest : Text} {r : Refusal} → step R due l ≡ Goes next → Halts R next (n + 1) ls rest r → Halts R due n (l ∷ ls) rest r

@@ -9,6 +9,7 @@ pub mod Format
 pub mod Refusals
 pub mod GivenLines
 pub mod GivenStops
+pub mod GivenRows
 pub mod Struck
 pub mod WritingLaws
 pub mod WrittenValid

@@ -151,7 +151,7 @@ module _ (R : Rules) where
   unfolding countRule
   count-at t n e = ap (λ (k : ℕ). cond (numberFrom 0 (R .mostRecords) (take k t) && same (drop k t) (bytes "]")) (Goes (recordsDue (value (take k t)))) (Stops 4 0)) e
 
-  count-goes : (m : ℕ) → leb m (R .mostRecords) ≡ true → countRule R (digits m ++ bytes "]") ≡ Goes (recordsDue m)
+  pub count-goes : (m : ℕ) → leb m (R .mostRecords) ≡ true → countRule R (digits m ++ bytes "]") ≡ Goes (recordsDue m)
   count-goes m e =
       let t = digits m ++ bytes "]" in
       let n : span digit t ≡ length (digits m) = span-run digit (digits m) 93 [] (digits-all m) refl in
