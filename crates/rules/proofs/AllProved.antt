@@ -1,7 +1,9 @@
 -- The three demands, all of them: what `specs/Demands.antt` states is proved.
 -- Assumes nothing.
+use Rattle.rules.specs.Rules.{base}
 use Rattle.rules.specs.Demands.{TheThreeDemands}
-use Rattle.rules.proofs.Refusals.{every-input, refused-with, refused-judging, refused-writing, refused-view}
+use Rattle.rules.proofs.Refusals.{every-input, refused-with, refused-reading, refused-judging, refused-writing, refused-view}
+use Rattle.rules.proofs.GivenCalls.{given-exactly-when, zero-when-accepted, line-and-field-told}
 use Rattle.rules.proofs.Format.{accepted-exactly, accepted-format}
 use Rattle.rules.proofs.Classes.{four-counts-add-up, classes-as-defined}
 use Rattle.rules.proofs.Bounds.{total-is-bounded}
@@ -17,7 +19,10 @@ the-three-demands =
     record {
       everyInputGetsAnAnswer = every-input;
       refusedWithNumberLineField = refused-with;
-      aRefusalChangesNothing = record { judging = refused-judging; writing = refused-writing; viewing = refused-view };
+      givenExactlyWhen = given-exactly-when base;
+      zeroWhenAccepted = zero-when-accepted base;
+      lineAndFieldToldRightly = line-and-field-told base;
+      aRefusalChangesNothing = record { reading = refused-reading; judging = refused-judging; writing = refused-writing; viewing = refused-view };
       acceptedExactlyWhenWritten = accepted-exactly;
       acceptedExactlyWhenFormat = accepted-format;
       classesAndMarksAsDefined = classes-as-defined;

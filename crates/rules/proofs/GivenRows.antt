@@ -349,56 +349,49 @@ end-six n (c ∷ rest) f = refl
 -- # The rows
 
 -- What stops reading at a line, by the table.
-pub data Row (R : Rules) (number field : ℕ) (due : Due) (rest : Text) : Type 0 where
-  two : number ≡ 2 → field ≡ 0 → HasNoEnd R due rest → Row R number field due rest
-  three : number ≡ 3 → field ≡ 0 → OfTheLine R IsNotTheLineDue due rest → Row R number field due rest
-  four : number ≡ 4 → field ≡ 0 → OfTheLine R (BreaksItsRule R) due rest → Row R number field due rest
-  five : number ≡ 5 → OfTheLine R (BreaksField R field) due rest → Row R number field due rest
-  six : number ≡ 6 → field ≡ 0 → EndsOrGoesOn due rest → Row R number field due rest
+pub data Row (R : Rules) (field : ℕ) (due : Due) (rest : Text) : ℕ → Type 0 where
+  two : field ≡ 0 → HasNoEnd R due rest → Row R field due rest 2
+  three : field ≡ 0 → OfTheLine R IsNotTheLineDue due rest → Row R field due rest 3
+  four : field ≡ 0 → OfTheLine R (BreaksItsRule R) due rest → Row R field due rest 4
+  five : OfTheLine R (BreaksField R field) due rest → Row R field due rest 5
+  six : field ≡ 0 → EndsOrGoesOn due rest → Row R field due rest 6
 
-module _ (R : Rules) (n number field : ℕ) (due : Due) (rest : Text) where
-  line-told : (l after : Text) → rest ≡ l ++ crlf ++ after → T (lineRule R l) → LineRow R due l number field → Row R number field due rest
+module _ (R : Rules) (n field : ℕ) (due : Due) (rest : Text) where
+  line-told : (number : ℕ) (l after : Text) → rest ≡ l ++ crlf ++ after → T (lineRule R l) → LineRow R due l number field → Row R field due rest number
   unfolding crlf
-  line-told l after t rule (another k z h) = three k z (l, after, t, rule, h)
-  line-told l after t rule (unruled k z h) = four k z (l, after, t, rule, h)
-  line-told l after t rule (badField k h) = five k (l, after, t, rule, h)
-  line-told l after t rule (tooMuch k z h) = six k z (inr (h, λ e. omega (arith, simp length-append at (ap length (sym t ∙ e)))))
+  line-told number l after t rule (another k z h) = rw k (three z (l, after, t, rule, h))
+  line-told number l after t rule (unruled k z h) = rw k (four z (l, after, t, rule, h))
+  line-told number l after t rule (badField k h) = rw k (five (l, after, t, rule, h))
+  line-told number l after t rule (tooMuch k z h) = rw k (six z (inr (h, λ e. omega (arith, simp length-append at (ap length (sym t ∙ e))))))
 
-  rest-told : NoLine R rest → RestRow due rest number field → Row R number field due rest
+  rest-told : (number : ℕ) → NoLine R rest → RestRow due rest number field → Row R field due rest number
   unfolding RestRow
-  rest-told none (inl (k, z, f, h)) = two k z (f, none, h)
-  rest-told none (inr (k, z, h)) = six k z h
+  rest-told number none (inl (k, z, f, h)) = rw k (two z (f, none, h))
+  rest-told number none (inr (k, z, h)) = rw k (six z h)
 
-  pub stopped-row : Left R due → Stopped R n number field due rest → Row R number field due rest
-  stopped-row left (byALine l after t rule e) = line-told l after t rule (line-row R due l number field left e)
-  stopped-row left (byTheRest none e) = rest-told none (rest-row n number field due rest e)
+  pub stopped-row : (number : ℕ) → Left R due → Stopped R n number field due rest → Row R field due rest number
+  stopped-row number left (byALine l after t rule e) = line-told number l after t rule (line-row R due l number field left e)
+  stopped-row number left (byTheRest none e) = rest-told number none (rest-row n number field due rest e)
 
-  -- The number and the field that are told are those of the row.
-  as-stops : (a b : ℕ) → number ≡ a → field ≡ b → Stops a b ≡ Stops number field
-  as-stops a b k z = cc
+  -- Where no field is told, it is 0.
+  no-field-stops : (number : ℕ) → field ≡ 0 → Stops number 0 ≡ Stops number field
+  no-field-stops number z = cc
 
-  as-refused : (a b : ℕ) → number ≡ a → field ≡ b → refused (refusal a n b) ≡ refused (refusal number n field)
-  as-refused a b k z = cc
+  no-field-refused : (number : ℕ) → field ≡ 0 → refused (refusal number n 0) ≡ refused (refusal number n field)
+  no-field-refused number z = cc
 
-  ends-stopped : (left : ℕ) → due ≡ Record left → rest ≡ [] → number ≡ 6 → field ≡ 0 → Stopped R n number field due rest
-  unfolding atRest
-  ends-stopped left d e k z = byTheRest (first-none R rest (rw e (first-of-none R))) (rw (d, e) (as-refused 6 0 k z))
-
-  goes-on-stopped : due ≡ End → (rest ≡ [] → ⊥) → number ≡ 6 → field ≡ 0 → Stopped R n number field due rest
-  unfolding step
-  goes-on-stopped d f k z = by (firstLine R rest) refl
+  six-stopped : EndsOrGoesOn due rest → field ≡ 0 → Stopped R n 6 field due rest
+  unfolding atRest step
+  six-stopped (inl (left, d, e)) z = byTheRest (first-none R rest (rw e (first-of-none R))) (rw (d, e) (no-field-refused 6 z))
+  six-stopped (inr (d, f)) z = by (firstLine R rest) refl
     where
-      by : (x : FirstLine) → firstLine R rest ≡ x → Stopped R n number field due rest
-      by noLine e = byTheRest (first-none R rest e) (rw d (end-six n rest f ∙ as-refused 6 0 k z))
-      by (aLine l after) e = let i = first-is R rest l after e in byALine l after (i .text) (holds (i .rule)) (rw d (as-stops 6 0 k z))
+      by : (x : FirstLine) → firstLine R rest ≡ x → Stopped R n 6 field due rest
+      by noLine e = byTheRest (first-none R rest e) (rw d (end-six n rest f ∙ no-field-refused 6 z))
+      by (aLine l after) e = let i = first-is R rest l after e in byALine l after (i .text) (holds (i .rule)) (rw d (no-field-stops 6 z))
 
-  six-stopped : EndsOrGoesOn due rest → number ≡ 6 → field ≡ 0 → Stopped R n number field due rest
-  six-stopped (inl (left, d, e)) k z = ends-stopped left d e k z
-  six-stopped (inr (d, f)) k z = goes-on-stopped d f k z
-
-  pub row-stopped : Row R number field due rest → Stopped R n number field due rest
-  row-stopped (two k z (f, none, h)) = byTheRest none (rest-two due n rest f h ∙ as-refused 2 0 k z)
-  row-stopped (three k z (l, after, t, rule, h)) = byALine l after t rule (not-due-stops R due l h ∙ as-stops 3 0 k z)
-  row-stopped (four k z (l, after, t, rule, h)) = byALine l after t rule (breaks-stops R due l h ∙ as-stops 4 0 k z)
-  row-stopped (five k (l, after, t, rule, h)) = byALine l after t rule (field-stops R due l field h ∙ as-stops 5 field k refl)
-  row-stopped (six k z h) = six-stopped h k z
+  pub row-stopped : {number : ℕ} → Row R field due rest number → Stopped R n number field due rest
+  row-stopped (two z (f, none, h)) = byTheRest none (rest-two due n rest f h ∙ no-field-refused 2 z)
+  row-stopped (three z (l, after, t, rule, h)) = byALine l after t rule (not-due-stops R due l h ∙ no-field-stops 3 z)
+  row-stopped (four z (l, after, t, rule, h)) = byALine l after t rule (breaks-stops R due l h ∙ no-field-stops 4 z)
+  row-stopped (five (l, after, t, rule, h)) = byALine l after t rule (field-stops R due l field h)
+  row-stopped (six z h) = six-stopped h z

@@ -10,6 +10,8 @@ pub mod Refusals
 pub mod GivenLines
 pub mod GivenStops
 pub mod GivenRows
+pub mod GivenRefusals
+pub mod GivenCalls
 pub mod Struck
 pub mod WritingLaws
 pub mod WrittenValid

@@ -19,7 +19,8 @@ use Rattle.rules.specs.Log.{Log, valid, render, IsWrittenAs, FollowsTheF
 use Rattle.rules.specs.Judging.{claimsPoints, square, claimsCountry, verdicts, multipliers, declared, verdictsOfLog, totalsOfLog, zeroTotals}
 use Rattle.rules.specs.Writing.{writtenBack, unclaimed}
 use Rattle.rules.specs.Reading.{accepted, refused, refusal, lines, read}
-use Rattle.rules.specs.Answers.{unseen, view, startOfView, viewed, unjudged, judge, totalsOfJudgement, numbersOfJudgement, written, unwritten, write, bytesOfWriting, over}
+use Rattle.rules.specs.Answers.{recordsOfReading, unseen, view, startOfView, viewed, unjudged, judge, totalsOfJudgement, numbersOfJudgement, written, unwritten, write, bytesOfWriting, over}
+use Rattle.rules.specs.Given.{GivenExactlyWhen, ZeroWhenAccepted, LineAndFieldToldRightly}
 use Rattle.rules.specs.Striking.{Places, strike, placeAfter, struckWorth}
 
 -- # Demand 1
@@ -65,8 +66,13 @@ RefusedViewIsEmpty =
     view base k s ≡ unseen r →
     (startOfView (view base k s) ≡ 0) × (viewed (view base k s) ≡ [])
 
+abbrev pub RefusedReadingHasNoRecords : Type 0
+RefusedReadingHasNoRecords =
+    (s : Text) (r : Refusal) → read base s ≡ refused r → recordsOfReading (read base s) ≡ 0
+
 -- One statement of it: whatever is refused changes nothing and shows nothing.
 pub record ARefusalChangesNothing : Type 0 where
+  pub reading : RefusedReadingHasNoRecords
   pub judging : RefusedJudgingChangesNothing
   pub writing : RefusedWritingChangesNothing
   pub viewing : RefusedViewIsEmpty
@@ -292,6 +298,9 @@ PremiseIsNeeded =
 pub record TheThreeDemands : Type 0 where
   pub everyInputGetsAnAnswer : EveryInputGetsAnAnswer
   pub refusedWithNumberLineField : RefusedWithNumberLineField
+  pub givenExactlyWhen : GivenExactlyWhen base
+  pub zeroWhenAccepted : ZeroWhenAccepted base
+  pub lineAndFieldToldRightly : LineAndFieldToldRightly base
   pub aRefusalChangesNothing : ARefusalChangesNothing
   pub acceptedExactlyWhenWritten : AcceptedExactlyWhenWritten
   pub acceptedExactlyWhenFormat : AcceptedExactlyWhenFormat
