@@ -23,7 +23,7 @@ use Rattle.rules.specs.Answers.{noRefusal, refusalOfReading, Viewing, se
 use Rattle.rules.specs.Given.{GivenByTheOthers, GivenExactlyWhen, LineAndField, ZeroWhenAccepted, LineAndFieldToldRightly}
 use Rattle.rules.proofs.Format.{accepted-when-written}
 use Rattle.rules.proofs.GivenLines.{keyword-after}
-use Rattle.rules.proofs.GivenRefusals.{numbered, placed, given-by-reading}
+use Rattle.rules.proofs.GivenRefusals.{no-place, numbered, placed, given-by-reading}
 
 -- A call that reads first: what it answers to a reading, and the one refusal of its own, of an accepted log that falls short of something.
 record Call (A : Type 0) : Type 1 where
@@ -109,12 +109,9 @@ module _ (R : Rules) (s : Text) {A : Type 0} (c : Call A) where
   rightly-placed : LineAndField (c .told (c .answer (read R s)))
   rightly-placed = by (read R s) refl
     where
-      none : (r : Refusal) → r .line ≡ 0 → r .field ≡ 0 → LineAndField r
-      none r k z = record { noLine = λ n. k; noField = λ n. z }
-
       own : (log : Log) → c .Fits log ⊎ c .Fails log → LineAndField (c .told (c .answer (accepted log)))
-      own log (inl h) = rw (c .fits log h) (none noRefusal (unfold noRefusal in refl) (unfold noRefusal in refl))
-      own log (inr h) = rw (c .fails log h, c .tells (refusal (c .number) 0 0)) (none (refusal (c .number) 0 0) refl refl)
+      own log (inl h) = rw (c .fits log h) (unfold noRefusal in no-place 0 (inl (omega arith)))
+      own log (inr h) = rw (c .fails log h, c .tells (refusal (c .number) 0 0)) (no-place (c .number) (inr (c .late)))
 
       by : (a : Reading) → read R s ≡ a → LineAndField (c .told (c .answer (read R s)))
       by (accepted log) g = rw g (own log (c .either log))
@@ -337,7 +334,7 @@ module _ (R : Rules) (k : ℕ) (s : Text) where
       by (inl (low, high)) =
           let m = named low high in
           rw (m .views) (rightly-placed R s (viewing-call k (m .entry) (m .others)))
-      by (inr h) = rw (beyond h) (record { noLine = λ n. refl; noField = λ n. refl })
+      by (inr h) = rw (beyond h) (no-place 9 (inr (omega arith)))
 
 -- # All of it
 

@@ -16,7 +16,7 @@ use Rattle.rules.specs.Text.{Text}
 use Rattle.rules.specs.Rules.{Rules}
 use Rattle.rules.specs.Log.{Log, render, IsWrittenAs, FollowsTheFormat}
 use Rattle.rules.specs.Reading.{lines, Reading, accepted, refused, refusal, read}
-use Rattle.rules.specs.Given.{AtLine, OfTheLine, EndsOrGoesOn, HasNoEnd, IsNotTheLineDue, BreaksItsRule, BreaksField, GivenByReading, LineAndField}
+use Rattle.rules.specs.Given.{AtLine, OfTheLine, EndsOrGoesOn, HasNoEnd, IsNotTheLineDue, BreaksItsRule, FirstBadField, BreaksField, GivenByReading, LineAndField}
 use Rattle.rules.proofs.Format.{byLine, read-law}
 use Rattle.rules.proofs.GivenLines.{front-left}
 use Rattle.rules.proofs.GivenStops.{same-refusal, refused-at, at-refused}
@@ -98,6 +98,25 @@ module _ (R : Rules) (field : ℕ) (due : Due) (rest : Text) where
   row-field (five h) k = absurd (k refl)
   row-field (six z h) k = z
 
+  bad-field-number : (l : Text) → FirstBadField R l field → field ≤ 15
+  bad-field-number l (inl (z, h)) = omega arith
+  bad-field-number l (inr (h, low, high, bad, earlier)) = high
+
+  row-fields : {number : ℕ} → Row R field due rest number → field ≤ 15
+  row-fields (two z h) = omega arith
+  row-fields (three z h) = omega arith
+  row-fields (four z h) = omega arith
+  row-fields (five (l, after, t, rule, (left, d, h))) = bad-field-number l h
+  row-fields (six z h) = omega arith
+
+-- A refusal, or none, with no line and no field.
+pub no-place : (number : ℕ) → (number ≤ 1) ⊎ (7 ≤ number) → LineAndField (refusal number 0 0)
+no-place number h = record { noLine = λ k. refl; aLine = λ k. absurd (apart h k); noField = λ k. refl; aField = omega arith }
+  where
+    apart : (number ≤ 1) ⊎ (7 ≤ number) → (2 ≤ number) × (number ≤ 6) → ⊥
+    apart (inl h) (low, high) = omega arith
+    apart (inr h) (low, high) = omega arith
+
 module _ (R : Rules) (s : Text) where
   one-when : (n f : ℕ) → (read R s ≡ refused (refusal 1 n f)) ↔ ((n ≡ 0) × (f ≡ 0) × (R .longestLog < length s))
   one-when n f = (λ e. by (which-row R s 1 n f e), λ p. let (k, z, h) = p in read-long R s h ∙ cc)
@@ -127,15 +146,19 @@ module _ (R : Rules) (s : Text) where
   pub placed : (r : Refusal) → read R s ≡ refused r → LineAndField r
   placed r e = by (which-row R s (r .number) (r .line) (r .field) e)
     where
-      line : (r .number ≡ 1) ⊎ (7 ≤ r .number) → (2 ≤ r .number) × (r .number ≤ 6) → r .line ≡ 0
-      line (inl k) h = omega (arith, h .0)
-      line (inr k) h = omega (arith, h .1)
+      no-line : (r .number ≤ 1) ⊎ (7 ≤ r .number) → (2 ≤ r .number) × (r .number ≤ 6) → r .line ≡ 0
+      no-line (inl k) h = omega (arith, h .0)
+      no-line (inr k) h = omega (arith, h .1)
 
       by : ((refusal 1 0 0 ≡ r) × (R .longestLog < length s)) ⊎ RowAt R s (r .number) (r .line) (r .field) → LineAndField r
-      by (inl (q, h)) =
-          record { noLine = λ k. sym (ap (λ (x : Refusal). x .line) q); noField = λ k. sym (ap (λ (x : Refusal). x .field) q) }
+      by (inl (q, h)) = rw (← q) (no-place 1 (inl (omega arith)))
       by (inr (due, rest, c, row)) =
-          record { noLine = λ k. line k (row-number R (r .field) due rest row); noField = row-field R (r .field) due rest row }
+          record {
+            noLine = λ k. no-line k (row-number R (r .field) due rest row);
+            aLine = λ k. omega (arith, c .number);
+            noField = row-field R (r .field) due rest row;
+            aField = row-fields R (r .field) due rest row;
+          }
 
 pub given-by-reading : (R : Rules) → GivenByReading R
 given-by-reading R =

@@ -187,10 +187,13 @@ pub record GivenExactlyWhen (R : Rules) : Type 0 where
 
 -- # What every call is told
 
--- "In 1, 7, 8, 9 and every number that is added later, line and field are 0; in 2, 3, 4 and 6 the field is 0."
+-- "In 1, 7, 8, 9 and every number that is added later, line and field are 0; in 2, 3, 4 and 6 the field is 0", and where nothing is refused
+-- both are. "Line numbers start at 1".
 pub record LineAndField (r : Refusal) : Type 0 where
-  pub noLine : (r .number ≡ 1) ⊎ (7 ≤ r .number) → r .line ≡ 0
+  pub noLine : (r .number ≤ 1) ⊎ (7 ≤ r .number) → r .line ≡ 0
+  pub aLine : (2 ≤ r .number) × (r .number ≤ 6) → 1 ≤ r .line
   pub noField : (r .number ≡ 5 → ⊥) → r .field ≡ 0
+  pub aField : r .field ≤ 15
 
 -- Number 0 says that nothing is refused: it is told exactly where the call is accepted.
 pub record ZeroWhenAccepted (R : Rules) : Type 0 where
