@@ -1,17 +1,16 @@
 -- What a caller in C may rely on: the refusal of each answer is the one of the definition, so what is proved of all calls holds of it.
 -- Assumes nothing.
-use Prim.Native.Nat.{ℕ, _≤_}
+use Prim.Native.Nat.{ℕ}
 use mathlib.Core.Path.{_≡_, refl}
-use mathlib.Core.Logic.{_↔_}
 use mathlib.Core.List.{List}
 use lib.ListN.{length}
 use Rattle.rules.specs.Text.{Text}
 use Rattle.rules.specs.Rules.{base}
 use Rattle.rules.specs.Judging.{zeroTotals}
 use Rattle.rules.specs.Reading.{Reading, accepted, refused, read}
-use Rattle.rules.specs.Answers.{noRefusal, refusalOfReading, recordsOfReading, Viewing, seen, unseen, view, refusalOfView, startOfView, viewed, Judgement, judged, unjudged, judge, refusalOfJudgement, totalsOfJudgement, numbersOfJudgement, Writing, written, unwritten, write, refusalOfWriting, bytesOfWriting, over}
+use Rattle.rules.specs.Answers.{Viewing, seen, unseen, view, Judgement, judged, unjudged, judge, numbersOfJudgement, Writing, written, unwritten, write, bytesOfWriting, over}
 use Rattle.rules.proofs.GivenCalls.{zero-when-accepted, line-and-field-told}
-use Rattle.pad.specs.Face.{refusalFace, readingFace, viewFace, totalsFace, judgementFace, writtenFace}
+use Rattle.pad.specs.Face.{readingFace, viewFace, totalsFace, judgementFace, writtenFace}
 use Rattle.pad.specs.Caller.{Accepts, ToldByRead, ToldByView, ToldByJudge, ToldByWrite, ForTheCaller}
 
 -- # What a refused call leaves

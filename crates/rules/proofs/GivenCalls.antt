@@ -1,13 +1,13 @@
 -- What the calls above reading are refused with: what reading is, and 7, 8 and 9 exactly when their rows of the table say; and that number 0
 -- is told exactly where a call is accepted. Over any rules.
 -- Assumes nothing.
-use Prim.Native.Nat.{ℕ, zero, suc, _+_, _-_, _≤_, _<_}
+use Prim.Native.Nat.{ℕ, _-_, _≤_, _<_}
 use mathlib.Core.Path.{_≡_, refl, sym, ap, _∙_}
 use mathlib.Core.Logic.{_⊎_, inl, inr, _↔_}
 use mathlib.Core.Bool.{Bool, true, false, cond, _&&_, and-false}
-use mathlib.Core.List.{List, [], _∷_, map}
+use mathlib.Core.List.{List, _∷_, map}
 use lib.Dec.{leb, ltb}
-use lib.ListN.{length, drop, drop-of-length-le}
+use lib.ListN.{length, drop-of-length-le}
 use native.Mathlib.Decide.{decLt}
 use native.Mathlib.Omega.{arith}
 use borrow.Author.Tests.{le-leb, lt-leb, le-ltb, lt-ltb}
@@ -19,7 +19,7 @@ use Rattle.rules.specs.Log.{Log, render, IsWrittenAs, FollowsTheFormat}
 use Rattle.rules.specs.Judging.{verdictNumber, verdictsOfLog, totalsOfLog}
 use Rattle.rules.specs.Writing.{writtenBack}
 use Rattle.rules.specs.Reading.{Reading, accepted, refused, refusal, read}
-use Rattle.rules.specs.Answers.{noRefusal, refusalOfReading, Viewing, seen, unseen, viewOfReading, view, refusalOfView, Judgement, judged, unjudged, judgeLog, judgeReading, judge, refusalOfJudgement, Writing, written, unwritten, writeLog, writeReading, write, refusalOfWriting}
+use Rattle.rules.specs.Answers.{noRefusal, refusalOfReading, Viewing, unseen, viewOfReading, view, refusalOfView, Judgement, judged, unjudged, judgeLog, judgeReading, judge, refusalOfJudgement, Writing, written, unwritten, writeLog, writeReading, write, refusalOfWriting}
 use Rattle.rules.specs.Given.{GivenByTheOthers, GivenExactlyWhen, LineAndField, ZeroWhenAccepted, LineAndFieldToldRightly}
 use Rattle.rules.proofs.Format.{accepted-when-written}
 use Rattle.rules.proofs.GivenLines.{keyword-after}

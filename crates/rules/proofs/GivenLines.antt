@@ -3,23 +3,21 @@
 -- Assumes nothing.
 use Prim.Native.Nat.{ℕ, zero, suc, _+_, _-_, _≤_, _<_}
 use mathlib.Core.Path.{_≡_, refl, sym, ap, ap₂, subst, subst₂, _∙_}
-use mathlib.Core.Bool.{Bool, true, false, cond, _&&_}
+use mathlib.Core.Bool.{Bool, true, false}
 use mathlib.Core.List.{List, [], _∷_, _++_, map, append-assoc, append-nil}
-use lib.Dec.{T, leb}
 use lib.ListN.{length, take, drop, getD, length-append, length-drop, take-append-drop}
-use lib.Seq.{drop-cons, length-take-le, take-add, take-all}
+use lib.Seq.{drop-cons, length-take-le, take-add}
 use native.Mathlib.Omega.{arith}
 use borrow.Author.Tests.{leb-true, le-leb}
 use Rattle.rules.specs.declared.Due.{Due}
 use Rattle.rules.specs.declared.Due.the-variants.{Identifier, Keyword, Remarks, Remark, Record, End}
-use Rattle.rules.specs.declared.Next.{Next}
-use Rattle.rules.specs.declared.Next.the-variants.{Goes, Stops}
+use Rattle.rules.specs.declared.Next.the-variants.{Goes}
 use Rattle.rules.specs.Text.{Text, begins, parts}
 use Rattle.rules.specs.Rules.{Rules}
 use Rattle.rules.specs.Fields.{Qso, qsoOf, fieldRules}
 use Rattle.rules.specs.Arguments.{anything, Entry, entries, meets, every}
 use Rattle.rules.specs.Log.{identifier, remarksLine, countStart, countLine, keywordStart, keywordLines, recordLine, argumentRules, remarkRule, conjunction, recordRules}
-use Rattle.rules.specs.Reading.{keeps, recordRule, recordsDue, argumentOn, step}
+use Rattle.rules.specs.Reading.{recordsDue, argumentOn, step}
 use Rattle.rules.specs.Given.{headLines, Front, noLines, keywordsSoFar, allKeywords, remarksSoFar, recordsSoFar, IsKeywordAfter}
 use Rattle.rules.proofs.Tests.{so, holds, never, and-l, and-r, and-i, not-false}
 use Rattle.rules.proofs.FieldLaws.{record-kept, record-is}

@@ -1,12 +1,10 @@
 -- The refusals 1 to 6 of reading, each given exactly when its row of the table says, over any rules.
 -- Assumes nothing.
-use Prim.Native.Nat.{ℕ, zero, suc, _+_, _-_, _≤_, _<_}
+use Prim.Native.Nat.{ℕ, _≤_, _<_}
 use mathlib.Core.Path.{_≡_, refl, sym, ap, _∙_}
 use mathlib.Core.Logic.{_⊎_, inl, inr, _↔_}
-use mathlib.Core.Bool.{Bool, true, false, cond, _&&_}
-use mathlib.Core.List.{List, [], _∷_}
-use lib.Dec.{leb, ltb}
-use lib.ListN.{length, drop}
+use mathlib.Core.Bool.{Bool, cond}
+use lib.ListN.{length}
 use native.Mathlib.Decide.{decLt}
 use native.Mathlib.Omega.{arith}
 use borrow.Author.Tests.{lt-ltb}
@@ -14,8 +12,7 @@ use Rattle.rules.specs.declared.Refusal.{Refusal}
 use Rattle.rules.specs.declared.Due.{Due}
 use Rattle.rules.specs.Text.{Text}
 use Rattle.rules.specs.Rules.{Rules}
-use Rattle.rules.specs.Log.{Log, render, IsWrittenAs, FollowsTheFormat}
-use Rattle.rules.specs.Reading.{lines, Reading, accepted, refused, refusal, read}
+use Rattle.rules.specs.Reading.{lines, refused, refusal, read}
 use Rattle.rules.specs.Given.{AtLine, OfTheLine, EndsOrGoesOn, HasNoEnd, IsNotTheLineDue, BreaksItsRule, FirstBadField, BreaksField, GivenByReading, LineAndField}
 use Rattle.rules.proofs.Format.{byLine, read-law}
 use Rattle.rules.proofs.GivenLines.{front-left}

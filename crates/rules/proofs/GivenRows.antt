@@ -21,7 +21,7 @@ use Rattle.rules.specs.Fields.{qsoOf, fieldRules}
 use Rattle.rules.specs.Arguments.{Entry, entries, meets}
 use Rattle.rules.specs.Log.{identifier, remarksLine, countStart, countLine, keywordStart, crlf, lineRule}
 use Rattle.rules.specs.Reading.{FirstLine, aLine, noLine, firstLine, RecordRule, keeps, breaks, firstBroken, recordRule, recordsDue, whole, argumentOn, keywordLine, countRule, afterRecord, step, refused, refusal, atRest}
-use Rattle.rules.specs.Given.{OfTheLine, EndsOrGoesOn, HasNoEnd, IsKeywordAfter, IsNotTheLineDue, BreaksItsRule, FieldKeeps, FirstBadField, BreaksField}
+use Rattle.rules.specs.Given.{OfTheLine, EndsOrGoesOn, HasNoEnd, IsNotTheLineDue, BreaksItsRule, FirstBadField, BreaksField}
 use Rattle.rules.proofs.Tests.{so, holds, fails, clash}
 use Rattle.rules.proofs.TextLaws.{same-eq, same-of-eq, begins-front, begins-split}
 use Rattle.rules.proofs.LineLaws.{first-of-none, first-is}

@@ -29,21 +29,26 @@ headLines arguments remarks = identifier ∷ keywordLines entries arguments ++ r
 -- The lines at the front of a log, each right as it is due, and what is due behind them. "In order: `[REG1TEST;1]`; the 36 keyword lines ..;
 -- `[Remarks]`; zero or more remark lines; `[QSORecords;N]`; N records; nothing more."
 pub data Front (R : Rules) : List Text → Due → Type 0 where
+  -- no line yet: the identifier is due
   noLines : Front R [] Identifier
+  -- the identifier and k keyword lines, whose arguments keep their rules: the next keyword is due
   keywordsSoFar :
       (k : ℕ) (arguments : List Text) →
       k < length entries →
       T (argumentRules R (take k entries) arguments) →
       Front R (identifier ∷ keywordLines (take k entries) arguments) (Keyword k)
+  -- all of them: `[Remarks]` is due
   allKeywords :
       (arguments : List Text) →
       T (argumentRules R entries arguments) →
       Front R (identifier ∷ keywordLines entries arguments) Remarks
+  -- `[Remarks]` and remark lines, none of which begins as the count line does: another, or the count line, is due
   remarksSoFar :
       (arguments remarks : List Text) →
       T (argumentRules R entries arguments) →
       T (every remarkRule remarks) →
       Front R (headLines arguments remarks) Remark
+  -- the count line and as many of its N records, which keep their rules, as leave so many due: after the last nothing more is
   recordsSoFar :
       (arguments remarks : List Text) (records : List Qso) (left : ℕ) →
       T (argumentRules R entries arguments) →
@@ -118,7 +123,8 @@ BreaksItsRule R End l = ⊥
 abbrev pub FieldKeeps : Rules → Text → ℕ → Type 0
 FieldKeeps R l f = T (getD (fieldRules R (qsoOf (parts l))) (f - 1) false)
 
--- 5: "a record breaks a rule: field 0 for a wrong number of semicolons, else the first bad field, 1 to 15"
+-- 5: "a record breaks a rule: field 0 for a wrong number of semicolons, else the first bad field, 1 to 15". Fourteen semicolons make fifteen
+-- parts.
 abbrev pub FirstBadField : Rules → Text → ℕ → Type 0
 FirstBadField R l f =
     ((f ≡ 0) × (length (parts l) ≡ 15 → ⊥))
