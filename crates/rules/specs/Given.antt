@@ -76,6 +76,10 @@ abbrev pub OfTheLine : Rules → (Due → Text → Type 0) → Due → Text → 
 OfTheLine R Fault due rest =
     (l : Text) × (after : Text) × (rest ≡ l ++ crlf ++ after) × T (lineRule R l) × Fault due l
 
+-- No line is there.
+abbrev pub NoLine : Rules → Text → Type 0
+NoLine R rest = (l after : Text) → T (lineRule R l) → rest ≡ l ++ crlf ++ after → ⊥
+
 -- # The rows of the table
 
 -- 6: "the log ends where a record line is due to begin, or goes on after the last"
@@ -85,10 +89,7 @@ EndsOrGoesOn due rest =
 
 -- 2: "the line due has no CR LF after at most 75 allowed characters, but see 6"
 abbrev pub HasNoEnd : Rules → Due → Text → Type 0
-HasNoEnd R due rest =
-    (due ≡ End → ⊥)
-    × ((l after : Text) → T (lineRule R l) → rest ≡ l ++ crlf ++ after → ⊥)
-    × (EndsOrGoesOn due rest → ⊥)
+HasNoEnd R due rest = (due ≡ End → ⊥) × NoLine R rest × (EndsOrGoesOn due rest → ⊥)
 
 -- The keyword that comes after k others.
 abbrev pub IsKeywordAfter : ℕ → Entry → Type 0
