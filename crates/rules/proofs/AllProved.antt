@@ -7,8 +7,9 @@ use Rattle.rules.proofs.Bounds.{total-is-bounded, the-most-total}
 use Rattle.rules.proofs.Classes.{four-counts, calls-byte-for-byte, classes-as-defined}
 use Rattle.rules.proofs.Falls.{striking-rule}
 use Rattle.rules.proofs.Format.{accepted-when-written, accepted-format}
+use Rattle.rules.proofs.GivenCalls.{given-exactly-when, zero-when-accepted, line-and-field-told}
 use Rattle.rules.proofs.PremiseNeeded.{premise-is-needed}
-use Rattle.rules.proofs.Refusals.{every-input, refused-with, refused-judging, refused-writing, refused-view}
+use Rattle.rules.proofs.Refusals.{every-input, refused-with, refused-reading, refused-judging, refused-writing, refused-view}
 use Rattle.rules.proofs.Struck.{struck-is-accepted}
 use Rattle.rules.proofs.TotalLaws.{totals-as-defined}
 use Rattle.rules.proofs.WritingLaws.{writing-changes}
@@ -21,8 +22,16 @@ of-any-rules R room =
     record {
       everyInputGetsAnAnswer = every-input R;
       refusedWithNumberLineField = refused-with R;
+      givenExactlyWhen = given-exactly-when R;
+      zeroWhenAccepted = zero-when-accepted R;
+      lineAndFieldToldRightly = line-and-field-told R;
       aRefusalChangesNothing =
-          record { judging = refused-judging R; writing = refused-writing R; viewing = refused-view R };
+          record {
+            reading = refused-reading R;
+            judging = refused-judging R;
+            writing = refused-writing R;
+            viewing = refused-view R;
+          };
       acceptedExactlyWhenWritten = accepted-when-written R;
       acceptedExactlyWhenFormat = accepted-format R;
       classesAndMarksAsDefined = classes-as-defined R;

@@ -61,10 +61,10 @@ pub render-law : (log : Log) → render log ≡ ended (linesOf log)
 unfolding render
 render-law log = refl
 
-byLine : Rules → Lines → Reading
+unfoldable pub byLine : Rules → Lines → Reading
 byLine R ls = walk R Identifier 1 (ls .whole) (ls .rest)
 
-read-law : (R : Rules) (s : Text) → read R s ≡ cond (ltb (R .longestLog) (length s)) (refused (refusal 1 0 0)) (byLine R (lines R s))
+pub read-law : (R : Rules) (s : Text) → read R s ≡ cond (ltb (R .longestLog) (length s)) (refused (refusal 1 0 0)) (byLine R (lines R s))
 unfolding read byLine
 read-law R s = refl
 

@@ -7,6 +7,11 @@ pub mod LogLaws
 pub mod WalkLaws
 pub mod Format
 pub mod Refusals
+pub mod GivenLines
+pub mod GivenStops
+pub mod GivenRows
+pub mod GivenRefusals
+pub mod GivenCalls
 pub mod Struck
 pub mod WritingLaws
 pub mod WrittenValid

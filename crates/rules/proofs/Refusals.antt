@@ -20,8 +20,8 @@ use Rattle.rules.specs.Fields.{fieldRules, qsoOf}
 use Rattle.rules.specs.Arguments.{Entry, entries, meets}
 use Rattle.rules.specs.Log.{Log, identifier, remarksLine, countStart, keywordStart}
 use Rattle.rules.specs.Reading.{RecordRule, keeps, breaks, firstBroken, recordRule, recordsDue, whole, argumentOn, keywordLine, keywordDue, countRule, afterRecord, step, Reading, accepted, refused, refusal, atRest, put, onNext, lines, walk, read}
-use Rattle.rules.specs.Answers.{totalsOfJudgement, numbersOfJudgement, bytesOfWriting, startOfView, viewed, over}
-use Rattle.rules.specs.Demands.{EveryInputGetsAnAnswer, OfALine, RefusedWithNumberLineField, RefusedJudgingChangesNothing, RefusedWritingChangesNothing, RefusedViewIsEmpty}
+use Rattle.rules.specs.Answers.{recordsOfReading, totalsOfJudgement, numbersOfJudgement, bytesOfWriting, startOfView, viewed, over}
+use Rattle.rules.specs.Demands.{EveryInputGetsAnAnswer, OfALine, RefusedWithNumberLineField, RefusedJudgingChangesNothing, RefusedWritingChangesNothing, RefusedViewIsEmpty, RefusedReadingHasNoRecords}
 
 pub every-input : (R : Rules) → EveryInputGetsAnAnswer R
 every-input R s = by (read R s) refl
@@ -181,6 +181,10 @@ refused-with R s r e = named (subst (λ (a : Reading). Told R s a) e (read-place
         inr (record { number = (two, six); line = (low, high); field = field; inFiveAlone = alone })
 
 -- What a refused call leaves.
+pub refused-reading : (R : Rules) → RefusedReadingHasNoRecords R
+unfolding recordsOfReading
+refused-reading R s r e = rw e
+
 pub refused-judging : (R : Rules) → RefusedJudgingChangesNothing R
 unfolding totalsOfJudgement numbersOfJudgement over
 refused-judging R s slice r e = rw e (refl, refl)

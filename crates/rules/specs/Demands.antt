@@ -22,7 +22,8 @@ use Rattle.rules.specs.Log.{Log, argument, valid, render, IsWrittenAs, F
 use Rattle.rules.specs.Judging.{Declared, is, claimsPoints, sameCall, square, exchangeOf, claimsCountry, verdicts, multipliers, declared, verdictsOfLog, totalsOfLog, zeroTotals}
 use Rattle.rules.specs.Writing.{writtenBack, unclaimed}
 use Rattle.rules.specs.Reading.{accepted, refused, refusal, lines, read}
-use Rattle.rules.specs.Answers.{unseen, view, startOfView, viewed, unjudged, judge, totalsOfJudgement, numbersOfJudgement, written, unwritten, write, bytesOfWriting, over}
+use Rattle.rules.specs.Answers.{recordsOfReading, unseen, view, startOfView, viewed, unjudged, judge, totalsOfJudgement, numbersOfJudgement, written, unwritten, write, bytesOfWriting, over}
+use Rattle.rules.specs.Given.{GivenExactlyWhen, ZeroWhenAccepted, LineAndFieldToldRightly}
 use Rattle.rules.specs.Striking.{Places, strike, placeAfter, struckWorth}
 
 -- # Demand 1
@@ -68,8 +69,13 @@ RefusedViewIsEmpty R =
     view R k s ≡ unseen r →
     (startOfView (view R k s) ≡ 0) × (viewed (view R k s) ≡ [])
 
+abbrev pub RefusedReadingHasNoRecords : Rules → Type 0
+RefusedReadingHasNoRecords R =
+    (s : Text) (r : Refusal) → read R s ≡ refused r → recordsOfReading (read R s) ≡ 0
+
 -- One statement of it: whatever is refused changes nothing and shows nothing.
 pub record ARefusalChangesNothing (R : Rules) : Type 0 where
+  pub reading : RefusedReadingHasNoRecords R
   pub judging : RefusedJudgingChangesNothing R
   pub writing : RefusedWritingChangesNothing R
   pub viewing : RefusedViewIsEmpty R
@@ -394,6 +400,9 @@ PremiseIsNeeded =
 pub record TheThreeDemands (R : Rules) : Type 0 where
   pub everyInputGetsAnAnswer : EveryInputGetsAnAnswer R
   pub refusedWithNumberLineField : RefusedWithNumberLineField R
+  pub givenExactlyWhen : GivenExactlyWhen R
+  pub zeroWhenAccepted : ZeroWhenAccepted R
+  pub lineAndFieldToldRightly : LineAndFieldToldRightly R
   pub aRefusalChangesNothing : ARefusalChangesNothing R
   pub acceptedExactlyWhenWritten : AcceptedExactlyWhenWritten R
   pub acceptedExactlyWhenFormat : AcceptedExactlyWhenFormat R

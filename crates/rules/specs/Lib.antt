@@ -8,6 +8,7 @@ pub mod Judging
 pub mod Writing
 pub mod Reading
 pub mod Answers
+pub mod Given
 pub mod Striking
 pub mod Desk
 pub mod Demands
