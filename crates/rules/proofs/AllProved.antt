@@ -13,7 +13,6 @@ use Rattle.rules.proofs.Refusals.{every-input, refused-with, refused-re
 use Rattle.rules.proofs.Struck.{struck-is-accepted}
 use Rattle.rules.proofs.TotalLaws.{totals-as-defined}
 use Rattle.rules.proofs.WritingLaws.{writing-changes}
-use Rattle.rules.proofs.WritingRefused.{writing-is-refused-for-length}
 use Rattle.rules.proofs.WritingSets.{writing-sets-the-named}
 use Rattle.rules.proofs.WritingStable.{ClaimsHaveRoom, stable, base-has-room}
 
@@ -41,7 +40,6 @@ of-any-rules R room =
       writingChangesOnlyTheNamed = writing-changes R;
       writingSetsTheNamed = writing-sets-the-named R;
       writingBackIsStable = stable R room;
-      writingIsRefusedForLength = writing-is-refused-for-length R;
       struckIsAccepted = struck-is-accepted R;
       strikingRule = striking-rule R;
     }

@@ -28,7 +28,7 @@ pub mod WrittenVerdicts
 pub mod WrittenClaims
 pub mod Bounds
 pub mod WritingStable
-pub mod WritingRefused
+pub mod WritingAnswer
 pub mod WritingSets
 pub mod TotalLaws
 pub mod OneAnswer

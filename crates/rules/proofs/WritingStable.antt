@@ -20,7 +20,7 @@ use Rattle.rules.proofs.Tests.{and-l}
 use Rattle.rules.proofs.Format.{accepted-when-written}
 use Rattle.rules.proofs.WrittenValid.{HaveRoom, written-valid}
 use Rattle.rules.proofs.Bounds.{base-within}
-use Rattle.rules.proofs.WritingRefused.{fitting, write-law}
+use Rattle.rules.proofs.WritingAnswer.{fitting, write-law}
 use Rattle.rules.proofs.WrittenVerdicts.{written-verdicts}
 use Rattle.rules.proofs.WrittenClaims.{totals-kept, written-twice}
 

@@ -310,14 +310,6 @@ WritingBackIsStable R =
     write R room s ≡ written t →
     WrittenReadsTheSame R log t
 
--- An accepted log is refused 8 exactly where what it is written as is too long, for a log or for the slice.
-abbrev pub WritingIsRefusedForLength : Rules → Type 0
-WritingIsRefusedForLength R =
-    (s : Text) (log : Log) (room : ℕ) →
-    read R s ≡ accepted log →
-    (write R room s ≡ unwritten (refusal 8 0 0))
-    ↔ ((R .longestLog < length (render (writtenBack R log))) ⊎ (room < length (render (writtenBack R log))))
-
 -- # Demand 3, whatever the home part of a call is
 
 -- "Strike any set of records from an accepted log and correct the count line": what is written so is accepted.
@@ -413,7 +405,6 @@ pub record TheThreeDemands (R : Rules) : Type 0 where
   pub writingChangesOnlyTheNamed : WritingChangesOnlyTheNamed R
   pub writingSetsTheNamed : WritingSetsTheNamed R
   pub writingBackIsStable : WritingBackIsStable R
-  pub writingIsRefusedForLength : WritingIsRefusedForLength R
   pub struckIsAccepted : StruckIsAccepted R
   pub strikingRule : StrikingRule R
 

@@ -27,7 +27,7 @@ use Rattle.rules.proofs.Format.{of-valid, accepted-exactly}
 use Rattle.rules.proofs.ValidLogs.{count-valid}
 use Rattle.rules.proofs.Classes.{length-verdicts}
 use Rattle.rules.proofs.WrittenValid.{written-length}
-use Rattle.rules.proofs.WritingRefused.{write-law}
+use Rattle.rules.proofs.WritingAnswer.{write-law}
 use Rattle.places.specs.Places.{lineStart, pointsPlaces}
 use Rattle.places.proofs.RecordsHeld.{recordsStart, header, records, rendered}
 use Rattle.places.proofs.HeaderHeld.{claims-line}
