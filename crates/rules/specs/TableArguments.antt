@@ -105,18 +105,35 @@ argumentCharacterCases =
     ++ wrongWith claimedTotal "120" (0 ∷ 1 ∷ 2 ∷ []) (47 ∷ 58 ∷ [])
     ++ wrongWith bestContact "OY9JD;IP62OA;1302" (0 ∷ 4 ∷ 6 ∷ 11 ∷ 13 ∷ 16 ∷ []) (46 ∷ 58 ∷ 64 ∷ 91 ∷ [])
 
--- "compared whole": the front of a name is no name, nor is a name with something behind it.
+-- The fifteen names in the table of 001.
+abbrev names : List Text
+names =
+    texts
+    ("50 MHz"
+    ∷ "70 MHz"
+    ∷ "144 MHz"
+    ∷ "432 MHz"
+    ∷ "1,3 GHz"
+    ∷ "2,3 GHz"
+    ∷ "3,4 GHz"
+    ∷ "5,7 GHz"
+    ∷ "10 GHz"
+    ∷ "24 GHz"
+    ∷ "47 GHz"
+    ∷ "76 GHz"
+    ∷ "120 GHz"
+    ∷ "144 GHz"
+    ∷ "248 GHz"
+    ∷ [])
+
+-- "compared whole": the front of a name is no name, nor is a name with something behind it or before it. The last four are names of 002.
 unfoldable pub bandCases : List Case
 bandCases =
-    let names =
-    texts
-    ("50 MHz" ∷ "70 MHz" ∷ "144 MHz" ∷ "432 MHz" ∷ "1,3 GHz" ∷ "2,3 GHz" ∷ "3,4 GHz" ∷ "5,7 GHz" ∷ "10 GHz" ∷ "24 GHz" ∷ "47 GHz" ∷ "76 GHz" ∷ "120 GHz" ∷ "144 GHz" ∷ "248 GHz" ∷ []) in
     ask (meetsRule aBand) (1 ∷ []) names
     ++ ask (meetsRule aBand) (0 ∷ []) (map (λ name. take (length name - 1) name) names)
     ++ ask (meetsRule aBand) (0 ∷ []) (map (λ name. take 3 name) names)
     ++ ask (meetsRule aBand) (0 ∷ []) (map (λ name. name ++ bytes " ") names)
     ++ ask (meetsRule aBand) (0 ∷ []) (map (λ name. 49 ∷ name) names)
-    -- the last four are of 002
     ++ wrong aBand
     (""
     ∷ "144MHz"

@@ -504,6 +504,10 @@ wideCases =
     ∷ case (isViewed 3 wideLog) (0 ∷ 0 ∷ 0 ∷ 72 ∷ bytes "OZ1FDJ/P")
     ∷ case (isViewed 20 wideLog) (0 ∷ 0 ∷ 0 ∷ 308 ∷ bytes "OZ1AAA;OZ1BBB")
     ∷ case (isViewed 29 wideLog) (0 ∷ 0 ∷ 0 ∷ 434 ∷ bytes "33;500;2")
+    ∷ case (isViewed 7 wideLog) (0 ∷ 0 ∷ 0 ∷ 129 ∷ bytes "Hill = 2")
+    ∷ case (isViewed 21 wideLog) (0 ∷ 0 ∷ 0 ∷ 329 ∷ bytes "OZ1CCC")
+    ∷ case (isViewed 30 wideLog) (0 ∷ 0 ∷ 0 ∷ 450 ∷ bytes "34")
+    ∷ case (isViewed 36 wideLog) (0 ∷ 0 ∷ 0 ∷ 522 ∷ bytes "OY9JD;IP62OA;1302")
     ∷ case (isStruckTo four wideLog) wideStruck
     ∷ case (isStruckTo (λ n. false) wideLog) wideLog
     ∷ case (isStruck four wideLog) (21256140 ∷ 112 ∷ 112 ∷ 96 ∷ 3 ∷ 16 ∷ 2 ∷ 3 ∷ 112 ∷ 96 ∷ [])
@@ -577,6 +581,7 @@ valueCases =
     ∷ case (isValidWith (withRemarks (replicate 76 65 ∷ [])) emptyLog) (0 ∷ [])
     ∷ case (isValidWith (withRemarks ((31 ∷ []) ∷ [])) emptyLog) (0 ∷ [])
     ∷ case (isValidWith (withRemarks (bytes "a remark" ∷ bytes "[QSORecords;" ∷ [])) emptyLog) (0 ∷ [])
+    ∷ case (isValidWith (withRemarks (bytes "[QSORecords;0]" ∷ [])) emptyLog) (0 ∷ [])
     ∷ case (isValidWith (withRecords (aRecord ∷ aRecord ∷ [])) emptyLog) (1 ∷ [])
     ∷ case (isValidWith (withRecords (aRecord ∷ bytes "240302;2400;DK1AA;1;59;001;59;004;;JO40AA;120;;N;N;" ∷ [])) emptyLog) (0 ∷ [])
     ∷ case (isValidWith (withRecords (aRecord ∷ bytes "240302;1401;DK1AA;1;59;001;59;004;;JO40AA;120;;N;N;N" ∷ [])) emptyLog) (0 ∷ [])
