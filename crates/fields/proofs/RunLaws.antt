@@ -1,25 +1,22 @@
 -- Laws of the fields that are a run of one kind of characters: how long the field is, and what its rule says of that.
 -- Assumes nothing.
-use Prim.Native.Nat.{ℕ, suc, _+_, _-_, _≤_, _<_}
+use Prim.Native.Nat.{ℕ, _+_, _-_, _≤_, _<_}
 use native.Mathlib.Omega.{arith}
-use native.Mathlib.Nat.{not-suc-le-zero}
-use mathlib.Core.Path.{_≡_, refl, sym, ap, _∙_}
-use mathlib.Core.Bool.{Bool, true, false, not, _&&_, and-true, and-false, true≢false}
+use mathlib.Core.Bool.{Bool, true, false, not, _&&_, and-true, and-false}
 use mathlib.Core.List.{[], _∷_}
+use mathlib.Core.Path.{_≡_, refl, sym, ap, _∙_}
 use lib.Dec.{leb, ltb, eqb}
 use lib.ListN.{length, take, drop, getD, length-take, length-drop}
 use borrow.Author.Tests.{le-leb, lt-leb, le-ltb, lt-ltb, leb-true, leb-false, ne-eqb, not-true, not-false}
-use Rattle.rules.specs.Text.{digit, Text, span, all, same}
+use Rattle.rules.specs.Fields.{exchange, exchangeCharacter, call, callCharacter, errorCall}
 use Rattle.rules.specs.Rules.{base}
-use Rattle.rules.specs.Fields.{exchange, exchangeCharacter, call, serial, callCharacter, errorCall}
+use Rattle.rules.specs.Text.{Text, span, all, same}
 use Rattle.rules.proofs.TextLaws.{same-apart, take-its-length}
 use Rattle.fields.specs.declared.CallRead.{CallRead}
 use Rattle.fields.specs.declared.CallRead.the-variants as CallRead
 use Rattle.fields.specs.declared.ExchangeRead.{ExchangeRead}
 use Rattle.fields.specs.declared.ExchangeRead.the-variants as ExchangeRead
-use Rattle.fields.specs.declared.SerialRead.{SerialRead}
-use Rattle.fields.specs.declared.SerialRead.the-variants as SerialRead
-use Rattle.fields.specs.Field.{exchangeAt, serialAt, inField, textAt, endsAt, endOf, callAt}
+use Rattle.fields.specs.Field.{exchangeAt, inField, textAt, endsAt, endOf, callAt}
 use Rattle.fields.proofs.FieldLaws.{next-at, run-is-field, run-is-as-long}
 
 -- The run from a place on ended: the field is no run of the kind, or it is, and ends there.
@@ -112,57 +109,6 @@ module _ {s : Text} {at end : ℕ} (r : Run callCharacter s at end) where
 
   pub five-within : end - at ≡ 5 → at + 5 ≤ length s
   five-within e = omega (arith, text-within s at (omega arith))
-
--- A serial number.
-serial-other : (t : Text) → all digit t ≡ false → serial t ≡ false
-unfolding serial all
-serial-other [] e = absurd (true≢false e)
-serial-other (c ∷ t) e = rw (e, and-false (leb 3 (suc (length t)) && leb (suc (length t)) 4))
-
-pub serial-kind : (s : Text) (at : ℕ) → all digit (textAt s at) ≡ false → SerialRead.Bad ≡ serialAt s at
-unfolding serialAt
-serial-kind s at e = rw (serial-other (textAt s at) e)
-
-serial-not : (t : Text) → 0 < length t → (leb 3 (length t) && leb (length t) 4) ≡ false → serial t ≡ false
-unfolding serial
-serial-not [] h e = absurd (not-suc-le-zero h)
-serial-not (c ∷ t) h e = rw e
-
-serial-kept : (t : Text) → 3 ≤ length t → length t ≤ 4 → all digit t ≡ true → serial t ≡ true
-unfolding serial
-serial-kept [] h l e = refl
-serial-kept (c ∷ t) h l e = rw (le-leb 3 (suc (length t)) h, le-leb (suc (length t)) 4 l, e)
-
-serial-none : (t : Text) → length t ≡ 0 → serial t ≡ true
-unfolding serial
-serial-none [] e = refl
-serial-none (c ∷ t) e = absurd (omega arith)
-
-module _ {s : Text} {at end : ℕ} (r : Run digit s at end) where
-  serial-bad : serial (textAt s at) ≡ false → SerialRead.Bad ≡ serialAt s at
-  unfolding serialAt
-  serial-bad e = rw e
-
-  serial-read : serial (textAt s at) ≡ true → SerialRead.Serial end ≡ serialAt s at
-  unfolding serialAt
-  serial-read e = rw (e, r .ending)
-
-  pub serial-empty : end - at ≡ 0 → SerialRead.Serial end ≡ serialAt s at
-  serial-empty h = serial-read (serial-none (textAt s at) (r .count ∙ h))
-
-  pub serial-short : (end - at ≡ 0 → ⊥) → end - at < 3 → SerialRead.Bad ≡ serialAt s at
-  serial-short n h =
-      serial-bad
-      (serial-not (textAt s at) (omega arith) (rw (lt-leb 3 (length (textAt s at)) (omega arith))))
-
-  pub serial-long : 4 < end - at → SerialRead.Bad ≡ serialAt s at
-  serial-long h =
-      serial-bad
-      (serial-not (textAt s at) (omega arith)
-      (rw (lt-leb (length (textAt s at)) 4 (omega arith), and-false (leb 3 (length (textAt s at))))))
-
-  pub serial-digits : 3 ≤ end - at → end - at ≤ 4 → SerialRead.Serial end ≡ serialAt s at
-  serial-digits h l = serial-read (serial-kept (textAt s at) (omega arith) (omega arith) (r .kind))
 
 -- An exchange.
 pub exchange-kind : (s : Text) (at : ℕ) → all exchangeCharacter (textAt s at) ≡ false → ExchangeRead.Bad ≡ exchangeAt s at

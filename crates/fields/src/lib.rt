@@ -269,21 +269,32 @@ pub enum SerialRead {
 pub fn serial(s: &[u8], at: usize) -> SerialRead
     ensures { λ r. ⌜ r ≡ serialAt (now (s .entry)) at ⌝ }
 {
-    let end = digit_run(s, at);
-    if !ends(s, end) {
+    let first = byte_at(s, at);
+    if first == 59 {
+        return SerialRead::Serial(at);
+    }
+    if !is_digit(first) {
         return SerialRead::Bad;
     }
-    let count = end - at;
-    if count == 0 {
-        return SerialRead::Serial(end);
-    }
-    if count < 3 {
+    if !is_digit(byte_at(s, at + 1)) {
         return SerialRead::Bad;
     }
-    if 4 < count {
+    if !is_digit(byte_at(s, at + 2)) {
         return SerialRead::Bad;
     }
-    SerialRead::Serial(end)
+    let three = at + 3;
+    let fourth = byte_at(s, three);
+    if fourth == 59 {
+        return SerialRead::Serial(three);
+    }
+    if !is_digit(fourth) {
+        return SerialRead::Bad;
+    }
+    let four = at + 4;
+    if !ends(s, four) {
+        return SerialRead::Bad;
+    }
+    SerialRead::Serial(four)
 }
 
 pub enum ExchangeRead {
