@@ -3,27 +3,27 @@
 -- Assumes nothing.
 use Prim.Native.Nat.{ℕ}
 use native.Mathlib.Omega.{arith}
-use mathlib.Core.Path.{_≡_, sym}
 use mathlib.Core.Bool.{Bool, true, false, cond, not}
 use mathlib.Core.List.{[], _∷_}
-use Rattle.rules.specs.Text.{Text, same, empty}
-use Rattle.rules.specs.Rules.{base}
+use mathlib.Core.Path.{_≡_, sym}
 use Rattle.rules.specs.Fields.{call, errorCall, mode, report, serial, exchange, locator, emptyOr}
+use Rattle.rules.specs.Rules.{base}
+use Rattle.rules.specs.Text.{Text, same, empty}
 use Rattle.rules.proofs.Tests.{picked, passed}
 use Rattle.fields.specs.declared.CallRead.{CallRead}
 use Rattle.fields.specs.declared.CallRead.the-variants as CallRead
-use Rattle.fields.specs.declared.ModeRead.{ModeRead}
-use Rattle.fields.specs.declared.ModeRead.the-variants as ModeRead
-use Rattle.fields.specs.declared.ReportRead.{ReportRead}
-use Rattle.fields.specs.declared.ReportRead.the-variants as ReportRead
-use Rattle.fields.specs.declared.SerialRead.{SerialRead}
-use Rattle.fields.specs.declared.SerialRead.the-variants as SerialRead
 use Rattle.fields.specs.declared.ExchangeRead.{ExchangeRead}
 use Rattle.fields.specs.declared.ExchangeRead.the-variants as ExchangeRead
 use Rattle.fields.specs.declared.LocatorRead.{LocatorRead}
 use Rattle.fields.specs.declared.LocatorRead.the-variants as LocatorRead
 use Rattle.fields.specs.declared.MarkRead.{MarkRead}
 use Rattle.fields.specs.declared.MarkRead.the-variants as MarkRead
+use Rattle.fields.specs.declared.ModeRead.{ModeRead}
+use Rattle.fields.specs.declared.ModeRead.the-variants as ModeRead
+use Rattle.fields.specs.declared.ReportRead.{ReportRead}
+use Rattle.fields.specs.declared.ReportRead.the-variants as ReportRead
+use Rattle.fields.specs.declared.SerialRead.{SerialRead}
+use Rattle.fields.specs.declared.SerialRead.the-variants as SerialRead
 use Rattle.fields.specs.Field.{textAt, endOf, callAt, callOrEmptyAt, modeAt, reportAt, serialAt, exchangeAt, locatorAt, locatorOrEmptyAt, markAt}
 
 -- A field keeps a rule and ends here.

@@ -3,7 +3,6 @@
 use Prim.Native.Nat.{ℕ, _+_, _-_, _≤_, _<_}
 use native.Mathlib.Omega.{arith}
 use mathlib.Core.Bool.{Bool, true, false, not, _&&_, and-true, and-false}
-use mathlib.Core.List.{[], _∷_}
 use mathlib.Core.Path.{_≡_, refl, sym, ap, _∙_}
 use lib.Dec.{leb, ltb, eqb}
 use lib.ListN.{length, take, drop, getD, length-take, length-drop}
@@ -17,7 +16,7 @@ use Rattle.fields.specs.declared.CallRead.the-variants as CallRead
 use Rattle.fields.specs.declared.ExchangeRead.{ExchangeRead}
 use Rattle.fields.specs.declared.ExchangeRead.the-variants as ExchangeRead
 use Rattle.fields.specs.Field.{exchangeAt, inField, textAt, endsAt, endOf, callAt}
-use Rattle.fields.proofs.FieldLaws.{next-at, run-is-field, run-is-as-long}
+use Rattle.fields.proofs.FieldLaws.{take-characters, run-is-field, run-is-as-long}
 
 -- The run from a place on ended: the field is no run of the kind, or it is, and ends there.
 pub record Run (f : ℕ → Bool) (s : Text) (at end : ℕ) : Type 0 where
@@ -55,24 +54,12 @@ other-length : (t : Text) → (length t ≡ 5 → ⊥) → false ≡ same t erro
 unfolding errorCall
 other-length t h = same-apart t errorCall h
 
-pub five : (s : Text) (i : ℕ) → i + 5 ≤ length s
-    → take 5 (drop i s)
-    ≡ getD s i 0 ∷ getD s (i + 1) 0 ∷ getD s (i + 2) 0 ∷ getD s (i + 3) 0 ∷ getD s (i + 4) 0 ∷ []
-five s i h =
-    rw (
-      next-at s i (i + 1) (omega arith) refl,
-      next-at s (i + 1) (i + 2) (omega arith) (omega arith),
-      next-at s (i + 2) (i + 3) (omega arith) (omega arith),
-      next-at s (i + 3) (i + 4) (omega arith) (omega arith),
-      next-at s (i + 4) (i + 5) (omega arith) (omega arith),
-    )
-
 pub error-is : (s : Text) (i : ℕ) → i + 5 ≤ length s
     → same (take 5 (drop i s)) errorCall
     ≡ (eqb (getD s i 0) 69
     && (eqb (getD s (i + 1) 0) 82 && (eqb (getD s (i + 2) 0) 82 && (eqb (getD s (i + 3) 0) 79 && eqb (getD s (i + 4) 0) 82))))
 unfolding same errorCall
-error-is s i h = rw (five s i h, and-true (eqb (getD s (i + 4) 0) 82))
+error-is s i h = rw (take-characters s i 5 h, and-true (eqb (getD s (i + 4) 0) 82))
 
 -- A call.
 pub call-kind : (s : Text) (at : ℕ) → all callCharacter (textAt s at) ≡ false → CallRead.Bad ≡ callAt s at

@@ -2,14 +2,14 @@
 -- Assumes nothing.
 use Prim.Native.Nat.{ℕ, _^_, _-_, _≤_}
 use native.Mathlib.Omega.{arith}
-use mathlib.Core.Path.{_≡_, refl, sym, ap, _∙_}
 use mathlib.Core.Bool.{Bool, true, false, _&&_}
+use mathlib.Core.Path.{_≡_, refl, sym, ap, _∙_}
 use lib.Dec.{leb, leb·zero}
 use lib.ListN.{length}
 use borrow.Author.Tests.{le-leb, lt-leb}
-use Rattle.rules.specs.Text.{Text, value, number, numberOf, numberFrom}
-use Rattle.rules.specs.Rules.{base}
 use Rattle.rules.specs.Arguments.{count, bonus, multiplier}
+use Rattle.rules.specs.Rules.{base}
+use Rattle.rules.specs.Text.{Text, value, number, numberOf, numberFrom}
 use Rattle.fields.specs.Field.{textAt}
 use Rattle.figures.specs.declared.NumberRead.{NumberRead}
 use Rattle.figures.specs.declared.NumberRead.the-variants as NumberRead

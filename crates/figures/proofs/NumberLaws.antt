@@ -1,20 +1,20 @@
 -- Laws of digits and of the numbers that they write.
 -- Assumes nothing.
 use Prim.Native.Nat.{ℕ, zero, suc, _+_, _*_, _-_, _^_, _≤_, _<_}
-use native.Mathlib.Omega.{arith}
 use native.Mathlib.Nat.{pow-succ', one-le-pow, add-zero, add-mul, mul-assoc, mul-comm}
-use mathlib.Core.Path.{_≡_, refl, sym, ap, _∙_}
+use native.Mathlib.Omega.{arith}
 use mathlib.Core.Bool.{Bool, true, false, cond, not, _&&_, and-false, true≢false}
 use mathlib.Core.List.{[], _∷_}
+use mathlib.Core.Path.{_≡_, refl, sym, ap, _∙_}
 use lib.Dec.{T, leb, eqb, leb→le, le→leb, lit<, leb·zero, leb·suc-zero, leb·suc-suc}
 use lib.ListN.{length, take, drop, getD, drop-of-length-le}
 use lib.Seq.{length-take-le, drop-drop, getD-drop}
 use borrow.Author.Tests.{leb-true, eqb-true, ne-eqb, not-true}
 use Rattle.rules.specs.Text.{Text, digit, span, all, same, begins, empty, value, valueAfter, number, numberOf}
-use Rattle.rules.proofs.Tests.{and-l, and-r}
-use Rattle.rules.proofs.Passing.{equal-tests}
-use Rattle.rules.proofs.TextLaws.{span-short}
 use Rattle.rules.proofs.NumberLaws.{number-digits, value-below, below-power, number-length}
+use Rattle.rules.proofs.Passing.{equal-tests}
+use Rattle.rules.proofs.Tests.{and-l, and-r}
+use Rattle.rules.proofs.TextLaws.{span-short}
 use Rattle.fields.specs.Field.{inField, textAt, endsAt, endOf}
 use Rattle.fields.proofs.FieldLaws.{next as at-place}
 use Rattle.fields.proofs.RunLaws.{text-within}

@@ -5,9 +5,9 @@ ghost use mathlib.Core.Path.{_≡_};
 ghost use Prim.Native.Nat.{_≤_, _<_};
 ghost use mathlib.Core.Bool.{true};
 ghost use mathlib.Core.List.{[], _∷_};
-ghost use Rattle.rules.specs.Text.{digit, value, numberOf, numberFrom};
+ghost use Rattle.rules.specs.Text.{digit, all, value, numberOf, numberFrom};
 ghost use Rattle.rules.specs.Rules.{base};
-ghost use Rattle.rules.specs.Fields.{leap, monthLength, dayExists, fullYear};
+ghost use Rattle.rules.specs.Fields.{leap, monthLength, dayExists, fullYear, shortDate};
 ghost use Rattle.rules.specs.Arguments.{count, bonus, multiplier};
 ghost use Rattle.figures.specs.Figure.{dateAt, longDateAt, timeAt, minutesOf, numberAt, digitsAt, timeMade};
 use fields::ends;
@@ -207,7 +207,7 @@ pub fn multiplier_of(s: &[u8], at: usize) -> NumberRead
 
 // The number that two digits write.
 fn two_digits(a: u8, b: u8) -> u32
-    requires { ⌜ (digit a ≡ true) × (digit b ≡ true) ⌝ }
+    requires { ⌜ all digit (a ∷ b ∷ []) ≡ true ⌝ }
     ensures { λ r. ⌜ r ≡ value (a ∷ b ∷ []) ⌝ }
 {
     10 * (a - 48) as u32 + (b - 48) as u32
@@ -294,26 +294,53 @@ fn full_year(yy: u32) -> u32
     2000 + yy
 }
 
+// Six characters are a date: two digits of the year, two of the month and two of the day.
+fn is_short_date(a: u8, b: u8, c: u8, d: u8, e: u8, f: u8) -> bool
+    ensures { λ r. ⌜ r ≡ shortDate (a ∷ b ∷ c ∷ d ∷ e ∷ f ∷ []) ⌝ }
+{
+    if !is_digit(a) {
+        return false;
+    }
+    if !is_digit(b) {
+        return false;
+    }
+    if !is_digit(c) {
+        return false;
+    }
+    if !is_digit(d) {
+        return false;
+    }
+    if !is_digit(e) {
+        return false;
+    }
+    if !is_digit(f) {
+        return false;
+    }
+    let year = full_year(two_digits(a, b));
+    day_exists(year, two_digits(c, d), two_digits(e, f))
+}
+
 // An empty date is told apart, since a record of the call `ERROR` may have one.
 pub fn date(s: &[u8], at: usize) -> DateRead
     ensures { λ r. ⌜ r ≡ dateAt (now (s .entry)) at ⌝ }
 {
-    let run = read_digits(s, at, 6);
-    let end = run.end;
-    if !ends(s, end) {
-        return DateRead::Bad;
-    }
-    if end == at {
+    if ends(s, at) {
         return DateRead::Empty;
     }
-    if end - at != 6 {
+    // taken from the length, since no sum with `at` need fit
+    if s.len() < 6 {
         return DateRead::Bad;
     }
-    let value = run.value as u32;
-    if !day_exists(full_year(value / 10000), value / 100 % 100, value % 100) {
+    if s.len() - 6 < at {
         return DateRead::Bad;
     }
-    DateRead::Date(end)
+    if !ends(s, at + 6) {
+        return DateRead::Bad;
+    }
+    if !is_short_date(s[at], s[at + 1], s[at + 2], s[at + 3], s[at + 4], s[at + 5]) {
+        return DateRead::Bad;
+    }
+    DateRead::Date(at + 6)
 }
 
 // The years run from 1990 to 2089, so that a long date's last six digits are a short one.

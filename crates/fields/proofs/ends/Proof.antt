@@ -1,5 +1,5 @@
-use Rattle.fields.proofs.FieldLaws.{ends-with-line, ends-at-semicolon}
 use borrow.Author.Needs.{needs}
+use Rattle.fields.proofs.FieldLaws.{ends-with-line, ends-at-semicolon}
 use Rattle.fields.proofs.ends.Statement.{statement}
 use Rattle.fields.proofs.ends.Tie as tie
 

@@ -1,10 +1,10 @@
+use Prim.Native.Nat.{ℕ, _+_}
 use native.Mathlib.Omega.{arith}
 use mathlib.Core.Path.{refl}
-use Prim.Native.Nat.{ℕ, _+_}
 use denote.Ref.{now}
 use borrow.Author.Needs.{needs}
-use Rattle.rules.specs.Text.{digit}
 use Rattle.rules.specs.Fields.{report}
+use Rattle.rules.specs.Text.{digit}
 use Rattle.fields.proofs.ShapeLaws.{Shape, Goes, goes, ended, one, too-long, whole, may-end, may-go-on, step, stop, digitOrCapital, report-2, report-is, report-bad, report-kept}
 use Rattle.fields.proofs.report.Statement.{statement}
 use Rattle.fields.proofs.report.Tie as tie

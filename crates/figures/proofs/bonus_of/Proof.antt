@@ -1,5 +1,5 @@
-use borrow.Author.Needs.{needs}
 use mathlib.Core.Path.{_∙_}
+use borrow.Author.Needs.{needs}
 use Rattle.figures.proofs.BoundLaws.{reads-bonus}
 use Rattle.figures.proofs.bonus_of.Statement.{statement}
 use Rattle.figures.proofs.bonus_of.Tie as tie

@@ -1,5 +1,5 @@
-use borrow.Author.Needs.{needs}
 use mathlib.Core.Path.{_∙_}
+use borrow.Author.Needs.{needs}
 use Rattle.figures.proofs.BoundLaws.{reads-count}
 use Rattle.figures.proofs.counted.Statement.{statement}
 use Rattle.figures.proofs.counted.Tie as tie

@@ -1,5 +1,5 @@
-use Rattle.figures.proofs.CalendarLaws.{exists-no-month, exists-beyond, exists-no-day, exists-within}
 use borrow.Author.Needs.{needs}
+use Rattle.figures.proofs.CalendarLaws.{exists-no-month, exists-beyond, exists-no-day, exists-within}
 use Rattle.figures.proofs.day_exists.Statement.{statement}
 use Rattle.figures.proofs.day_exists.Tie as tie
 

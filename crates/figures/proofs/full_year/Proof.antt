@@ -1,5 +1,5 @@
-use Rattle.figures.proofs.CalendarLaws.{year-ninety, year-later}
 use borrow.Author.Needs.{needs}
+use Rattle.figures.proofs.CalendarLaws.{year-ninety, year-later}
 use Rattle.figures.proofs.full_year.Statement.{statement}
 use Rattle.figures.proofs.full_year.Tie as tie
 

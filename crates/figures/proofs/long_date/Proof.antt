@@ -1,12 +1,12 @@
-use Rattle.fields.specs.Field.{endsAt}
-use denote.Ref.{now}
 use native.Mathlib.Omega.{arith}
-use mathlib.Core.Path.{_≡_, sym, ap, _∙_}
 use mathlib.Core.Bool.{true, not}
-use borrow.Author.Tests.{not-false}
-use Rattle.figures.proofs.NumberLaws.{end-here}
-use Rattle.figures.proofs.DateLaws.{long-date-unended, long-date-other, long-date-below, long-date-early, long-date-late, long-date-no-day, long-date-good}
+use mathlib.Core.Path.{_≡_, sym, ap, _∙_}
+use denote.Ref.{now}
 use borrow.Author.Needs.{needs}
+use borrow.Author.Tests.{not-false}
+use Rattle.fields.specs.Field.{endsAt}
+use Rattle.figures.proofs.DateLaws.{long-date-unended, long-date-other, long-date-below, long-date-early, long-date-late, long-date-no-day, long-date-good}
+use Rattle.figures.proofs.NumberLaws.{end-here}
 use Rattle.figures.proofs.long_date.Statement.{statement}
 use Rattle.figures.proofs.long_date.Tie as tie
 

@@ -1,6 +1,6 @@
 use mathlib.Core.Path.{sym, _∙_}
-use Rattle.figures.proofs.BoundLaws.{multiplies-none, multiplies-zero, multiplies}
 use borrow.Author.Needs.{needs}
+use Rattle.figures.proofs.BoundLaws.{multiplies-none, multiplies-zero, multiplies}
 use Rattle.figures.proofs.multiplier_of.Statement.{statement}
 use Rattle.figures.proofs.multiplier_of.Tie as tie
 

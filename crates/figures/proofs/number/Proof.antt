@@ -1,11 +1,11 @@
-use Rattle.fields.specs.Field.{endsAt}
-use denote.Ref.{now}
 use native.Mathlib.Omega.{arith}
-use mathlib.Core.Path.{_≡_, sym, ap, _∙_}
 use mathlib.Core.Bool.{true, not}
-use borrow.Author.Tests.{not-false}
-use Rattle.figures.proofs.NumberLaws.{reads-no-end, reads-none, reads-plain, reads-zeros, reads-zero, starts-within, end-here}
+use mathlib.Core.Path.{_≡_, sym, ap, _∙_}
+use denote.Ref.{now}
 use borrow.Author.Needs.{needs}
+use borrow.Author.Tests.{not-false}
+use Rattle.fields.specs.Field.{endsAt}
+use Rattle.figures.proofs.NumberLaws.{reads-no-end, reads-none, reads-plain, reads-zeros, reads-zero, starts-within, end-here}
 use Rattle.figures.proofs.number.Statement.{statement}
 use Rattle.figures.proofs.number.Tie as tie
 

@@ -1,15 +1,15 @@
-use borrow.Author.Needs.{needs}
-use native.Mathlib.Omega.{arith}
-use mathlib.Core.Path.{_≡_, refl, sym, _∙_}
-use mathlib.Core.Bool.{true}
 use Prim.Native.Nat.{_-_, _^_, _≤_, _<_}
+use native.Mathlib.Omega.{arith}
+use mathlib.Core.Bool.{true}
+use mathlib.Core.Path.{_≡_, refl, sym, _∙_}
 use lib.ListN.{length, getD}
 use denote.Ref.{now}
+use borrow.Author.Needs.{needs}
+use borrow.Author.Tests.{not-true, not-false}
+use Rattle.rules.specs.Text.{digit}
 use Rattle.rules.proofs.NumberLaws.{below-power}
 use Rattle.figures.specs.Figure.{digitsAt, digitsFrom}
 use Rattle.figures.proofs.NumberLaws.{digits-more, digits-enough, digits-stop, digits-end, below-none, below-more, digit-least, digit-most}
-use borrow.Author.Tests.{not-true, not-false}
-use Rattle.rules.specs.Text.{digit}
 use Rattle.figures.proofs.read_digits.Statement.{statement}
 use Rattle.figures.proofs.read_digits.Tie as tie
 

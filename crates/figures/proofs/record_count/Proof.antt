@@ -1,5 +1,5 @@
-use borrow.Author.Needs.{needs}
 use mathlib.Core.Path.{_∙_}
+use borrow.Author.Needs.{needs}
 use Rattle.figures.proofs.BoundLaws.{reads-thousand}
 use Rattle.figures.proofs.record_count.Statement.{statement}
 use Rattle.figures.proofs.record_count.Tie as tie

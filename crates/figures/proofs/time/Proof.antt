@@ -1,9 +1,8 @@
 use native.Mathlib.Omega.{arith}
-use mathlib.Core.Path.{sym, ap, _∙_}
-use mathlib.Core.Bool.{not}
-use borrow.Author.Tests.{not-false}
-use Rattle.figures.proofs.TimeLaws.{time-short, time-unended, time-none, time-some}
+use mathlib.Core.Path.{sym, _∙_}
 use borrow.Author.Needs.{needs}
+use borrow.Author.Tests.{not-true, not-false}
+use Rattle.figures.proofs.TimeLaws.{time-short, time-unended, time-none, time-some}
 use Rattle.figures.proofs.time.Statement.{statement}
 use Rattle.figures.proofs.time.Tie as tie
 
@@ -23,7 +22,7 @@ ends-requires : tie.Need-ends-requires
 ends-requires c κs = search needs
 
 returns-3 : tie.Need-returns-3
-returns-3 c = time-unended _ _ (ap not (sym (c .before .ends .ensures)) ∙ c .if3 .taken)
+returns-3 c = time-unended _ _ (sym (c .before .ends .ensures) ∙ not-true _ (c .if3 .taken))
 
 shared-slice-read-from-digits : tie.Need-shared-slice-read-from-digits
 shared-slice-read-from-digits c = search needs
