@@ -2,13 +2,14 @@
 -- Assumes nothing.
 use Prim.Native.Nat.{ℕ, _+_, _-_, _≤_, _<_}
 use native.Mathlib.Omega.{arith}
-use mathlib.Core.Bool.{Bool, true, false, not, _&&_, and-true, and-false}
+use mathlib.Core.Bool.{Bool, true, false, not, _&&_, and-false}
+use mathlib.Core.List.{_∷_}
 use mathlib.Core.Path.{_≡_, refl, sym, ap, _∙_}
-use lib.Dec.{leb, ltb, eqb}
-use lib.ListN.{length, take, drop, getD, length-take, length-drop}
-use borrow.Author.Tests.{le-leb, lt-leb, le-ltb, lt-ltb, leb-true, leb-false, ne-eqb, not-true, not-false}
+use lib.Dec.{leb, ltb}
+use lib.ListN.{length, take, drop, length-take, length-drop}
+use borrow.Author.Tests.{le-leb, lt-leb, le-ltb, lt-ltb, leb-true, leb-false, eq-eqb, ne-eqb, not-true, not-false}
 use Rattle.rules.specs.Fields.{exchange, exchangeCharacter, call, callCharacter, errorCall}
-use Rattle.rules.specs.Rules.{base}
+use Rattle.rules.specs.Rules.{Rules}
 use Rattle.rules.specs.Text.{Text, span, all, same}
 use Rattle.rules.proofs.TextLaws.{same-apart, take-its-length}
 use Rattle.fields.specs.declared.CallRead.{CallRead}
@@ -16,7 +17,7 @@ use Rattle.fields.specs.declared.CallRead.the-variants as CallRead
 use Rattle.fields.specs.declared.ExchangeRead.{ExchangeRead}
 use Rattle.fields.specs.declared.ExchangeRead.the-variants as ExchangeRead
 use Rattle.fields.specs.Field.{exchangeAt, inField, textAt, endsAt, endOf, callAt}
-use Rattle.fields.proofs.FieldLaws.{take-characters, run-is-field, run-is-as-long}
+use Rattle.fields.proofs.FieldLaws.{characters, take-characters, run-is-field, run-is-as-long}
 
 -- The run from a place on ended: the field is no run of the kind, or it is, and ends there.
 pub record Run (f : ℕ → Bool) (s : Text) (at end : ℕ) : Type 0 where
@@ -54,12 +55,18 @@ other-length : (t : Text) → (length t ≡ 5 → ⊥) → false ≡ same t erro
 unfolding errorCall
 other-length t h = same-apart t errorCall h
 
-pub error-is : (s : Text) (i : ℕ) → i + 5 ≤ length s
-    → same (take 5 (drop i s)) errorCall
-    ≡ (eqb (getD s i 0) 69
-    && (eqb (getD s (i + 1) 0) 82 && (eqb (getD s (i + 2) 0) 82 && (eqb (getD s (i + 3) 0) 79 && eqb (getD s (i + 4) 0) 82))))
-unfolding same errorCall
-error-is s i h = rw (take-characters s i 5 h, and-true (eqb (getD s (i + 4) 0) 82))
+pub error-first : (s : Text) (i : ℕ) → i + 5 ≤ length s → same (take 5 (drop i s)) errorCall ≡ same (characters s i 5) errorCall
+error-first s i h = ap (λ (t : Text). same t errorCall) (take-characters s i 5 h)
+
+-- Two texts, compared one character after another.
+module _ {a b : ℕ} (t u : Text) where
+  pub same-on : a ≡ b → same (a ∷ t) (b ∷ u) ≡ same t u
+  unfolding same
+  same-on e = rw (eq-eqb a b e)
+
+  pub same-off : (a ≡ b → ⊥) → same (a ∷ t) (b ∷ u) ≡ false
+  unfolding same
+  same-off n = rw (ne-eqb a b n)
 
 -- A call.
 pub call-kind : (s : Text) (at : ℕ) → all callCharacter (textAt s at) ≡ false → CallRead.Bad ≡ callAt s at
@@ -98,18 +105,19 @@ module _ {s : Text} {at end : ℕ} (r : Run callCharacter s at end) where
   five-within e = omega (arith, text-within s at (omega arith))
 
 -- An exchange.
-pub exchange-kind : (s : Text) (at : ℕ) → all exchangeCharacter (textAt s at) ≡ false → ExchangeRead.Bad ≡ exchangeAt s at
-unfolding exchangeAt exchange base
-exchange-kind s at e = rw (e, and-false (leb (length (textAt s at)) 6))
+module _ (R : Rules) where
+  pub exchange-kind : (s : Text) (at : ℕ) → all exchangeCharacter (textAt s at) ≡ false → ExchangeRead.Bad ≡ exchangeAt R s at
+  unfolding exchangeAt exchange
+  exchange-kind s at e = rw (e, and-false (leb (length (textAt s at)) (R .longestExchange)))
 
-module _ {s : Text} {at end : ℕ} (r : Run exchangeCharacter s at end) where
-  pub exchange-long : 6 < end - at → ExchangeRead.Bad ≡ exchangeAt s at
-  unfolding exchangeAt exchange base
-  exchange-long h = rw (lt-leb (length (textAt s at)) 6 (omega arith))
+  module _ {s : Text} {at end most : ℕ} (r : Run exchangeCharacter s at end) (m : most ≡ R .longestExchange) where
+    pub exchange-long : most < end - at → ExchangeRead.Bad ≡ exchangeAt R s at
+    unfolding exchangeAt exchange
+    exchange-long h = rw (lt-leb (length (textAt s at)) (R .longestExchange) (omega arith))
 
-  pub exchange-read : end - at ≤ 6 → ExchangeRead.Exchange end ≡ exchangeAt s at
-  unfolding exchangeAt exchange base
-  exchange-read h = rw (le-leb (length (textAt s at)) 6 (omega arith), r .kind, r .ending)
+    pub exchange-read : end - at ≤ most → ExchangeRead.Exchange end ≡ exchangeAt R s at
+    unfolding exchangeAt exchange
+    exchange-read h = rw (le-leb (length (textAt s at)) (R .longestExchange) (omega arith), r .kind, r .ending)
 
 -- An exchange's characters: the allowed ones, but for the semicolon and the small letters.
 module _ (b : ℕ) where

@@ -14,9 +14,10 @@ use Rattle.rules.specs.Text.{Text, digit, span, all, empty}
 use Rattle.rules.proofs.Tests.{and-l, and-r, and-i, fails}
 use Rattle.fields.specs.Field.{inField, textAt, endsAt}
 use Rattle.fields.proofs.FieldLaws.{characters, take-characters}
+use Rattle.fields.proofs.PartLaws.{span-length}
 use Rattle.fields.proofs.RunLaws.{text-of-length, text-within}
 use Rattle.figures.specs.Figure.{digitsWithin}
-use Rattle.figures.proofs.NumberLaws.{field, span-length, whole}
+use Rattle.figures.proofs.NumberLaws.{field, whole}
 
 -- A field ends behind its text.
 field-ends : (s : Text) → empty (field (drop (span inField s) s)) ≡ true

@@ -8,15 +8,15 @@ use mathlib.Core.List.{[], _∷_}
 use mathlib.Core.Path.{_≡_, refl, sym, ap, _∙_}
 use lib.Dec.{T, leb, eqb, leb→le, le→leb, lit<, leb·zero, leb·suc-zero, leb·suc-suc}
 use lib.ListN.{length, take, drop, getD, drop-of-length-le}
-use lib.Seq.{length-take-le, drop-drop, getD-drop}
+use lib.Seq.{drop-drop, getD-drop}
 use borrow.Author.Tests.{leb-true, eqb-true, ne-eqb, not-true}
 use Rattle.rules.specs.Text.{Text, digit, span, all, same, begins, empty, value, valueAfter, number, numberOf}
 use Rattle.rules.proofs.NumberLaws.{number-digits, value-below, below-power, number-length}
 use Rattle.rules.proofs.Passing.{equal-tests}
 use Rattle.rules.proofs.Tests.{and-l, and-r}
-use Rattle.rules.proofs.TextLaws.{span-short}
 use Rattle.fields.specs.Field.{inField, textAt, endsAt, endOf}
 use Rattle.fields.proofs.FieldLaws.{next as at-place}
+use Rattle.fields.proofs.PartLaws.{span-length}
 use Rattle.fields.proofs.RunLaws.{text-within}
 use Rattle.figures.specs.declared.DigitsRead.{DigitsRead}
 use Rattle.figures.specs.declared.NumberRead.{NumberRead}
@@ -101,10 +101,6 @@ whole zero [] = (refl, λ k. refl)
 whole zero (c ∷ s) = whole-none c s (eqb c 59) refl
 whole (suc most) [] = rw (leb·zero) (refl, λ k. refl)
 whole (suc most) (c ∷ s) = whole-step most c s (digit c) (eqb c 59) refl refl (whole most s)
-
--- A run of characters is as long as its text.
-pub span-length : (f : ℕ → Bool) (s : Text) → length (take (span f s) s) ≡ span f s
-span-length f s = length-take-le (span f s) s (span-short f s)
 
 pub end-is-length : (s : Text) (at : ℕ) → endOf s at ≡ at + length (textAt s at)
 unfolding endOf

@@ -12,7 +12,7 @@ use Rattle.rules.specs.Fields.{call}
 use Rattle.rules.specs.Arguments.{every, meets, emptyOrCalls}
 use Rattle.fields.specs.Field.{textAt}
 use Rattle.fields.proofs.Picked.{Kept}
-use Rattle.header.proofs.PartLaws.{at-end, parts-last, parts-more}
+use Rattle.fields.proofs.PartLaws.{at-end, parts-last, parts-more}
 
 module _ (rule : Text → Bool) (t : Text) (at : ℕ) where
   pub every-broken : rule (textAt t at) ≡ false → every rule (parts (drop at t)) ≡ false

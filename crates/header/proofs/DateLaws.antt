@@ -15,7 +15,7 @@ use Rattle.figures.specs.declared.LongDateRead.{LongDateRead}
 use Rattle.figures.specs.declared.LongDateRead.the-variants as LongDateRead
 use Rattle.figures.specs.Figure.{longDateAt}
 use Rattle.figures.proofs.Picked.{long-date-picked}
-use Rattle.header.proofs.PartLaws.{reach-first, reach-next, text-of}
+use Rattle.fields.proofs.PartLaws.{reach-first, reach-next, text-of}
 
 pub date-kept : (t : Text) (at : ℕ) {v e : ℕ} → longDateAt t at ≡ LongDateRead.Date v e → Kept longDate t at e × (v ≡ value (textAt t at))
 date-kept t at p =

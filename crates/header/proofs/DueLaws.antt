@@ -14,7 +14,7 @@ use Rattle.rules.specs.Text.{Text, span, all, parts}
 use Rattle.rules.specs.Arguments.{each}
 use Rattle.fields.specs.Field.{inField, textAt, endOf}
 use Rattle.fields.proofs.Picked.{Kept}
-use Rattle.header.proofs.PartLaws.{parts-split, end-by-span, end-within, at-end, parts-last, parts-more, whole-span}
+use Rattle.fields.proofs.PartLaws.{parts-split, end-by-span, end-within, at-end, parts-last, parts-more, whole-span}
 
 -- The rules that are left are those of the parts from this place on; beyond the end there are too few parts.
 pub record Due (rules left : List (Text → Bool)) (t : Text) (at : ℕ) : Type 0 where

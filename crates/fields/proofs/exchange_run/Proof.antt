@@ -1,3 +1,4 @@
+-- The loop stops where the run of exchange characters does.
 use Prim.Native.Nat.{_-_}
 use lib.ListN.{length}
 use borrow.Author.Needs.{needs}

@@ -1,3 +1,4 @@
+-- A mark is read as the definition says: the letter, or nothing.
 use Prim.Native.Nat.{_+_}
 use native.Mathlib.Omega.{arith}
 use mathlib.Core.List.{[], _∷_}

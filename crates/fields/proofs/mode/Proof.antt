@@ -1,3 +1,4 @@
+-- A mode is read as the definition says: a digit, or nothing.
 use Prim.Native.Nat.{ℕ, _+_}
 use native.Mathlib.Omega.{arith}
 use mathlib.Core.Path.{refl}

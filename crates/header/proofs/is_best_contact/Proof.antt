@@ -11,7 +11,7 @@ use Rattle.rules.specs.Fields.{call, locator, emptyOr}
 use Rattle.rules.specs.Arguments.{meets}
 use Rattle.fields.proofs.Picked.{Kept, call-or-empty-picked, call-or-empty-refused, locator-or-empty-picked, locator-or-empty-refused}
 use Rattle.figures.proofs.Picked.{number-refused}
-use Rattle.header.proofs.PartLaws.{end-within}
+use Rattle.fields.proofs.PartLaws.{end-within}
 use Rattle.header.proofs.DueLaws.{Due, due-first, due-next, due-broken, due-last}
 use Rattle.header.proofs.RuleLaws.{number-kept}
 use Rattle.header.proofs.is_best_contact.Statement.{statement}

@@ -10,7 +10,7 @@ use Rattle.rules.specs.Rules.{base}
 use Rattle.rules.specs.Arguments.{count, multiplier, meets}
 use Rattle.fields.proofs.Picked.{Kept}
 use Rattle.figures.proofs.Picked.{number-refused}
-use Rattle.header.proofs.PartLaws.{end-within}
+use Rattle.fields.proofs.PartLaws.{end-within}
 use Rattle.header.proofs.DueLaws.{Due, due-first, due-next, due-broken, due-last}
 use Rattle.header.proofs.RuleLaws.{number-kept}
 use Rattle.header.proofs.is_count_and_multiplier.Statement.{statement}

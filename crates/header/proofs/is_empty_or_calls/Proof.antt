@@ -9,7 +9,7 @@ use Rattle.rules.specs.Text.{parts}
 use Rattle.rules.specs.Fields.{call}
 use Rattle.rules.specs.Arguments.{every}
 use Rattle.fields.proofs.Picked.{Kept, call-picked, call-refused}
-use Rattle.header.proofs.PartLaws.{end-within, end-by-span}
+use Rattle.fields.proofs.PartLaws.{end-within, end-by-span}
 use Rattle.header.proofs.CallsLaws.{every-broken, every-last, every-more, every-none, calls-none, calls-told}
 use Rattle.header.proofs.is_empty_or_calls.Statement.{statement}
 use Rattle.header.proofs.is_empty_or_calls.Tie as tie

@@ -10,7 +10,7 @@ use Rattle.rules.specs.Fields.{longDate}
 use Rattle.fields.specs.Field.{textAt}
 use Rattle.fields.proofs.Picked.{Kept}
 use Rattle.figures.proofs.Picked.{long-date-refused}
-use Rattle.header.proofs.PartLaws.{end-within}
+use Rattle.fields.proofs.PartLaws.{end-within}
 use Rattle.header.proofs.DueLaws.{Due, due-first, due-next, due-broken, due-last}
 use Rattle.header.proofs.DateLaws.{date-kept, dates, no-dates, dates-compared}
 use Rattle.header.proofs.is_two_dates.Statement.{statement}
