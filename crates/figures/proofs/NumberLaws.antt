@@ -6,13 +6,11 @@ use native.Mathlib.Omega.{arith}
 use mathlib.Core.Bool.{Bool, true, false, cond, not, _&&_, and-false, true≢false}
 use mathlib.Core.List.{[], _∷_}
 use mathlib.Core.Path.{_≡_, refl, sym, ap, _∙_}
-use lib.Dec.{T, leb, eqb, leb→le, le→leb, lit<, leb·zero, leb·suc-zero, leb·suc-suc}
+use lib.Dec.{leb, eqb, lit<, leb·zero, leb·suc-zero, leb·suc-suc}
 use lib.ListN.{length, take, drop, getD, drop-of-length-le}
 use lib.Seq.{drop-drop, getD-drop}
 use borrow.Author.Tests.{leb-true, eqb-true, ne-eqb, not-true}
 use Rattle.rules.specs.Text.{Text, digit, span, all, same, begins, empty, value, valueAfter, number, numberOf}
-use Rattle.rules.proofs.NumberLaws.{number-digits, value-below, below-power, number-length}
-use Rattle.rules.proofs.Passing.{equal-tests}
 use Rattle.rules.proofs.Tests.{and-l, and-r}
 use Rattle.fields.specs.Field.{inField, textAt, endsAt, endOf}
 use Rattle.fields.proofs.FieldLaws.{next as at-place}
@@ -265,19 +263,3 @@ after-split (suc k) n (c ∷ t) = after-split k (10 * n + (c - 48)) t
 pub value-split : (k : ℕ) (t : Text) → value t ≡ value (take k t) * 10 ^ length (drop k t) + value (drop k t)
 unfolding value
 value-split k t = after-split k 0 t ∙ value-after (valueAfter 0 (take k t)) (drop k t)
-
--- A number has at most so many digits exactly when it is below ten to that power.
-pub digits-bound : (k : ℕ) (t : Text) → 1 ≤ k → number t ≡ true → leb (length t) k ≡ leb (value t) (10 ^ k - 1)
-digits-bound zero t l n = absurd (omega arith)
-digits-bound (suc k) t l n = equal-tests (leb (length t) (suc k)) (leb (value t) (10 ^ suc k - 1)) few small
-  where
-    few : T (leb (length t) (suc k)) → T (leb (value t) (10 ^ suc k - 1))
-    few h =
-        let below : value t < 10 ^ suc k = below-power (length t) (suc k) (leb→le (length t) (suc k) h) (value-below t (number-digits t n)) in
-        le→leb (value t) (10 ^ suc k - 1) (omega arith)
-
-    small : T (leb (value t) (10 ^ suc k - 1)) → T (leb (length t) (suc k))
-    small h =
-        let most : value t ≤ 10 ^ suc k - 1 = leb→le (value t) (10 ^ suc k - 1) h in
-        let some : 1 ≤ 10 ^ suc k = one-le-pow (suc k) 10 (lit< tt) in
-        le→leb (length t) (suc k) (number-length k t n (omega arith))

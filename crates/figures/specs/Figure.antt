@@ -4,21 +4,21 @@ use Prim.Native.Nat.{ℕ, zero, suc, _+_, _*_, _/_, _%_}
 use mathlib.Core.Bool.{Bool, cond}
 use mathlib.Core.List.{[], _∷_}
 use lib.ListN.{take, drop}
-use Rattle.rules.specs.Text.{Text, digit, empty, value, valueAfter}
 use Rattle.rules.specs.Fields.{shortDate, longDate, timeOfDay}
+use Rattle.rules.specs.Text.{Text, digit, empty, value, valueAfter}
 use Rattle.fields.specs.Field.{textAt, endOf}
-use Rattle.figures.specs.declared.TimeOfDay.{TimeOfDay}
 use Rattle.figures.specs.declared.DateRead.{DateRead}
 use Rattle.figures.specs.declared.DateRead.the-variants as DateRead
+use Rattle.figures.specs.declared.DigitsRead.{DigitsRead}
 use Rattle.figures.specs.declared.LongDateRead.{LongDateRead}
 use Rattle.figures.specs.declared.LongDateRead.the-variants as LongDateRead
-use Rattle.figures.specs.declared.TimeMade.{TimeMade}
-use Rattle.figures.specs.declared.TimeMade.the-variants as TimeMade
-use Rattle.figures.specs.declared.TimeRead.{TimeRead}
-use Rattle.figures.specs.declared.TimeRead.the-variants as TimeRead
 use Rattle.figures.specs.declared.NumberRead.{NumberRead}
 use Rattle.figures.specs.declared.NumberRead.the-variants as NumberRead
-use Rattle.figures.specs.declared.DigitsRead.{DigitsRead}
+use Rattle.figures.specs.declared.TimeMade.{TimeMade}
+use Rattle.figures.specs.declared.TimeMade.the-variants as TimeMade
+use Rattle.figures.specs.declared.TimeOfDay.{TimeOfDay}
+use Rattle.figures.specs.declared.TimeRead.{TimeRead}
+use Rattle.figures.specs.declared.TimeRead.the-variants as TimeRead
 
 unfoldable pub dateAt : Text → ℕ → DateRead
 unfolding textAt endOf shortDate

@@ -1,3 +1,4 @@
+-- A day exists where its month does and it is within the month.
 use borrow.Author.Needs.{needs}
 use Rattle.figures.proofs.CalendarLaws.{exists-no-month, exists-beyond, exists-no-day, exists-within}
 use Rattle.figures.proofs.day_exists.Statement.{statement}

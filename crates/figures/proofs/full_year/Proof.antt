@@ -1,3 +1,4 @@
+-- The full year of two digits, by the year that the century turns at.
 use borrow.Author.Needs.{needs}
 use Rattle.figures.proofs.CalendarLaws.{year-ninety, year-later}
 use Rattle.figures.proofs.full_year.Statement.{statement}

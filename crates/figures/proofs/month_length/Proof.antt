@@ -1,3 +1,4 @@
+-- The length of a month, by the table and the leap year.
 use Prim.Native.Nat.{_-_}
 use native.Mathlib.Omega.{arith}
 use mathlib.Core.Bool.{not}

@@ -1,3 +1,4 @@
+-- A number is read as the definition says: digits up to the field's end, not too many, and no zero in front of others.
 use native.Mathlib.Omega.{arith}
 use mathlib.Core.Bool.{true, not}
 use mathlib.Core.Path.{_≡_, sym, ap, _∙_}
