@@ -184,7 +184,7 @@ pub mode-is : (t : Text) → mode t ≡ fits mode-0 t
 unfolding mode all fits
 mode-is [] = refl
 mode-is (a ∷ []) = refl
-mode-is (a ∷ b ∷ t) = rw (ne-eqb (suc (suc (length t))) 1 (omega arith), and-false (digit a))
+mode-is (a ∷ b ∷ t) = rw (ne-eqb (length (a ∷ b ∷ t)) 1 (omega arith), and-false (digit a))
 
 pub mode-bad : (s : Text) (at : ℕ) → mode (textAt s at) ≡ false → ModeRead.Bad ≡ modeAt s at
 unfolding modeAt
@@ -222,8 +222,8 @@ report-is (a ∷ b ∷ c ∷ []) = by (digit a) (digit b) (digitOrCapital c)
     by false y z = refl
 report-is (a ∷ b ∷ c ∷ d ∷ t) =
     rw (
-      ne-eqb (suc (suc (suc (suc (length t))))) 2 (omega arith),
-      ne-eqb (suc (suc (suc (suc (length t))))) 3 (omega arith),
+      ne-eqb (length (a ∷ b ∷ c ∷ d ∷ t)) 2 (omega arith),
+      ne-eqb (length (a ∷ b ∷ c ∷ d ∷ t)) 3 (omega arith),
       and-false (digitOrCapital c),
       and-false (digit b),
       and-false (digit a),
@@ -253,8 +253,8 @@ serial-is (a ∷ b ∷ c ∷ []) = refl
 serial-is (a ∷ b ∷ c ∷ d ∷ []) = refl
 serial-is (a ∷ b ∷ c ∷ d ∷ e ∷ t) =
     rw (
-      lt-leb (suc (suc (suc (suc (suc (length t)))))) 4 (omega arith),
-      and-false (leb 3 (suc (suc (suc (suc (suc (length t))))))),
+      lt-leb (length (a ∷ b ∷ c ∷ d ∷ e ∷ t)) 4 (omega arith),
+      and-false (leb 3 (length (a ∷ b ∷ c ∷ d ∷ e ∷ t))),
       and-false (digit d),
       and-false (digit c),
       and-false (digit b),
@@ -308,8 +308,8 @@ locator-is (a ∷ b ∷ c ∷ d ∷ e ∷ f ∷ []) =
     in-a-row (squareLetter a) (squareLetter b) (digit c) (digit d) (subLetter e && (subLetter f && true))
 locator-is (a ∷ b ∷ c ∷ d ∷ e ∷ f ∷ g ∷ t) =
     rw (
-      ne-eqb (suc (suc (suc (suc (suc (suc (suc (length t)))))))) 4 (omega arith),
-      ne-eqb (suc (suc (suc (suc (suc (suc (suc (length t)))))))) 6 (omega arith),
+      ne-eqb (length (a ∷ b ∷ c ∷ d ∷ e ∷ f ∷ g ∷ t)) 4 (omega arith),
+      ne-eqb (length (a ∷ b ∷ c ∷ d ∷ e ∷ f ∷ g ∷ t)) 6 (omega arith),
       and-false (subLetter f),
       and-false (subLetter e),
       and-false (digit d),

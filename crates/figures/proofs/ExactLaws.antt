@@ -16,7 +16,7 @@ use Rattle.fields.specs.Field.{inField, textAt, endsAt}
 use Rattle.fields.proofs.FieldLaws.{characters, take-characters}
 use Rattle.fields.proofs.PartLaws.{span-length}
 use Rattle.fields.proofs.RunLaws.{text-of-length, text-within}
-use Rattle.figures.specs.Figure.{digitsWithin}
+use Rattle.figures.specs.Figure.{leadingDigits}
 use Rattle.figures.proofs.NumberLaws.{field, whole}
 
 -- A field ends behind its text.
@@ -31,8 +31,8 @@ field-ends (c ∷ s) = by (eqb c 59) refl (field-ends s)
     by false e h = rw e h
 
 -- So many digits in front are all counted.
-all-counted : (n : ℕ) (s : Text) → n ≤ length s → all digit (take n s) ≡ true → digitsWithin n s ≡ n
-unfolding all digitsWithin
+all-counted : (n : ℕ) (s : Text) → n ≤ length s → all digit (take n s) ≡ true → leadingDigits n s ≡ n
+unfolding all leadingDigits
 all-counted zero s l h = refl
 all-counted (suc n) [] l h = absurd (omega arith)
 all-counted (suc n) (c ∷ s) l h =

@@ -19,7 +19,7 @@ use Rattle.fields.proofs.RunLaws.{text-within}
 use Rattle.figures.specs.declared.DigitsRead.{DigitsRead}
 use Rattle.figures.specs.declared.NumberRead.{NumberRead}
 use Rattle.figures.specs.declared.NumberRead.the-variants as NumberRead
-use Rattle.figures.specs.Figure.{digitsWithin, digitsFrom, digitsAt, numberAt}
+use Rattle.figures.specs.Figure.{leadingDigits, digitsFrom, digitsAt, numberAt}
 
 pub digit-least : (b : ℕ) → digit b ≡ true → 48 ≤ b
 digit-least b e = leb-true 48 b (and-l (leb 48 b) (leb b 57) e)
@@ -34,7 +34,7 @@ read v e = record { value = v; end = e }
 module _ (v : ℕ) (s : Text) (i : ℕ) where
   more-step : (left : ℕ) → i < length s → digit (getD s i 0) ≡ true
       → digitsFrom (suc left) v s i ≡ digitsFrom left (10 * v + (getD s i 0 - 48)) s (i + 1)
-  unfolding digitsFrom digitsWithin valueAfter
+  unfolding digitsFrom leadingDigits valueAfter
   more-step left h e = rw (at-place s i h, e) (ap (read _) (omega arith))
 
   pub digits-more : (left : ℕ) → 1 ≤ left → i < length s → digit (getD s i 0) ≡ true
@@ -45,16 +45,16 @@ module _ (v : ℕ) (s : Text) (i : ℕ) where
       ∙ ap (λ (n : ℕ). digitsFrom n (10 * v + (getD s i 0 - 48)) s (i + 1)) (omega arith)
 
   pub digits-enough : (left : ℕ) → left ≡ 0 → read v i ≡ digitsFrom left v s i
-  unfolding digitsFrom digitsWithin valueAfter
+  unfolding digitsFrom leadingDigits valueAfter
   digits-enough left e = rw e (ap (read v) (omega arith))
 
   pub digits-stop : (left : ℕ) → i < length s → digit (getD s i 0) ≡ false → read v i ≡ digitsFrom left v s i
-  unfolding digitsFrom digitsWithin valueAfter
+  unfolding digitsFrom leadingDigits valueAfter
   digits-stop zero h e = ap (read v) (omega arith)
   digits-stop (suc left) h e = rw (at-place s i h, e) (ap (read v) (omega arith))
 
   pub digits-end : (left : ℕ) → length s ≤ i → read v i ≡ digitsFrom left v s i
-  unfolding digitsFrom digitsWithin valueAfter
+  unfolding digitsFrom leadingDigits valueAfter
   digits-end zero h = ap (read v) (omega arith)
   digits-end (suc left) h = rw (drop-of-length-le s h) (ap (read v) (omega arith))
 
@@ -76,17 +76,17 @@ field s = take (span inField s) s
 -- they are the field.
 abbrev pub Whole : ℕ → Text → Type 0
 Whole most s =
-    (empty (field (drop (digitsWithin most s) s)) ≡ (all digit (field s) && leb (length (field s)) most))
-    × ((all digit (field s) && leb (length (field s)) most) ≡ true → digitsWithin most s ≡ span inField s)
+    (empty (field (drop (leadingDigits most s) s)) ≡ (all digit (field s) && leb (length (field s)) most))
+    × ((all digit (field s) && leb (length (field s)) most) ≡ true → leadingDigits most s ≡ span inField s)
 
 whole-none : (c : ℕ) (s : Text) (d : Bool) → eqb c 59 ≡ d → Whole 0 (c ∷ s)
-unfolding span all digitsWithin
+unfolding span all leadingDigits
 whole-none c s true g = rw (g) (refl, λ k. refl)
 whole-none c s false g =
     rw (g, leb·suc-zero, and-false) (refl, λ k. absurd (true≢false (sym k)))
 
 whole-step : (most c : ℕ) (s : Text) (b d : Bool) → digit c ≡ b → eqb c 59 ≡ d → Whole most s → Whole (suc most) (c ∷ s)
-unfolding span all digitsWithin
+unfolding span all leadingDigits
 whole-step most c s true true e g h =
     let z : true ≡ false = sym e ∙ ap digit (eqb-true c 59 g) in absurd (true≢false z)
 whole-step most c s true false e g h = rw (g, e, leb·suc-suc) (h .0, λ k. ap suc (h .1 k))
@@ -94,7 +94,7 @@ whole-step most c s false true e g h = rw (g, e, g, leb·zero) (refl, λ k. refl
 whole-step most c s false false e g h = rw (g, e, g) (refl, λ k. absurd (true≢false (sym k)))
 
 pub whole : (most : ℕ) (s : Text) → Whole most s
-unfolding span all digitsWithin
+unfolding span all leadingDigits
 whole zero [] = (refl, λ k. refl)
 whole zero (c ∷ s) = whole-none c s (eqb c 59) refl
 whole (suc most) [] = rw (leb·zero) (refl, λ k. refl)
@@ -131,7 +131,7 @@ pub record Read (most : ℕ) (s : Text) (at : ℕ) (r : DigitsRead) : Type 0 whe
 module _ (most : ℕ) (s : Text) (at : ℕ) (r : DigitsRead) (e : r ≡ digitsAt most s at) where
   ends-is : endsAt s (r .end) ≡ (all digit (textAt s at) && leb (length (textAt s at)) most)
   unfolding digitsAt digitsFrom endsAt textAt
-  ends-is = rw (e, ← drop-drop (digitsWithin most (drop at s)) at s) (whole most (drop at s) .0)
+  ends-is = rw (e, ← drop-drop (leadingDigits most (drop at s)) at s) (whole most (drop at s) .0)
 
   pub is-read : endsAt s (r .end) ≡ true → Read most s at r
   unfolding digitsAt digitsFrom endsAt textAt endOf value
@@ -140,7 +140,7 @@ module _ (most : ℕ) (s : Text) (at : ℕ) (r : DigitsRead) (e : r ≡ digitsAt
       g : (all digit (textAt s at) && leb (length (textAt s at)) most) ≡ true
       g = sym ends-is ∙ h
 
-      count : digitsWithin most (drop at s) ≡ span inField (drop at s)
+      count : leadingDigits most (drop at s) ≡ span inField (drop at s)
       count = whole most (drop at s) .1 g
 
   pub not-read : endsAt s (r .end) ≡ false → (all digit (textAt s at) && leb (length (textAt s at)) most) ≡ false

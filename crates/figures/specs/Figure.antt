@@ -52,18 +52,18 @@ unfolding textAt endOf value
 numberAt rule s at = cond (rule (textAt s at)) (NumberRead.Number (value (textAt s at)) (endOf s at)) NumberRead.Bad
 
 -- How many characters at the front are digits, counted no further than so many.
-unfoldable pub digitsWithin : ℕ → Text → ℕ
-digitsWithin zero s = 0
-digitsWithin (suc most) [] = 0
-digitsWithin (suc most) (c ∷ s) =
-    let more = suc (digitsWithin most s) in
+unfoldable pub leadingDigits : ℕ → Text → ℕ
+leadingDigits zero s = 0
+leadingDigits (suc most) [] = 0
+leadingDigits (suc most) (c ∷ s) =
+    let more = suc (leadingDigits most s) in
     cond (digit c) more 0
 
 -- The digits from a place on, and no more than so many, after those that wrote n: what they all write, and the place behind them.
 unfoldable pub digitsFrom : ℕ → ℕ → Text → ℕ → DigitsRead
-unfolding digitsWithin valueAfter
+unfolding leadingDigits valueAfter
 digitsFrom most n s at =
-    record { value = valueAfter n (take (digitsWithin most (drop at s)) (drop at s)); end = at + digitsWithin most (drop at s) }
+    record { value = valueAfter n (take (leadingDigits most (drop at s)) (drop at s)); end = at + leadingDigits most (drop at s) }
 
 unfoldable pub digitsAt : ℕ → Text → ℕ → DigitsRead
 unfolding digitsFrom
