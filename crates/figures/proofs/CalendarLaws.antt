@@ -2,14 +2,14 @@
 -- Assumes nothing.
 use Prim.Native.Nat.{ℕ, zero, suc, _+_, _-_, _%_, _≤_, _<_}
 use native.Mathlib.Omega.{arith}
-use mathlib.Core.Path.{_≡_, refl}
 use mathlib.Core.Bool.{true, false, not, and-false, and-true, or-false, or-true}
 use mathlib.Core.List.{[], _∷_}
+use mathlib.Core.Path.{_≡_, refl}
 use lib.Dec.{leb, eqb, lit≤}
 use lib.ListN.{getD, List·getD-eq-default}
 use borrow.Author.Tests.{not-true, eq-eqb, ne-eqb, le-leb, lt-leb, leb-true}
-use Rattle.rules.specs.Text.{Text, all}
 use Rattle.rules.specs.Fields.{monthLengths, leap, monthLength, dayExists, fullYear}
+use Rattle.rules.specs.Text.{Text, all}
 use Rattle.rules.proofs.Tests.{and-l, and-r}
 
 module _ (year : ℕ) where

@@ -1,3 +1,4 @@
+-- A call is read as the definition says: the run of its characters is the field, and is as long as a call may be.
 use native.Mathlib.Omega.{arith}
 use mathlib.Core.Path.{refl}
 use denote.Ref.{now}

@@ -1,3 +1,4 @@
+-- Where the field ends at once there is no call; elsewhere a call is read.
 use mathlib.Core.Path.{sym, _∙_}
 use borrow.Author.Needs.{needs}
 use Rattle.fields.proofs.ShapeLaws.{no-call, some-call}

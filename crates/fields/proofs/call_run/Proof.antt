@@ -1,6 +1,7 @@
-use borrow.Author.Needs.{needs}
+-- The loop stops where the run of call characters does.
 use Prim.Native.Nat.{_-_}
 use lib.ListN.{length}
+use borrow.Author.Needs.{needs}
 use Rattle.rules.specs.Fields.{callCharacter}
 use Rattle.fields.proofs.FieldLaws.{Within, run-starts, run-more, run-stops, run-ends}
 use Rattle.fields.proofs.call_run.Statement.{statement}

@@ -1,3 +1,4 @@
+-- A character of a call: a capital letter, a digit or the stroke.
 use mathlib.Core.Path.{sym, _∙_}
 use borrow.Author.Needs.{needs}
 use Rattle.fields.proofs.is_call_character.Statement.{statement}

@@ -1,3 +1,4 @@
+-- What may stand behind a report's two digits: a digit or a capital letter.
 use mathlib.Core.Path.{sym, _∙_}
 use borrow.Author.Needs.{needs}
 use Rattle.fields.proofs.is_report_character.Statement.{statement}

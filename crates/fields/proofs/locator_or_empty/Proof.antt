@@ -1,3 +1,4 @@
+-- Where the field ends at once there is no locator; elsewhere a locator is read.
 use mathlib.Core.Path.{sym, _∙_}
 use borrow.Author.Needs.{needs}
 use Rattle.fields.proofs.ShapeLaws.{no-locator, some-locator}

@@ -1,10 +1,11 @@
-use native.Mathlib.Omega.{arith}
+-- A mark is read as the definition says: the letter, or nothing.
 use Prim.Native.Nat.{_+_}
+use native.Mathlib.Omega.{arith}
+use mathlib.Core.List.{[], _∷_}
 use denote.Ref.{now}
 use borrow.Author.Needs.{needs}
-use mathlib.Core.List.{[], _∷_}
-use Rattle.rules.specs.Text.{same}
 use Rattle.rules.specs.Fields.{emptyOr}
+use Rattle.rules.specs.Text.{same}
 use Rattle.fields.proofs.ShapeLaws.{Goes, ended, too-long, whole, mark-none, mark-other, mark-here, mark-bad, mark-set}
 use Rattle.fields.proofs.mark.Statement.{statement}
 use Rattle.fields.proofs.mark.Tie as tie

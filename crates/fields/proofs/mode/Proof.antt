@@ -1,10 +1,11 @@
+-- A mode is read as the definition says: a digit, or nothing.
+use Prim.Native.Nat.{ℕ, _+_}
 use native.Mathlib.Omega.{arith}
 use mathlib.Core.Path.{refl}
-use Prim.Native.Nat.{ℕ, _+_}
 use denote.Ref.{now}
 use borrow.Author.Needs.{needs}
-use Rattle.rules.specs.Text.{digit}
 use Rattle.rules.specs.Fields.{mode}
+use Rattle.rules.specs.Text.{digit}
 use Rattle.fields.proofs.ShapeLaws.{Shape, Goes, goes, ended, one, too-long, whole, may-end, may-go-on, step, stop, mode-is, mode-bad, mode-kept}
 use Rattle.fields.proofs.mode.Statement.{statement}
 use Rattle.fields.proofs.mode.Tie as tie

@@ -1,12 +1,13 @@
-use Rattle.fields.specs.Field.{endsAt}
-use denote.Ref.{now}
+-- A long date is read as the definition says: eight digits, a year in the window, and a day that exists.
 use native.Mathlib.Omega.{arith}
-use mathlib.Core.Path.{_≡_, sym, ap, _∙_}
 use mathlib.Core.Bool.{true, not}
-use borrow.Author.Tests.{not-false}
-use Rattle.figures.proofs.NumberLaws.{end-here}
-use Rattle.figures.proofs.DateLaws.{long-date-unended, long-date-other, long-date-below, long-date-early, long-date-late, long-date-no-day, long-date-good}
+use mathlib.Core.Path.{_≡_, sym, ap, _∙_}
+use denote.Ref.{now}
 use borrow.Author.Needs.{needs}
+use borrow.Author.Tests.{not-false}
+use Rattle.fields.specs.Field.{endsAt}
+use Rattle.figures.proofs.DateLaws.{long-date-unended, long-date-other, long-date-below, long-date-early, long-date-late, long-date-no-day, long-date-good}
+use Rattle.figures.proofs.NumberLaws.{end-here}
 use Rattle.figures.proofs.long_date.Statement.{statement}
 use Rattle.figures.proofs.long_date.Tie as tie
 
@@ -48,13 +49,15 @@ day-exists-requires c κs = search needs
 
 returns-5 : tie.Need-returns-5
 returns-5 c =
-    long-date-no-day _ _ _ (c .before .before .before .before .before .before .before .before .read-digits .ensures) (ended (c .before .before .before .before .before .before))
-    (c .before .before .before .before .before .if2 .left) (search needs) (search needs) (c .before .day-exists .ensures) (c .if5 .taken)
+    let e = c .before .before .before .before .before .before in
+    long-date-no-day _ _ _ (e .before .before .read-digits .ensures) (ended e) (c .before .before .before .before .before .if2 .left) (search needs)
+    (search needs) (c .before .day-exists .ensures) (c .if5 .taken)
 
 returns-6 : tie.Need-returns-6
 returns-6 c =
-    long-date-good _ _ _ (c .before .before .before .before .before .before .before .before .read-digits .ensures) (ended (c .before .before .before .before .before .before))
-    (c .before .before .before .before .before .if2 .left) (search needs) (search needs) (c .before .day-exists .ensures) (c .if5 .left)
+    let e = c .before .before .before .before .before .before in
+    long-date-good _ _ _ (e .before .before .read-digits .ensures) (ended e) (c .before .before .before .before .before .if2 .left) (search needs)
+    (search needs) (c .before .day-exists .ensures) (c .if5 .left)
 
 pub long-date-spec : {M : Type 1} → statement M
 long-date-spec =

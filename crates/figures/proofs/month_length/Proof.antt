@@ -1,11 +1,12 @@
-use native.Mathlib.Omega.{arith}
-use mathlib.Core.Path.{sym, ap, _∙_}
-use mathlib.Core.Bool.{not}
+-- The length of a month, by the table and the leap year.
 use Prim.Native.Nat.{_-_}
+use native.Mathlib.Omega.{arith}
+use mathlib.Core.Bool.{not}
+use mathlib.Core.Path.{sym, ap, _∙_}
+use borrow.Author.Needs.{needs}
 use borrow.Author.Tests.{not-false}
 use Rattle.rules.specs.Fields.{monthLengths}
 use Rattle.figures.proofs.CalendarLaws.{length-beyond, length-none, length-plain, length-common, length-leap, length-small}
-use borrow.Author.Needs.{needs}
 use Rattle.figures.proofs.month_length.Statement.{statement}
 use Rattle.figures.proofs.month_length.Tie as tie
 

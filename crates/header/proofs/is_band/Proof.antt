@@ -1,8 +1,9 @@
+-- What is compared is the name at this place of the paper's table.
 use mathlib.Core.Path.{ap, _∙_}
 use denote.Ref.{now}
+use borrow.Author.Needs.{needs}
 use Rattle.rules.specs.Text.{Text, same}
 use Rattle.header.proofs.BandLaws.{band-name, front-fits, front-length}
-use borrow.Author.Needs.{needs}
 use Rattle.header.proofs.is_band.Statement.{statement}
 use Rattle.header.proofs.is_band.Tie as tie
 

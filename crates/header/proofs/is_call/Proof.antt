@@ -1,8 +1,9 @@
-use borrow.Author.Needs.{needs}
+-- A call that ends with the text.
 use mathlib.Core.Path.{sym, _∙_}
 use denote.Ref.{now}
-use Rattle.rules.specs.Fields.{call}
+use borrow.Author.Needs.{needs}
 use Rattle.rules.specs.Arguments.{meets}
+use Rattle.rules.specs.Fields.{call}
 use Rattle.fields.proofs.Picked.{call-refused, call-picked}
 use Rattle.header.proofs.DueLaws.{argument-broken, argument-ends}
 use Rattle.header.proofs.RuleLaws.{call-apart}

@@ -1,8 +1,9 @@
-use borrow.Author.Needs.{needs}
+-- A locator that ends with the text.
 use mathlib.Core.Path.{sym, _∙_}
 use denote.Ref.{now}
-use Rattle.rules.specs.Fields.{locator}
+use borrow.Author.Needs.{needs}
 use Rattle.rules.specs.Arguments.{meets}
+use Rattle.rules.specs.Fields.{locator}
 use Rattle.fields.proofs.Picked.{locator-refused, locator-picked}
 use Rattle.header.proofs.DueLaws.{argument-broken, argument-ends}
 use Rattle.header.proofs.RuleLaws.{locator-apart}

@@ -1,7 +1,8 @@
+-- Texts of one length are the same where one begins with the other.
 use mathlib.Core.Path.{_∙_}
+use borrow.Author.Needs.{needs}
 use Rattle.rules.proofs.TextLaws.{same-apart}
 use Rattle.header.proofs.WordLaws.{same-long}
-use borrow.Author.Needs.{needs}
 use Rattle.header.proofs.same_text.Statement.{statement}
 use Rattle.header.proofs.same_text.Tie as tie
 

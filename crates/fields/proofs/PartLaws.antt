@@ -1,21 +1,21 @@
 -- Laws of the parts of a text: where each begins, what it is, and how many there are.
 -- Assumes nothing.
 use Prim.Native.Nat.{ℕ, zero, suc, _+_, _≤_, _<_, max}
-use native.Mathlib.Omega.{arith}
-use native.Mathlib.Nat.{add-zero, suc-add, add-suc}
 use native.Mathlib.Decide.{decLt, decLe}
-use mathlib.Core.Path.{_≡_, refl, sym, ap, _∙_}
+use native.Mathlib.Nat.{add-zero, suc-add, add-suc}
+use native.Mathlib.Numerals.{add-one}
+use native.Mathlib.Omega.{arith}
 use mathlib.Core.Bool.{Bool, true, false, cond, not, _&&_, true≢false}
 use mathlib.Core.List.{List, [], _∷_}
+use mathlib.Core.Path.{_≡_, refl, sym, ap, _∙_}
 use lib.Dec.{eqb}
 use lib.ListN.{length, take, drop, getD, drop-of-length-le, length-drop}
 use lib.Seq.{length-take-le, drop-drop, getD-drop}
 use borrow.Author.Tests.{eq-eqb, ne-eqb}
-use native.Mathlib.Numerals.{add-one}
 use Rattle.rules.specs.Text.{Text, span, parts, before, all}
-pub use Rattle.rules.proofs.TextLaws.{span-short}
+use Rattle.rules.proofs.TextLaws.{span-short}
 use Rattle.fields.specs.Field.{inField, textAt, endOf}
 use Rattle.fields.proofs.FieldLaws.{next}
 
 -- A text of one kind of characters is one run.
 pub whole-span : (f : ℕ → Bool) (s : Text) → all f s ≡ true → span f s ≡ length s
@@ -44,11 +44,14 @@ parts-split (c ∷ s) = by (eqb c 59) (parts-split s)
     by true h = refl
     by false h = ap (before c) h
 
+-- A run of characters is as long as its text.
+pub span-length : (f : ℕ → Bool) (s : Text) → length (take (span f s) s) ≡ span f s
+span-length f s = length-take-le (span f s) s (span-short f s)
+
 module _ (l : Text) where
   pub end-by-span : (a : ℕ) → endOf l a ≡ a + span inField (drop a l)
   unfolding endOf textAt
-  end-by-span a =
-      ap (λ (n : ℕ). a + n) (length-take-le (span inField (drop a l)) (drop a l) (span-short inField (drop a l)))
+  end-by-span a = ap (λ (n : ℕ). a + n) (span-length inField (drop a l))
 
   -- A field ends within the line, or where it begins.
   pub end-within : (a : ℕ) → endOf l a ≤ max a (length l)
