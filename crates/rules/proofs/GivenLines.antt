@@ -39,6 +39,15 @@ keyword-after k h =
     let none : Entry = record { keyword = []; rule = anything } in
     (getD entries k none, (drop (suc k) entries, drop-cons entries k none h))
 
+-- A keyword is due only where one is left.
+abbrev pub Left : Due → Type 0
+Left Identifier = Unit {0}
+Left (Keyword k) = k < length entries
+Left Remarks = Unit {0}
+Left Remark = Unit {0}
+Left (Record left) = Unit {0}
+Left End = Unit {0}
+
 -- # A front is taken
 
 module _ (R : Rules) where
@@ -225,15 +234,6 @@ module _ (R : Rules) where
 
   pub steps-front : {ls : List Text} {due : Due} → Steps R Identifier ls due → Front R ls due
   steps-front s = fronts-taken noLines s
-
-  -- A keyword is due only where one is left.
-  abbrev pub Left : Due → Type 0
-  Left Identifier = Unit {0}
-  Left (Keyword k) = k < length entries
-  Left Remarks = Unit {0}
-  Left Remark = Unit {0}
-  Left (Record left) = Unit {0}
-  Left End = Unit {0}
 
   pub front-left : {ls : List Text} {due : Due} → Front R ls due → Left due
   front-left noLines = tt

@@ -21,13 +21,13 @@ use Rattle.rules.specs.Fields.{qsoOf, fieldRules}
 use Rattle.rules.specs.Arguments.{Entry, entries, meets}
 use Rattle.rules.specs.Log.{identifier, remarksLine, countStart, countLine, keywordStart, crlf, lineRule}
 use Rattle.rules.specs.Reading.{FirstLine, aLine, noLine, firstLine, RecordRule, keeps, breaks, firstBroken, recordRule, recordsDue, whole, argumentOn, keywordLine, countRule, afterRecord, step, refused, refusal, atRest}
-use Rattle.rules.specs.Given.{OfTheLine, EndsOrGoesOn, HasNoEnd, IsNotTheLineDue, BreaksItsRule, FirstBadField, BreaksField}
+use Rattle.rules.specs.Given.{OfTheLine, NoLine, EndsOrGoesOn, HasNoEnd, IsNotTheLineDue, BreaksItsRule, FirstBadField, BreaksField}
 use Rattle.rules.proofs.Tests.{so, holds, fails, clash}
 use Rattle.rules.proofs.TextLaws.{same-eq, same-of-eq, begins-front, begins-split}
 use Rattle.rules.proofs.LineLaws.{first-of-none, first-is}
 use Rattle.rules.proofs.WalkLaws.{count-goes, is-count, step-begun, dueOf, step-keyword}
 use Rattle.rules.proofs.GivenLines.{keyword-after, Left}
-use Rattle.rules.proofs.GivenStops.{NoLine, first-none, no-refusal, same-refusal, Stopped, byALine, byTheRest}
+use Rattle.rules.proofs.GivenStops.{first-none, no-refusal, same-refusal, Stopped, byALine, byTheRest}
 
 -- # A record
 
@@ -239,7 +239,7 @@ module _ (R : Rules) where
       by w ws left (inl (f, n, z)) = another n z (w, (ws, left), f)
       by w ws left (inr ((t, q, f), n, z)) = unruled n z (w, (ws, left), t, q, f)
 
-  line-row : (due : Due) (l : Text) (number field : ℕ) → Left R due → step R due l ≡ Stops number field → LineRow R due l number field
+  line-row : (due : Due) (l : Text) (number field : ℕ) → Left due → step R due l ≡ Stops number field → LineRow R due l number field
   unfolding step
   line-row Identifier l number field h e = let (f, k, z) = whole-stopped identifier l (Keyword 0) number field e in another k z f
   line-row (Keyword k) l number field h e = keyword-row k l number field h e
@@ -295,6 +295,9 @@ goes-on : (due : Due) (rest : Text) → kind due ≡ 0 → EndsOrGoesOn due rest
 goes-on due rest k (inl (left, e, z)) = omega (arith, ap kind e)
 goes-on due rest k (inr (e, f)) = omega (arith, ap kind e)
 
+more-left : (c : ℕ) (rest : Text) → (c ∷ rest) ≡ [] → ⊥
+more-left c rest e = omega (arith, ap length e)
+
 -- What is left, where no line is, stops reading with 6 or with 2.
 RestRow : Due → Text → ℕ → ℕ → Type 0
 RestRow due rest number field =
@@ -312,9 +315,6 @@ module _ (n number field : ℕ) where
 
   another-row : (due : Due) (rest : Text) → kind due ≡ 0 → refused (refusal 2 n 0) ≡ refused (refusal number n field) → RestRow due rest number field
   another-row due rest k e = row-two due rest (λ d. omega (arith, ap kind d)) (goes-on due rest k) e
-
-  more-left : (c : ℕ) (rest : Text) → (c ∷ rest) ≡ [] → ⊥
-  more-left c rest e = omega (arith, ap length e)
 
   rest-row : (due : Due) (rest : Text) → atRest due n rest ≡ refused (refusal number n field) → RestRow due rest number field
   unfolding atRest
@@ -369,7 +369,7 @@ module _ (R : Rules) (n field : ℕ) (due : Due) (rest : Text) where
   rest-told number none (inl (k, z, f, h)) = rw k (two z (f, none, h))
   rest-told number none (inr (k, z, h)) = rw k (six z h)
 
-  pub stopped-row : (number : ℕ) → Left R due → Stopped R n number field due rest → Row R field due rest number
+  pub stopped-row : (number : ℕ) → Left due → Stopped R n number field due rest → Row R field due rest number
   stopped-row number left (byALine l after t rule e) = line-told number l after t rule (line-row R due l number field left e)
   stopped-row number left (byTheRest none e) = rest-told number none (rest-row n number field due rest e)
 

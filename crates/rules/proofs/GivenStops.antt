@@ -19,7 +19,7 @@ use Rattle.rules.specs.Rules.{Rules}
 use Rattle.rules.specs.Arguments.{every}
 use Rattle.rules.specs.Log.{Log, crlf, ended, lineRule}
 use Rattle.rules.specs.Reading.{Lines, FirstLine, aLine, noLine, firstLine, onFirstLine, linesWithin, lines, step, Reading, accepted, refused, refusal, atRest, put, onNext, walk, read}
-use Rattle.rules.specs.Given.{ComesTo, AtLine}
+use Rattle.rules.specs.Given.{ComesTo, AtLine, NoLine}
 use Rattle.rules.proofs.Tests.{so, holds, and-l, and-r}
 use Rattle.rules.proofs.LineLaws.{first-of-none, first-front, first-is, first-shorter, lines-law, lines-are}
 use Rattle.rules.proofs.LogLaws.{every-front, every-back, every-first}
@@ -27,10 +27,6 @@ use Rattle.rules.proofs.Format.{byLine, read-law}
 use Rattle.rules.proofs.GivenLines.{Steps, none, more, front-steps, steps-front}
 
 -- # Lines and what is left behind them
-
--- No line stands at the front of a text.
-abbrev pub NoLine : Rules → Text → Type 0
-NoLine R rest = (l after : Text) → T (lineRule R l) → rest ≡ l ++ crlf ++ after → ⊥
 
 a-line-is-none : {A : Type 0} {l rest : Text} → aLine l rest ≡ noLine → A
 a-line-is-none e = let z : _≡_ {A = ℕ} 0 1 = cc in absurd (omega arith)
