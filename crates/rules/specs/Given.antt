@@ -142,6 +142,7 @@ BreaksField R f due l = (left : ℕ) × (due ≡ Record left) × FirstBadField R
 
 -- 1 to 6 of reading, and no other number. "In 1 .. line and field are 0; in 2, 3, 4 and 6 the field is 0."
 pub record GivenByReading (R : Rules) : Type 0 where
+  -- 1: "the log is longer than 65,535 bytes"
   pub one :
       (s : Text) (n f : ℕ) → (read R s ≡ refused (refusal 1 n f)) ↔ ((n ≡ 0) × (f ≡ 0) × (R .longestLog < length s))
   pub two : (s : Text) (n f : ℕ) → (read R s ≡ refused (refusal 2 n f)) ↔ ((f ≡ 0) × AtLine R s n (HasNoEnd R))
@@ -156,14 +157,15 @@ pub record GivenByReading (R : Rules) : Type 0 where
   pub six : (s : Text) (n f : ℕ) → (read R s ≡ refused (refusal 6 n f)) ↔ ((f ≡ 0) × AtLine R s n EndsOrGoesOn)
   pub noOther : (s : Text) (r : Refusal) → read R s ≡ refused r → (1 ≤ r .number) × (r .number ≤ 6)
 
--- 7: "judging: the verdict slice is shorter than N"; 8: "writing: the result exceeds 65,535 bytes or the output slice"; 9: "view: the keyword
--- number is not 1 to 36". "Order: 9, 1, then line by line .., then 7 or 8": every other number is the one of reading. "In .. 7, 8, 9 .. line
--- and field are 0".
+-- 7, 8 and 9 of the other calls, each with line and field 0, and in every other case what reading gives: "Order: 9, 1, then line by line ..,
+-- then 7 or 8."
 pub record GivenByTheOthers (R : Rules) : Type 0 where
+  -- "judging: the verdict slice is shorter than N"
   pub seven :
       (s : Text) (room n f : ℕ) →
       (judge R room s ≡ unjudged (refusal 7 n f))
       ↔ ((n ≡ 0) × (f ≡ 0) × (log : Log) × IsWrittenAs R s log × (room < length (log .records)))
+  -- "writing: the result exceeds 65,535 bytes or the output slice"
   pub eight :
       (s : Text) (room n f : ℕ) →
       (write R room s ≡ unwritten (refusal 8 n f))
@@ -172,6 +174,7 @@ pub record GivenByTheOthers (R : Rules) : Type 0 where
       × (log : Log)
       × IsWrittenAs R s log
       × ((R .longestLog < length (render (writtenBack R log))) ⊎ (room < length (render (writtenBack R log)))))
+  -- "view: the keyword number is not 1 to 36"
   pub nine :
       (s : Text) (k n f : ℕ) →
       (view R k s ≡ unseen (refusal 9 n f)) ↔ ((n ≡ 0) × (f ≡ 0) × ((1 ≤ k) × (k ≤ 36) → ⊥))

@@ -175,6 +175,7 @@ readingCases =
     ∷ reads 2 39 0 0 (textOf plain [])
     ∷ reads 2 40 0 0 (textOf plain ("a remark" ∷ []))
     ∷ reads 2 39 0 0 (textOf plain [] ++ replicate 76 65 ++ bytes "\r\n")
+    ∷ reads 2 40 0 0 (textOf plain ("[QSORecords;1]" ∷ []) ++ replicate 76 65 ++ bytes "\r\n")
     ∷ reads 0 0 0 0 (textOf plain [] ++ replicate 75 65 ++ bytes "\r\n" ++ bytes "[QSORecords;0]" ++ bytes "\r\n")
     ∷ reads 2 39 0 0 (textOf plain [] ++ 31 ∷ bytes "\r\n")
     ∷ reads 2 39 0 0 (textOf plain [] ++ 128 ∷ bytes "\r\n")
