@@ -1,5 +1,5 @@
 // The readers of numbers, dates and times. Each takes a line and the place where its field begins, and answers where the field ends and what it
-// says, or that it is bad. A byte is looked at once, and once more only where a number begins or ends; none is copied.
+// says, or that it is bad. A byte is looked at once, and once more only where a field begins or ends; none is copied.
 
 ghost use Prim.Native.Nat.{_^_, _≤_, _<_};
 ghost use mathlib.Core.Bool.{true};
