@@ -1,4 +1,4 @@
-/* Measures how many bytes of stack each function of sumpquince.h takes on a log.
+/* Measures how many bytes of stack each function of sumpquince.h takes on a log, and prints them as the header has them.
  *
  *     stack < LOG
  *
@@ -43,7 +43,7 @@ static size_t measured(void (*call)(void)) {
 
 static void print_stack(const char *name, void (*call)(void)) {
     size_t whole = measured(call), around = measured(call_nothing);
-    printf("%-18s %llu bytes of stack\n", name, (unsigned long long)(whole - around));
+    printf("%-18s %llu bytes\n", name, (unsigned long long)(whole - around));
 }
 
 int main(void) {
