@@ -11,7 +11,7 @@ use lib.ListN.{length, take, drop, length-drop}
 use lib.Seq.{drop-drop}
 use borrow.Author.Tests.{not-true, not-false}
 use Rattle.rules.specs.Text.{Text, digit, span, all, empty}
-use Rattle.rules.proofs.Tests.{and-l, and-r, and-i, fails}
+use Rattle.rules.proofs.Tests.{and-l, and-r, fails}
 use Rattle.fields.specs.Field.{inField, textAt, endsAt}
 use Rattle.fields.proofs.FieldLaws.{characters, take-characters}
 use Rattle.fields.proofs.PartLaws.{span-length}
@@ -55,22 +55,22 @@ module _ (n : ℕ) (s : Text) (at : ℕ) where
       g : (all digit (field (drop at s)) && leb (length (field (drop at s))) n) ≡ true
       g = sym (whole n (drop at s) .0) ∙ rw (all-counted n (drop at s) l h, drop-drop) e
 
--- Characters that are looked at one after another: as long as each is a digit, what is left decides whether all of them are.
-module _ (x : ℕ) (t : Text) {b : Bool} (l : b ≡ digit x) where
-  pub goes-on : not b ≡ false → all digit (x ∷ t) ≡ all digit t
+-- Characters that are looked at two by two: as long as both are digits, what is left decides whether all of them are.
+module _ (a b : ℕ) (t : Text) {x : Bool} (l : x ≡ all digit (a ∷ b ∷ [])) where
+  two-and-rest : all digit (a ∷ b ∷ t) ≡ (all digit (a ∷ b ∷ []) && all digit t)
   unfolding all
-  goes-on e = rw (sym l ∙ not-false b e)
+  two-and-rest = by (digit a) (digit b)
+    where
+      by : (y z : Bool) → (y && (z && all digit t)) ≡ (y && (z && true) && all digit t)
+      by true true = refl
+      by true false = refl
+      by false z = refl
 
-  pub stops : not b ≡ true → all digit (x ∷ t) ≡ false
-  unfolding all
-  stops e = rw (sym l ∙ not-true b e)
+  pub goes-on : not x ≡ false → all digit (a ∷ b ∷ t) ≡ all digit t
+  goes-on e = two-and-rest ∙ rw (sym l ∙ not-false x e)
 
--- Two digits in front of others.
-pub first-two : (a b : ℕ) (t : Text) → all digit (a ∷ b ∷ t) ≡ true → all digit (a ∷ b ∷ []) ≡ true
-unfolding all
-first-two a b t h =
-    and-i (and-l (digit a) (digit b && all digit t) h)
-    (and-i (and-l (digit b) (all digit t) (and-r (digit a) (digit b && all digit t) h)) refl)
+  pub stops : not x ≡ true → all digit (a ∷ b ∷ t) ≡ false
+  stops e = two-and-rest ∙ rw (sym l ∙ not-true x e)
 
 -- A rule of so many digits, held against the characters from a place on that the field must be.
 module _ (n : ℕ) (rule : Text → Bool) (long : (t : Text) → rule t ≡ true → length t ≡ n) (s : Text) (at : ℕ) where

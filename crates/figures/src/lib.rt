@@ -28,16 +28,10 @@ impl TimeOfDay {
     pub fn from_digits(a: u8, b: u8, c: u8, d: u8) -> TimeMade
         ensures { λ r. ⌜ r ≡ timeMade a b c d ⌝ }
     {
-        if !is_digit(a) {
+        if !are_digits(a, b) {
             return TimeMade::Bad;
         }
-        if !is_digit(b) {
-            return TimeMade::Bad;
-        }
-        if !is_digit(c) {
-            return TimeMade::Bad;
-        }
-        if !is_digit(d) {
+        if !are_digits(c, d) {
             return TimeMade::Bad;
         }
         let hours = two_digits(a, b);
@@ -218,6 +212,15 @@ pub fn record_count(s: &[u8], at: usize) -> NumberRead
     number_from(s, at, 0, rules::most_records() as u64)
 }
 
+fn are_digits(a: u8, b: u8) -> bool
+    ensures { λ r. ⌜ r ≡ all digit (a ∷ b ∷ []) ⌝ }
+{
+    if !is_digit(a) {
+        return false;
+    }
+    is_digit(b)
+}
+
 // The number that two digits write.
 fn two_digits(a: u8, b: u8) -> u32
     requires { ⌜ all digit (a ∷ b ∷ []) ≡ true ⌝ }
@@ -311,22 +314,13 @@ fn full_year(yy: u32) -> u32
 fn is_short_date(a: u8, b: u8, c: u8, d: u8, e: u8, f: u8) -> bool
     ensures { λ r. ⌜ r ≡ shortDate (a ∷ b ∷ c ∷ d ∷ e ∷ f ∷ []) ⌝ }
 {
-    if !is_digit(a) {
+    if !are_digits(a, b) {
         return false;
     }
-    if !is_digit(b) {
+    if !are_digits(c, d) {
         return false;
     }
-    if !is_digit(c) {
-        return false;
-    }
-    if !is_digit(d) {
-        return false;
-    }
-    if !is_digit(e) {
-        return false;
-    }
-    if !is_digit(f) {
+    if !are_digits(e, f) {
         return false;
     }
     let year = full_year(two_digits(a, b));
