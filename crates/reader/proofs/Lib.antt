@@ -1,11 +1,9 @@
 pub mod LineLaws
 pub mod CountLaws
-pub mod RecordLaws
-pub mod FirstLaws
 pub mod StepLaws
 pub mod DueLaws
-pub mod ReadLaws
-pub mod WholeLaws
 pub mod PlaceLaws
 pub mod FieldsHeld
 pub mod RecordsHeld
+pub mod FirstLaws
+pub mod RecordLaws

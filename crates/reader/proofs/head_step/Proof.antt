@@ -1,8 +1,12 @@
-use Rattle.rules.specs.Log.{identifier, remarksLine}
-use Rattle.reader.proofs.DueLaws.{at-identifier, at-keyword, at-remarks, at-due, at-end}
+-- The step in front of the records goes by what is due.
 use borrow.Author.Needs.{needs}
-use Rattle.reader.proofs.step.Statement.{statement}
-use Rattle.reader.proofs.step.Tie as tie
+use mathlib.Core.Bool.{true≢false}
+use mathlib.Core.Path.{sym, ap, _∙_}
+use Rattle.reader.specs.Read.{early}
+use Rattle.rules.specs.Log.{identifier, remarksLine}
+use Rattle.reader.proofs.DueLaws.{at-due, at-end, at-identifier, at-keyword, at-remarks}
+use Rattle.reader.proofs.head_step.Statement.{statement}
+use Rattle.reader.proofs.head_step.Tie as tie
 
 enum-told : tie.Need-enum-told
 enum-told c = search needs
@@ -34,14 +38,11 @@ enum-told-3 c = search needs
 remark-step-requires : tie.Need-remark-step-requires
 remark-step-requires c κs = search needs
 
-enum-known-due-2 : tie.Need-enum-known-due-2
-enum-known-due-2 c = search needs
-
-record-step-requires : tie.Need-record-step-requires
-record-step-requires c κs = search needs
-
 enum-told-4 : tie.Need-enum-told-4
 enum-told-4 c = search needs
+
+enum-told-5 : tie.Need-enum-told-5
+enum-told-5 c = search needs
 
 returns : tie.Need-returns
 unfolding identifier
@@ -58,13 +59,13 @@ returns-4 : tie.Need-returns-4
 returns-4 c = at-due _ _ (c .before .enum-told3 .given .1) (c .remark-step .ensures)
 
 returns-5 : tie.Need-returns-5
-returns-5 c = at-due _ _ (c .before .before .due2 .given .1) (c .record-step .ensures)
+returns-5 c = absurd (true≢false (sym (c .before .before .before .pre) ∙ ap early (c .enum-told4 .given .1)))
 
 returns-6 : tie.Need-returns-6
-returns-6 c = at-end _ _ (c .enum-told4 .given .1)
+returns-6 c = at-end _ _ (c .enum-told5 .given .1)
 
-pub step-spec : {M : Type 1} → statement M
-step-spec =
+pub head-step-spec : {M : Type 1} → statement M
+head-step-spec =
     tie.close
     (tie.spec
     enum-told
@@ -77,9 +78,8 @@ step-spec =
     whole-step-requires-2
     enum-told-3
     remark-step-requires
-    enum-known-due-2
-    record-step-requires
     enum-told-4
+    enum-told-5
     returns
     returns-2
     returns-3
