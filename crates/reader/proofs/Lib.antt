@@ -7,3 +7,6 @@ pub mod FieldsHeld
 pub mod RecordsHeld
 pub mod FirstLaws
 pub mod RecordLaws
+pub mod ParseLaws
+pub mod ReadLaws
+pub mod WholeLaws

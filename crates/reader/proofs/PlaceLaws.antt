@@ -124,6 +124,10 @@ module _ (s : Text) where
 
 -- The last field, of which a `D` is told by its one character.
 module _ (s : Text) (a : ℕ) where
+  pub last-behind : a ≤ lastEnd s a
+  unfolding lastEnd
+  last-behind = omega arith
+
   pub last-beyond : length s ≤ a → a ≡ lastEnd s a
   unfolding lastEnd begins duplicateMark
   last-beyond h = rw (drop-of-length-le s h) (omega arith)

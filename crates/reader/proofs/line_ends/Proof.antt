@@ -23,7 +23,7 @@ shared-slice-read-if3 : tie.Need-shared-slice-read-if3
 shared-slice-read-if3 c = search needs
 
 returns-3 : tie.Need-returns-3
-returns-3 c = ends-no-cr _ _ (c .if3 .taken)
+returns-3 c = ends-no-cr (now (c .before .before .before .before .args .s)) (c .before .before .before .before .args .at) (c .if3 .taken)
 
 add-result : tie.Need-add-result
 add-result c = search needs
@@ -32,7 +32,7 @@ shared-slice-read-result : tie.Need-shared-slice-read-result
 shared-slice-read-result c = search needs
 
 returns-4 : tie.Need-returns-4
-returns-4 c = ends-by-lf _ _ (c .before .if3 .left)
+returns-4 c = ends-by-lf (now (c .before .before .before .before .before .args .s)) (c .before .before .before .before .before .args .at) (c .before .if3 .left)
 
 pub line-ends-spec : {M : Type 1} → statement M
 line-ends-spec =
