@@ -10,3 +10,5 @@ pub mod RecordLaws
 pub mod ParseLaws
 pub mod ReadLaws
 pub mod WholeLaws
+pub mod HeadLaws
+pub mod NotedLaws

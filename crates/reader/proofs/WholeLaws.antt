@@ -307,7 +307,7 @@ module _ (R : Rules) (s : Text) where
   unfolding readOf read
   read-law = refl
 
-  head-of-law : headOf R s ≡ cond (ltb (R .longestLog) (length s)) (HeadRead.Refused (refusal 1 0 0)) (headFrom R Due.Identifier 1 0 0 ((lines R s) .whole))
+  pub head-of-law : headOf R s ≡ cond (ltb (R .longestLog) (length s)) (HeadRead.Refused (refusal 1 0 0)) (headFrom R Due.Identifier 1 0 0 ((lines R s) .whole))
   unfolding headOf
   head-of-law = refl
 

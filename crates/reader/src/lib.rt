@@ -650,7 +650,7 @@ pub enum ReadAnswer {
 
 // A place of the record of this number, from 0, where the list has room for it.
 fn note(list: &mut [u16], i: usize, place: usize)
-    requires { ⌜ place ≤ 65_535 ⌝ }
+    requires { ⌜ place ≤ base .longestLog ⌝ }
     ensures { λ r. ⌜ now (list .exit) ≡ set (now (list .entry)) i place ⌝ }
 {
     if i < list.len() {
@@ -671,7 +671,7 @@ fn survey_records(
     pointsends: &mut [u16],
     ends: &mut [u16],
 ) -> ReadAnswer
-    requires { ⌜ (before ≤ first + 1) × (first ≤ length (now log)) × (length (now log) ≤ 65_535) ⌝ }
+    requires { ⌜ (before ≤ first + 1) × (first ≤ length (now log)) × (length (now log) ≤ base .longestLog) ⌝ }
     ensures answer { λ r. ⌜ r ≡ recordsTold base (now (log .entry)) records first claims records before first ⌝ }
     ensures calls { λ r. ⌜ now (calls .exit) ≡ listed (λ c. c .call) (contactsFrom base (now (log .entry)) records first) (now (calls .entry)) ⌝ }
     ensures exchanges { λ r. ⌜ now (exchanges .exit) ≡ listed (λ c. c .exchange) (contactsFrom base (now (log .entry)) records first) (now (exchanges .entry)) ⌝ }

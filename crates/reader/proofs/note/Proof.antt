@@ -1,12 +1,14 @@
 -- A place is stored where the list has room for it.
 use borrow.Author.Needs.{needs}
+use native.Mathlib.Omega.{arith}
 use mathlib.Core.Path.{sym}
 use lib.Seq.{set-out}
+use Rattle.reader.proofs.HeadLaws.{log-small}
 use Rattle.reader.proofs.note.Statement.{statement}
 use Rattle.reader.proofs.note.Tie as tie
 
 cast-list : tie.Need-cast-list
-cast-list c = search needs
+cast-list c = omega (arith, c .before .pre, log-small)
 
 mul-list : tie.Need-mul-list
 mul-list c = search needs
