@@ -18,7 +18,7 @@ use Rattle.figures.specs.declared.NumberRead.{NumberRead}
 use Rattle.figures.specs.declared.NumberRead.the-variants as NumberRead
 use Rattle.figures.specs.Figure.{numberAt}
 use Rattle.figures.proofs.Picked.{number-picked, number-refused}
-use Rattle.header.proofs.PartLaws.{end-by-span, end-within}
+use Rattle.fields.proofs.PartLaws.{end-by-span, end-within}
 use Rattle.places.specs.declared.Contact.{Contact}
 use Rattle.places.specs.declared.Tail.{Tail}
 use Rattle.places.specs.Places.{fieldStart, valueBy, tailAt, contactAt, Holds}

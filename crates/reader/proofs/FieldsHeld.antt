@@ -12,7 +12,7 @@ use Rattle.rules.specs.Arguments.{every}
 use Rattle.rules.proofs.TextLaws.{joined-parts, parts-some, plain, span-run}
 use Rattle.rules.proofs.LogLaws.{every-first, every-others}
 use Rattle.fields.specs.Field.{inField, textAt, endOf}
-use Rattle.header.proofs.PartLaws.{parts-more}
+use Rattle.fields.proofs.PartLaws.{parts-more}
 use Rattle.reader.specs.Contact.{fieldStart}
 use Rattle.reader.specs.Record.{fieldsFrom}
 use Rattle.reader.proofs.PlaceLaws.{starts-rise}

@@ -22,7 +22,7 @@ use Rattle.figures.specs.declared.NumberRead.{NumberRead}
 use Rattle.figures.specs.declared.NumberRead.the-variants as NumberRead
 use Rattle.figures.specs.Figure.{dateAt, numberAt}
 use Rattle.figures.proofs.Picked.{date-is-empty, date-picked, date-refused, number-picked, number-refused}
-use Rattle.header.proofs.PartLaws.{end-by-span, end-within}
+use Rattle.fields.proofs.PartLaws.{end-by-span, end-within}
 use Rattle.reader.specs.declared.DatedRead.{DatedRead}
 use Rattle.reader.specs.declared.DatedRead.the-variants as DatedRead
 use Rattle.reader.specs.Contact.{fieldStart}

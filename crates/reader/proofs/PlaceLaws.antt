@@ -20,7 +20,7 @@ use Rattle.figures.specs.declared.NumberRead.{NumberRead}
 use Rattle.figures.specs.declared.NumberRead.the-variants as NumberRead
 use Rattle.figures.specs.Figure.{numberAt}
 use Rattle.figures.proofs.Picked.{number-picked, number-refused}
-use Rattle.header.proofs.PartLaws.{end-by-span, end-within}
+use Rattle.fields.proofs.PartLaws.{end-by-span, end-within}
 use Rattle.reader.specs.Contact.{fieldStart, valueBy, lastEnd, contactAt, behind, Holds}
 
 module _ (s : Text) where

@@ -24,7 +24,7 @@ use Rattle.figures.specs.declared.NumberRead.{NumberRead}
 use Rattle.figures.specs.declared.NumberRead.the-variants as NumberRead
 use Rattle.figures.specs.Figure.{numberAt}
 use Rattle.figures.proofs.Picked.{number-picked, number-refused}
-use Rattle.header.proofs.PartLaws.{whole-span}
+use Rattle.fields.proofs.PartLaws.{whole-span}
 use Rattle.header.proofs.RuleLaws.{all-apart}
 
 -- So many records.

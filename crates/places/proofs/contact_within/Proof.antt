@@ -2,7 +2,7 @@ use native.Mathlib.Omega.{arith}
 use mathlib.Core.Path.{_≡_, sym, _∙_}
 use denote.Ref.{now}
 use Rattle.fields.specs.Field.{endOf}
-use Rattle.header.proofs.PartLaws.{end-by-span}
+use Rattle.fields.proofs.PartLaws.{end-by-span}
 use Rattle.places.specs.Places.{fieldStart}
 use Rattle.places.proofs.PlaceLaws.{field-ends, next-start, fields-on, ends-near, told}
 use borrow.Author.Needs.{needs}

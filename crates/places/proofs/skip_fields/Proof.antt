@@ -4,7 +4,7 @@ use mathlib.Core.Path.{_≡_, refl, sym, ap, _∙_}
 use Prim.Native.Nat.{ℕ, _+_, _-_, _≤_}
 use denote.Ref.{now}
 use Rattle.fields.specs.Field.{endOf}
-use Rattle.header.proofs.PartLaws.{end-by-span, end-within}
+use Rattle.fields.proofs.PartLaws.{end-by-span, end-within}
 use Rattle.places.specs.Places.{fieldStart}
 use Rattle.places.proofs.PlaceLaws.{start-within, start-next}
 use Rattle.places.proofs.skip_fields.Statement.{statement}
