@@ -7,22 +7,26 @@ use mathlib.Core.Path.{_≡_, refl, sym, ap, ap₂, _∙_}
 use mathlib.Core.List.{List, [], _∷_}
 use lib.ListN.{length, length-set, set}
 use borrow.Author.Tests.{le-ltb, lt-ltb}
+use Rattle.rules.specs.declared.Refusal.{Refusal}
 use Rattle.rules.specs.Text.{Text}
 use Rattle.rules.specs.Rules.{Rules}
 use Rattle.rules.specs.Answers.{over}
 use Rattle.rules.specs.Reading.{refusal}
 use Rattle.reader.specs.declared.Contact.{Contact}
+use Rattle.reader.specs.declared.HeadRead.{HeadRead}
+use Rattle.reader.specs.declared.HeadRead.the-variants as HeadRead
 use Rattle.reader.specs.declared.ReadAnswer.{ReadAnswer}
 use Rattle.reader.specs.declared.ReadAnswer.the-variants as ReadAnswer
 use Rattle.reader.specs.declared.RecordRead.{RecordRead}
 use Rattle.reader.specs.declared.RecordRead.the-variants as RecordRead
 use Rattle.reader.specs.Contact.{behind, contactAt, fieldStart, lastEnd}
 use Rattle.reader.specs.Record.{recordAt}
-use Rattle.reader.specs.Read.{recordsTold}
-use Rattle.reader.specs.Noted.{contactsFrom, listed}
+use Rattle.reader.specs.Read.{headOf, readOf, recordsTold}
+use Rattle.reader.specs.Noted.{contactsFrom, contactsRead, listed}
 use Rattle.reader.proofs.ParseLaws.{took}
 use Rattle.reader.proofs.PlaceLaws.{last-behind, start-more, start-next, starts-rise}
 use Rattle.reader.proofs.ReadLaws.{behind-line, end-told, next-kept, next-stops, noted-ends, noted-kept}
+use Rattle.reader.proofs.WholeLaws.{contacts-by-head, headContacts, onHead, read-by-head}
 
 -- What a list holds once the places of these records are noted from a number on.
 unfoldable pub listedFrom : ℕ → (Contact → ℕ) → List Contact → List ℕ → List ℕ
@@ -187,3 +191,23 @@ module _ (R : Rules) (s : Text) (records first : ℕ) (place : Contact → ℕ) 
         (w .list
         ∙ ap (λ (j : ℕ). listedFrom i place (contactsFrom R s j at) now) none
         ∙ listed-none place i now)
+
+-- # The log as a whole
+
+module _ (R : Rules) (s : Text) where
+  -- A head that is refused: nothing is noted.
+  module _ {r : Refusal} (e : headOf R s ≡ HeadRead.Refused r) where
+    pub refused-read : ReadAnswer.Refused r ≡ readOf R s
+    refused-read = sym (read-by-head R s ∙ ap (onHead R s) e)
+
+    pub refused-listed : (place : Contact → ℕ) (slice : List ℕ) → slice ≡ listed place (contactsRead R s) slice
+    refused-listed place slice =
+        sym (ap (λ (cs : List Contact). listed place cs slice) (contacts-by-head R s ∙ ap (headContacts R s) e) ∙ listed-first place [] slice ∙ listed-none place 0 slice)
+
+  -- A head that leads to the records: what is told and noted of them is told and noted of the log.
+  module _ {records first claims line : ℕ} (e : headOf R s ≡ HeadRead.Head records first claims line) where
+    pub records-read : {a : ReadAnswer} → a ≡ recordsTold R s records first claims records line first → a ≡ readOf R s
+    records-read h = h ∙ sym (read-by-head R s ∙ ap (onHead R s) e)
+
+    pub records-listed : (place : Contact → ℕ) (slice : List ℕ) {now : List ℕ} → now ≡ listed place (contactsFrom R s records first) slice → now ≡ listed place (contactsRead R s) slice
+    records-listed place slice h = h ∙ sym (ap (λ (cs : List Contact). listed place cs slice) (contacts-by-head R s ∙ ap (headContacts R s) e))

@@ -71,9 +71,8 @@ room : (d : tie.After-known-told2 Inv-loop μ-loop) → (turn-of d) .loop .i < (
 room d = d .before .before .before .before .loop-test .taken
 
 loop-holds : tie.Need-loop-holds Inv-loop μ-loop
-loop-holds c = 
-    let p = c .before .before .before .before .before .before .pre in
-    (
+loop-holds c =
+    let p = c .before .before .before .before .before .before .pre in (
       surveys-first base _ _ _ _ (p .0) (p .1) (p .2),
       fills-first base _ _ _ _ _,
       fills-first base _ _ _ _ _,
@@ -104,11 +103,10 @@ same-length-5 : tie.Need-same-length-5 Inv-loop μ-loop
 same-length-5 c = (c .before .before .before .before .before .loop .inv .5) .long
 
 returns : tie.Need-returns Inv-loop μ-loop
-returns c = 
+returns c =
     let l = c .before .before .before .before .before in
     let h = c .before .before .before .before .loop-test .taken in
-    let e = sym (c .before .before .before .record-at .ensures) ∙ c .before .told .given .1 in
-    (
+    let e = sym (c .before .before .before .record-at .ensures) ∙ c .before .told .given .1 in (
       surveys-stop base _ _ _ _ (l .loop .inv .0) h e,
       (
         fills-stop base _ _ _ _ _ (l .loop .inv .1) h e,
@@ -156,11 +154,10 @@ loop-less : tie.Need-loop-less Inv-loop μ-loop
 loop-less c = let d = kept5 (c .before .before .before .before) in omega (arith, room d)
 
 loop-again : tie.Need-loop-again Inv-loop μ-loop
-loop-again c = 
+loop-again c =
     let e = c .before .before .before .before in
     let d = kept5 e in
-    let w = (turn-of d) .loop .inv in
-    (
+    let w = (turn-of d) .loop .inv in (
       surveys-next base _ _ _ _ (w .0) (room d) (took-it d),
       fills-next base _ _ _ _ _ (w .1) (room d) (took-it d) ((arg3 (arg4 (arg5 e))) .before .before .before .note .ensures),
       fills-next base _ _ _ _ _ (w .2) (room d) (took-it d) ((arg4 (arg5 e)) .before .before .before .note2 .ensures),
@@ -185,10 +182,9 @@ same-length-10 : tie.Need-same-length-10 Inv-loop μ-loop
 same-length-10 c = (c .before .before .loop .inv .5) .long
 
 returns-2 : tie.Need-returns-2 Inv-loop μ-loop
-returns-2 c = 
+returns-2 c =
     let l = c .before .before in
-    let h = c .before .loop-test .left in
-    (
+    let h = c .before .loop-test .left in (
       surveys-more base _ _ _ _ (l .loop .inv .0) h (c .if1 .taken),
       (
         fills-end base _ _ _ _ _ (l .loop .inv .1) h,
@@ -221,10 +217,9 @@ same-length-15 : tie.Need-same-length-15 Inv-loop μ-loop
 same-length-15 c = (c .before .before .loop .inv .5) .long
 
 returns-3 : tie.Need-returns-3 Inv-loop μ-loop
-returns-3 c = 
+returns-3 c =
     let l = c .before .before in
-    let h = c .before .loop-test .left in
-    (
+    let h = c .before .loop-test .left in (
       surveys-end base _ _ _ _ (l .loop .inv .0) h (c .if1 .left),
       (
         fills-end base _ _ _ _ _ (l .loop .inv .1) h,
