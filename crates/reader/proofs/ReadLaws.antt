@@ -51,7 +51,7 @@ module _ (R : Rules) (s : Text) (at : ℕ) where
     pub none : firstLine R (drop at s) ≡ noLine
     pub rest-is : drop at s ≡ rest
 
-  behind-line : (l r : Text) → firstLine R (drop at s) ≡ aLine l r → (r ≡ drop (at + length l + 2) s) × (at + length l + 2 ≤ length s)
+  pub behind-line : (l r : Text) → firstLine R (drop at s) ≡ aLine l r → (r ≡ drop (at + length l + 2) s) × (at + length l + 2 ≤ length s)
   unfolding crlf
   behind-line l r e =
       let text : drop at s ≡ l ++ (crlf ++ r) = line-there R s at l r e in
@@ -156,7 +156,7 @@ module _ (R : Rules) (s : Text) (records first claims : ℕ) where
     pub contacts : contactsFrom R s j at ≡ notedFrom R s (recordsDue j) at ls
 
   -- Behind the last record.
-  end-told : (n at : ℕ) {b : Bool} → ltb at (length s) ≡ b → recordsTold R s records first claims 0 n at ≡ cond b (ReadAnswer.Refused (refusal 6 n 0)) (ReadAnswer.Accepted records first claims)
+  pub end-told : (n at : ℕ) {b : Bool} → ltb at (length s) ≡ b → recordsTold R s records first claims 0 n at ≡ cond b (ReadAnswer.Refused (refusal 6 n 0)) (ReadAnswer.Accepted records first claims)
   unfolding recordsTold
   end-told n at e = rw e
 

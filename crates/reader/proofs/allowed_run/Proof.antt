@@ -98,7 +98,7 @@ is-allowed-requires : tie.Need-is-allowed-requires Inv-loop μ-loop
 is-allowed-requires c κs = search needs
 
 returns-2 : tie.Need-returns-2 Inv-loop μ-loop
-returns-2 c = 
+returns-2 c =
     run-stops (c .before .before .before .before .loop .inv .1) (omega (arith, c .before .before .before .loop-test .taken)) (c .before .is-allowed .ensures) (c .if2 .taken)
 
 add-is-allowed : tie.Need-add-is-allowed Inv-loop μ-loop

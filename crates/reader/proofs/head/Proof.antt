@@ -47,12 +47,12 @@ longest-log-requires : tie.Need-longest-log-requires Inv-loop μ-loop
 longest-log-requires c κs = search needs
 
 returns : tie.Need-returns Inv-loop μ-loop
-returns c = 
+returns c =
     let long : base .longestLog < length (now (c .before .before .before .args .log)) = omega (arith, c .before .longest-log .ensures, c .if1 .taken) in
     head-too-long base _ long
 
 loop-holds : tie.Need-loop-holds Inv-loop μ-loop
-loop-holds c = 
+loop-holds c =
     let short : length (now (c .before .before .before .args .log)) ≤ base .longestLog = omega (arith, c .before .longest-log .ensures, c .if1 .left) in
     (omega arith, short, omega arith, refl, head-starts base _ short)
 
@@ -84,7 +84,7 @@ enum-known-after : tie.Need-enum-known-after Inv-loop μ-loop
 enum-known-after c = search needs
 
 returns-3 : tie.Need-returns-3 Inv-loop μ-loop
-returns-3 c = 
+returns-3 c =
     let d = c .before .before .before .before .before in
     sym
     ((looped d) .loop .inv .4
@@ -106,7 +106,7 @@ enum-known-count : tie.Need-enum-known-count Inv-loop μ-loop
 enum-known-count c = search needs
 
 returns-4 : tie.Need-returns-4 Inv-loop μ-loop
-returns-4 c = 
+returns-4 c =
     let k = c .before .before .before .before in
     let d = lined k in
     sym ((looped d) .loop .inv .4 ∙ head-ends base _ _ _ _ _ (line-is d) (goes k) (sym (c .before .before .before .counted-by .ensures) ∙ c .before .count .given .1))
@@ -121,12 +121,11 @@ loop-less : tie.Need-loop-less Inv-loop μ-loop
 loop-less c = let d = lined (c .before .before .before .before) in omega (arith, (found d) .behind, (found d) .within)
 
 loop-again : tie.Need-loop-again Inv-loop μ-loop
-loop-again c = 
+loop-again c =
     let k = c .before .before .before .before in
     let d = lined k in
     let l = looped d in
-    let further = sym (c .before .before .before .counted-by .ensures) ∙ c .before .enum-told2 .given .1 in
-    (
+    let further = sym (c .before .before .before .counted-by .ensures) ∙ c .before .enum-told2 .given .1 in (
       omega (arith, (found d) .within),
       l .loop .inv .1,
       omega (arith, (found d) .behind, l .loop .inv .2),

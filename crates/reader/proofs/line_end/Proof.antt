@@ -23,7 +23,7 @@ line-ends-requires : tie.Need-line-ends-requires
 line-ends-requires c κs = search needs
 
 returns-2 : tie.Need-returns-2
-returns-2 c = 
+returns-2 c =
     line-found base _ _ _ (c .before .before .before .before .allowed-run .ensures) (omega (arith, c .before .before .before .longest-line .ensures, c .before .before .if1 .left)) (sym (c .before .line-ends .ensures) ∙ c .if2 .taken)
 
 returns-3 : tie.Need-returns-3

@@ -15,7 +15,7 @@ sub-if2 : tie.Need-sub-if2
 sub-if2 c = search needs
 
 returns-2 : tie.Need-returns-2
-returns-2 c = 
+returns-2 c =
     let short : length (now (c .before .before .args .s)) ≤ c .before .before .args .at + 1 = omega (arith, c .if2 .taken) in
     ends-between _ _ short
 

@@ -338,7 +338,7 @@ enum-told-2 : tie.Need-enum-told-2
 enum-told-2 c = search needs
 
 returns-3 : tie.Need-returns-3
-returns-3 c = 
+returns-3 c =
     field-broken (stands1 (c .before .before .before)) timeOfDay (test-is base _ _ 1 (tests-are base _ _)) (omega arith) (time-refused _ _ (sym (c .before .before .time .ensures) ∙ c .enum-told2 .given .1))
 
 add-call : tie.Need-add-call
@@ -354,7 +354,7 @@ enum-told-3 : tie.Need-enum-told-3
 enum-told-3 c = search needs
 
 returns-4 : tie.Need-returns-4
-returns-4 c = 
+returns-4 c =
     field-broken (stands2 (c .before .before .before)) call (test-is base _ _ 2 (tests-are base _ _)) (omega arith) (call-refused _ _ (sym (c .before .before .call .ensures) ∙ c .enum-told3 .given .1))
 
 add-mode : tie.Need-add-mode
@@ -370,7 +370,7 @@ enum-told-4 : tie.Need-enum-told-4
 enum-told-4 c = search needs
 
 returns-5 : tie.Need-returns-5
-returns-5 c = 
+returns-5 c =
     field-broken (stands3 (c .before .before .before)) mode (test-is base _ _ 3 (tests-are base _ _)) (omega arith) (mode-refused _ _ (sym (c .before .before .mode .ensures) ∙ c .enum-told4 .given .1))
 
 add-report : tie.Need-add-report
@@ -386,7 +386,7 @@ enum-told-5 : tie.Need-enum-told-5
 enum-told-5 c = search needs
 
 returns-6 : tie.Need-returns-6
-returns-6 c = 
+returns-6 c =
     field-broken (stands4 (c .before .before .before)) report (test-is base _ _ 4 (tests-are base _ _)) (omega arith) (report-refused _ _ (sym (c .before .before .report .ensures) ∙ c .enum-told5 .given .1))
 
 add-serial : tie.Need-add-serial
@@ -402,7 +402,7 @@ enum-told-6 : tie.Need-enum-told-6
 enum-told-6 c = search needs
 
 returns-7 : tie.Need-returns-7
-returns-7 c = 
+returns-7 c =
     field-broken (stands5 (c .before .before .before)) serial (test-is base _ _ 5 (tests-are base _ _)) (omega arith) (serial-refused _ _ (sym (c .before .before .serial .ensures) ∙ c .enum-told6 .given .1))
 
 add-report-2 : tie.Need-add-report-2
@@ -418,7 +418,7 @@ enum-told-7 : tie.Need-enum-told-7
 enum-told-7 c = search needs
 
 returns-8 : tie.Need-returns-8
-returns-8 c = 
+returns-8 c =
     field-broken (stands6 (c .before .before .before)) report (test-is base _ _ 6 (tests-are base _ _)) (omega arith) (report-refused _ _ (sym (c .before .before .report2 .ensures) ∙ c .enum-told7 .given .1))
 
 add-serial-2 : tie.Need-add-serial-2
@@ -434,7 +434,7 @@ enum-told-8 : tie.Need-enum-told-8
 enum-told-8 c = search needs
 
 returns-9 : tie.Need-returns-9
-returns-9 c = 
+returns-9 c =
     field-broken (stands7 (c .before .before .before)) serial (test-is base _ _ 7 (tests-are base _ _)) (omega arith) (serial-refused _ _ (sym (c .before .before .serial2 .ensures) ∙ c .enum-told8 .given .1))
 
 add-exchange : tie.Need-add-exchange
@@ -450,7 +450,7 @@ enum-told-9 : tie.Need-enum-told-9
 enum-told-9 c = search needs
 
 returns-10 : tie.Need-returns-10
-returns-10 c = 
+returns-10 c =
     field-broken (stands8 (c .before .before .before)) (exchange base) (test-is base _ _ 8 (tests-are base _ _)) (omega arith) (exchange-refused _ _ (sym (c .before .before .exchange .ensures) ∙ c .enum-told9 .given .1))
 
 add-locator : tie.Need-add-locator
@@ -466,7 +466,7 @@ enum-told-10 : tie.Need-enum-told-10
 enum-told-10 c = search needs
 
 returns-11 : tie.Need-returns-11
-returns-11 c = 
+returns-11 c =
     field-broken (stands9 (c .before .before .before)) (emptyOr locator) (test-is base _ _ 9 (tests-are base _ _)) (omega arith) (locator-or-empty-refused _ _ (sym (c .before .before .locator-or-empty .ensures) ∙ c .enum-told10 .given .1))
 
 add-points : tie.Need-add-points
@@ -482,7 +482,7 @@ enum-told-11 : tie.Need-enum-told-11
 enum-told-11 c = search needs
 
 returns-12 : tie.Need-returns-12
-returns-12 c = 
+returns-12 c =
     field-broken (stands10 (c .before .before .before)) (scoreRule base (error10 (c .before .before .before))) (points-test (c .before .before .before)) (omega arith) (number-refused _ _ _ (sym (c .before .before .scored .ensures) ∙ c .enum-told11 .given .1))
 
 add-mark : tie.Need-add-mark
@@ -498,7 +498,7 @@ enum-told-12 : tie.Need-enum-told-12
 enum-told-12 c = search needs
 
 returns-13 : tie.Need-returns-13
-returns-13 c = 
+returns-13 c =
     field-broken (stands11 (c .before .before .before)) (emptyOr (same (78 ∷ []))) (test-is base _ _ 11 (tests-are base _ _)) (omega arith) (mark-refused _ _ _ (sym (c .before .before .mark .ensures) ∙ c .enum-told12 .given .1))
 
 add-mark-2 : tie.Need-add-mark-2
@@ -514,7 +514,7 @@ enum-told-13 : tie.Need-enum-told-13
 enum-told-13 c = search needs
 
 returns-14 : tie.Need-returns-14
-returns-14 c = 
+returns-14 c =
     field-broken (stands12 (c .before .before .before)) (emptyOr (same (78 ∷ []))) (test-is base _ _ 12 (tests-are base _ _)) (omega arith) (mark-refused _ _ _ (sym (c .before .before .mark2 .ensures) ∙ c .enum-told13 .given .1))
 
 add-mark-3 : tie.Need-add-mark-3
@@ -530,7 +530,7 @@ enum-told-14 : tie.Need-enum-told-14
 enum-told-14 c = search needs
 
 returns-15 : tie.Need-returns-15
-returns-15 c = 
+returns-15 c =
     field-broken (stands13 (c .before .before .before)) (emptyOr (same (78 ∷ []))) (test-is base _ _ 13 (tests-are base _ _)) (omega arith) (mark-refused _ _ _ (sym (c .before .before .mark3 .ensures) ∙ c .enum-told14 .given .1))
 
 add-last-end : tie.Need-add-last-end
@@ -540,7 +540,7 @@ last-end-requires : tie.Need-last-end-requires
 last-end-requires c κs = search needs
 
 returns-16 : tie.Need-returns-16
-returns-16 c = 
+returns-16 c =
     let d = c .before in
     ap Parsed.Fields
     (contact-is base _ _ ((stands2 (behind3 d .before .before .before .before)) .place) ((stands3 (behind3 d)) .place) ((stands8 (behind9 d .before .before .before .before)) .place) ((stands9 (behind9 d)) .place) ((stands10 (behind10 d)) .place) ((stands11 (behind11 d)) .place) (worth11 (behind11 d)) (error-known3 (behind3 d)) (country14 d) (last14 c))

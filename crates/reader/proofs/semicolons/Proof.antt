@@ -33,7 +33,7 @@ loop-less : tie.Need-loop-less Inv-loop μ-loop
 loop-less c = search needs
 
 loop-again : tie.Need-loop-again Inv-loop μ-loop
-loop-again c = 
+loop-again c =
     let line = now (c .before .before .before .before .args .line) in
     let i = c .before .before .before .loop .i in
     ⊎-elim

@@ -18,7 +18,7 @@ field-end-requires-2 : tie.Need-field-end-requires-2
 field-end-requires-2 c κs = search needs
 
 add-call : tie.Need-add-call
-add-call c = 
+add-call c =
     omega (
       arith,
       end-near (now (c .before .before .before .args .s)) (c .before .before .before .args .at) (c .before .field-end .result) (c .before .field-end .ensures),
@@ -35,13 +35,13 @@ enum-told : tie.Need-enum-told
 enum-told c = search needs
 
 returns : tie.Need-returns
-returns c = 
+returns c =
     error-unknown _ _ 2
     (third-start _ _ _ _ (c .before .before .before .before .field-end .ensures) (c .before .before .before .field-end2 .ensures))
     (sym (c .before .before .call .ensures) ∙ c .enum-told .given .1)
 
 returns-2 : tie.Need-returns-2
-returns-2 c = 
+returns-2 c =
     error-known _ _ 2
     (third-start _ _ _ _ (c .before .before .before .before .before .field-end .ensures) (c .before .before .before .before .field-end2 .ensures))
     (sym (c .before .before .before .call .ensures) ∙ c .before .error .given .1)
