@@ -82,7 +82,7 @@ keyword-by : (k : ℕ) (line : Text) → k < 36 → keywordAt k line ≡ cond (b
 unfolding keywordAt firstKeyword
 keyword-by k line h = rw (entry-due k h)
 
-argument-by : (k : ℕ) (t : Text) → k < 36 → argumentOf k t ≡ cond (meets base ((entryAt k) .rule) t) ArgumentRead.Kept ArgumentRead.Broken
+argument-by : (k : ℕ) (t : Text) → k < 36 → argumentOf base k t ≡ cond (meets base ((entryAt k) .rule) t) ArgumentRead.Kept ArgumentRead.Broken
 unfolding argumentOf firstArgument
 argument-by k t h = rw (entry-due k h)
 
@@ -144,11 +144,11 @@ module _ (k : ℕ) (line : Text) where
         ∙ ap (λ (n : ℕ). cond (meets base ((entryAt k) .rule) (drop n line)) (Next.Goes next) (Next.Stops 4 0)) (start-six k within)
         ∙ ap (λ (t : Bool). cond t (Next.Goes next) (Next.Stops 4 0)) m
 
-    ruled : {r : ArgumentRead} → argumentOf k (take (length line - 6) (drop 6 line)) ≡ r
+    ruled : {r : ArgumentRead} → argumentOf base k (take (length line - 6) (drop 6 line)) ≡ r
         → cond (meets base ((entryAt k) .rule) (drop 6 line)) ArgumentRead.Kept ArgumentRead.Broken ≡ r
-    ruled q = sym (argument-by k (drop 6 line) within) ∙ ap (argumentOf k) (sym (behind 6 line)) ∙ q
+    ruled q = sym (argument-by k (drop 6 line) within) ∙ ap (argumentOf base k) (sym (behind 6 line)) ∙ q
 
-    pub argument-broken : argumentOf k (take (length line - 6) (drop 6 line)) ≡ ArgumentRead.Broken → Next.Stops 4 0 ≡ keywordDue base (drop k entries) k line
+    pub argument-broken : argumentOf base k (take (length line - 6) (drop 6 line)) ≡ ArgumentRead.Broken → Next.Stops 4 0 ≡ keywordDue base (drop k entries) k line
     argument-broken q = by (decLt k 35)
       where
         m : meets base ((entryAt k) .rule) (drop 6 line) ≡ false
@@ -158,7 +158,7 @@ module _ (k : ℕ) (line : Text) where
         by (yes l) = sym (due-more k line l ∙ line-by (Due.Keyword (k + 1)) false m)
         by (no l) = sym (due-one k line (omega arith) within ∙ line-by Due.Remarks false m)
 
-    module _ (q : argumentOf k (take (length line - 6) (drop 6 line)) ≡ ArgumentRead.Kept) where
+    module _ (q : argumentOf base k (take (length line - 6) (drop 6 line)) ≡ ArgumentRead.Kept) where
       kept : meets base ((entryAt k) .rule) (drop 6 line) ≡ true
       kept = picked (meets base ((entryAt k) .rule) (drop 6 line)) (ruled q) broken-not .0
 

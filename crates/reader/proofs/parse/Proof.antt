@@ -184,7 +184,7 @@ stands8 c =
 
 stands9 : (c : tie.After-known-told9) → Stands base (text9 c) (at9 c) 9 (c .before .exchangeend .given .0 .0 + 1)
 stands9 c =
-    field-kept (stands8 (c .before .before .before .before)) (exchange base) (test-is base _ _ 8 (tests-are base _ _)) (exchange-picked _ _ (sym (c .before .before .before .exchange .ensures) ∙ c .before .exchangeend .given .1))
+    field-kept (stands8 (c .before .before .before .before)) (exchange base) (test-is base _ _ 8 (tests-are base _ _)) (exchange-picked base _ _ (sym (c .before .before .before .exchange .ensures) ∙ c .before .exchangeend .given .1))
 
 stands10 : (c : tie.After-known-told10) → Stands base (text10 c) (at10 c) 10 (c .before .locatorend .given .0 .0 + 1)
 stands10 c =
@@ -451,7 +451,7 @@ enum-told-9 c = search needs
 
 returns-10 : tie.Need-returns-10
 returns-10 c =
-    field-broken (stands8 (c .before .before .before)) (exchange base) (test-is base _ _ 8 (tests-are base _ _)) (omega arith) (exchange-refused _ _ (sym (c .before .before .exchange .ensures) ∙ c .enum-told9 .given .1))
+    field-broken (stands8 (c .before .before .before)) (exchange base) (test-is base _ _ 8 (tests-are base _ _)) (omega arith) (exchange-refused base _ _ (sym (c .before .before .exchange .ensures) ∙ c .enum-told9 .given .1))
 
 add-locator : tie.Need-add-locator
 add-locator c = omega (arith, near (stands9 c) (omega (arith, lies9 c .0)), lies9 c .1)
