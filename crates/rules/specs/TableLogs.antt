@@ -85,7 +85,7 @@ unfoldable pub plain : List Text
 unfolding opening
 plain = opening ("0;1" ∷ "77" ∷ "9;500;1" ∷ "0" ∷ "0;0;1" ∷ "0" ∷ "0;0;1" ∷ "0" ∷ "123456789" ∷ [])
 
--- Case 12: its five records, and the same log as it is to be written back.
+-- Case 12: its five records, and the same log as it is to be written back, with 2 contacts, 200 points, 1 square and a total of 700.
 unfoldable pub case12 : Text
 unfolding textOf plain
 case12 =
@@ -142,6 +142,7 @@ unfoldable pub emptyLog : Text
 unfolding textOf plain
 emptyLog = textOf plain ("[QSORecords;0]" ∷ [])
 
+-- A record that keeps every rule, and a log whose second record breaks one in its third field, and whose third in its first.
 unfoldable pub aRecord : Text
 aRecord = bytes "240302;1401;DK1AA;1;59;001;59;004;;JO40AA;120;;N;N;"
 
@@ -158,6 +159,7 @@ threeBad =
 unfoldable pub readingCases : List Case
 unfolding threeBad emptyLog textOf plain lined aRecord
 readingCases =
+    -- case 1, and case 2 with its total
     reads 2 1 0 0 []
     ∷ reads 0 0 0 0 emptyLog
     ∷ case (comesTo emptyLog) (replicate 12 0)
@@ -202,7 +204,7 @@ readingCases =
     ∷ reads 5 41 3 0 threeBad
     ∷ reads 5 40 11 0 (textOf plain ("[QSORecords;1]" ∷ ";1410;ERROR;;;003;;;;;1;;;;" ∷ []))
     ∷ reads 0 0 0 1 (textOf plain ("[QSORecords;1]" ∷ ";1410;ERROR;;;003;;;;;0;;;;" ∷ []))
-    -- 6
+    -- 6, case 11 before the others
     ∷ reads 6 41 0 0 (textOf plain ("[QSORecords;2]" ∷ "240302;1410;ERROR;;;003;;;;;0;;;;" ∷ []))
     ∷ reads 6 42 0 0 (textOf plain ("[QSORecords;2]" ∷ "240302;1410;ERROR;;;003;;;;;0;;;;" ∷ "240302;1410;ERROR;;;003;;;;;0;;;;" ∷ "240302;1410;ERROR;;;003;;;;;0;;;;" ∷ []))
     ∷ reads 6 40 0 0 (textOf plain ("[QSORecords;1]" ∷ []))
