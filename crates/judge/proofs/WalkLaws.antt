@@ -62,8 +62,8 @@ module _ (R : Rules) (s : Text) (place : Contact → ℕ) (list : List ℕ) wher
         ∙ ap (drop 1) (sym (ap (take (suc k)) (drop-cons list i 0 g)) ∙ h)
 
 -- What changes in front of an index leaves what stands behind it.
-noting-kept : (R : Rules) (s : Text) (place : Contact → ℕ) (at k m i : ℕ) {list list' : List ℕ} → m ≤ i → drop (m + 1) list' ≡ drop (m + 1) list → Noting R s place at k list (i + 1) → Noting R s place at k list' (i + 1)
-noting-kept R s place at k m i {list} {list'} h e n =
+noting-kept : (R : Rules) (s : Text) (place : Contact → ℕ) (at k m i : ℕ) (list list' : List ℕ) → m ≤ i → drop (m + 1) list' ≡ drop (m + 1) list → Noting R s place at k list (i + 1) → Noting R s place at k list' (i + 1)
+noting-kept R s place at k m i list list' h e n =
     let there : m + 1 + (i - m) ≡ i + 1 = omega arith in
     let same : drop (i + 1) list' ≡ drop (i + 1) list =
         ap (λ (x : ℕ). drop x list') (sym there)
@@ -183,7 +183,7 @@ module _ (R : Rules) (s : Text) (qs : List Qso) (i at : ℕ) (credited : List Qs
           drop (b + 1) exchanges' ≡ drop (b + 1) exchanges →
           Going R s qs (i + 1) (behind (contactAt R s at)) (creditedAfter (v .class) q credited) rest m' t' calls' exchanges' points pointsends
       unfolding addRecords verdictsAfter
-      goes-on {t'} a b e hc hx hp he ha hb rc rx =
+      goes-on {t'} {calls'} {exchanges'} a b e hc hx hp he ha hb rc rx =
           let sums = sums-next e in
           record {
             held = g .held .1;
@@ -193,8 +193,8 @@ module _ (R : Rules) (s : Text) (qs : List Qso) (i at : ℕ) (credited : List Qs
             totals = g .totals ∙ ap (λ (x : Totals). addRecords x rest (verdictsAfter R (creditedAfter (v .class) q credited) rest)) (sym sums);
             numbers = sym (drop-drop 1 i (numbersOf R qs)) ∙ ap (drop 1) (g .numbers);
             counts = rw sums (counts-more R i t (value (q .points)) v (g .counts) (points-most told-next));
-            callsNoted = noting-kept R s (λ c. c .call) (behind (contactAt R s at)) (length rest) a i ha rc (noted-rest R s (λ c. c .call) calls at (length rest) i (g .callsNoted) hc);
-            exchangesNoted = noting-kept R s (λ c. c .exchange) (behind (contactAt R s at)) (length rest) b i hb rx (noted-rest R s (λ c. c .exchange) exchanges at (length rest) i (g .exchangesNoted) hx);
+            callsNoted = noting-kept R s (λ c. c .call) (behind (contactAt R s at)) (length rest) a i calls calls' ha rc (noted-rest R s (λ c. c .call) calls at (length rest) i (g .callsNoted) hc);
+            exchangesNoted = noting-kept R s (λ c. c .exchange) (behind (contactAt R s at)) (length rest) b i exchanges exchanges' hb rx (noted-rest R s (λ c. c .exchange) exchanges at (length rest) i (g .exchangesNoted) hx);
             pointsNoted = noted-rest R s (λ c. c .points) points at (length rest) i (g .pointsNoted) hp;
             endsNoted = noted-rest R s (λ c. c .pointsend) pointsends at (length rest) i (g .endsNoted) he;
           }

@@ -1,3 +1,4 @@
+-- Each turn judges one record by what was noted of it; after the last the totals are those of all.
 use Rattle.rules.specs.Rules.{base}
 use Rattle.judge.proofs.WalkLaws.{Walks, walks-begin, walks-end, ready, countable, walks-on}
 use borrow.Author.Needs.{needs}
@@ -9,13 +10,6 @@ use lib.ListN.{length, drop, take, getD, set}
 use denote.Ref.{now}
 use Rattle.judge.proofs.walk_records.Statement.{statement}
 use Rattle.judge.proofs.walk_records.Tie as tie
-use Rattle.judge.proofs.walk_records.Reads as reads
-use Rattle.judge.proofs.walk_records.Lts as lts
-use Rattle.judge.proofs.counted.Reads as counted-reads
-use Rattle.judge.proofs.judge_next.Reads as judge-next-reads
-use Rattle.judge.proofs.no_totals.Reads as no-totals-reads
-use Rattle.judge.proofs.verdict_number.Reads as verdict-number-reads
-use Rattle.judge.proofs.wide.Reads as wide-reads
 
 abbrev Inv-loop : tie.InvT-loop
 Inv-loop log n verdicts₀ calls₀ exchanges₀ points pointsends callkeys₀ exchangekeys₀ squares₀ kept₀ totals₀ i₀ verdicts calls exchanges callkeys exchangekeys squares kept totals i =
@@ -26,117 +20,153 @@ Inv-loop log n verdicts₀ calls₀ exchanges₀ points pointsends callkeys₀ e
 abbrev μ-loop : tie.MeasureT-loop
 μ-loop log n verdicts₀ calls₀ exchanges₀ points pointsends callkeys₀ exchangekeys₀ squares₀ kept₀ totals₀ i₀ verdicts calls exchanges callkeys exchangekeys squares kept totals i = n - i
 
--- src/lib.rt:559:9
+-- The places of the code, each by the one before: where it begins, where a turn does, where the places of a record were noted, and where the
+-- record is judged.
+abbrev known : tie.After-shared-slice-known3 Inv-loop μ-loop → tie.Start Inv-loop μ-loop
+known c = c .before .before .before .before .before .before
+
+abbrev start : tie.At-loop Inv-loop μ-loop → tie.Start Inv-loop μ-loop
+start c = known (c .before .before)
+
+abbrev looped : tie.After-wide Inv-loop μ-loop → tie.At-loop Inv-loop μ-loop
+looped c = c .before .before .before
+
+abbrev wides : tie.After-wide4 Inv-loop μ-loop → tie.After-wide Inv-loop μ-loop
+wides c = c .before .before .before .before .before .before
+
+abbrev lent : tie.After-squares Inv-loop μ-loop → tie.After-wide4 Inv-loop μ-loop
+lent c = c .before .before .before .before .before
+
 no-totals-requires : tie.Need-no-totals-requires Inv-loop μ-loop
-no-totals-requires c κs = ?
+no-totals-requires c κs = search needs
 
--- src/lib.rt:561:5
 loop-holds : tie.Need-loop-holds Inv-loop μ-loop
-loop-holds c = ?
+unfolding base
+loop-holds c = (walks-begin (known (c .before) .pre) (c .no-totals .ensures) refl refl refl, refl, refl)
 
--- src/lib.rt:563:24
 mul-wide : tie.Need-mul-wide Inv-loop μ-loop
-mul-wide c = ?
+unfolding base
+mul-wide c = omega (arith, start (c .before) .pre .few, c .loop-test .taken)
 
--- src/lib.rt:563:24
 slice-read-wide : tie.Need-slice-read-wide Inv-loop μ-loop
-slice-read-wide c = ?
+slice-read-wide c = omega (arith, c .before .before .loop .inv .0 .callsLong, c .before .loop-test .taken)
 
--- src/lib.rt:563:19
 wide-requires : tie.Need-wide-requires Inv-loop μ-loop
-wide-requires c κs = ?
+wide-requires c κs = search needs
 
--- src/lib.rt:564:28
 mul-wide-2 : tie.Need-mul-wide-2 Inv-loop μ-loop
-mul-wide-2 c = ?
+unfolding base
+mul-wide-2 c = omega (arith, start (looped c) .pre .few, c .before .before .loop-test .taken)
 
--- src/lib.rt:564:28
 slice-read-wide-2 : tie.Need-slice-read-wide-2 Inv-loop μ-loop
-slice-read-wide-2 c = ?
+slice-read-wide-2 c = omega (arith, looped (c .before) .loop .inv .0 .exchangesLong, c .before .before .before .loop-test .taken)
 
--- src/lib.rt:564:23
 wide-requires-2 : tie.Need-wide-requires-2 Inv-loop μ-loop
-wide-requires-2 c κs = ?
+wide-requires-2 c κs = search needs
 
--- src/lib.rt:565:26
 mul-wide-3 : tie.Need-mul-wide-3 Inv-loop μ-loop
-mul-wide-3 c = ?
+unfolding base
+mul-wide-3 c = omega (arith, start (looped (c .before .before)) .pre .few, c .before .before .before .before .loop-test .taken)
 
--- src/lib.rt:565:26
 shared-slice-read-wide : tie.Need-shared-slice-read-wide Inv-loop μ-loop
-shared-slice-read-wide c = ?
+shared-slice-read-wide c = omega (arith, looped (c .before .before .before) .loop .inv .0 .pointsLong, c .before .before .before .before .before .loop-test .taken)
 
--- src/lib.rt:565:21
 wide-requires-3 : tie.Need-wide-requires-3 Inv-loop μ-loop
-wide-requires-3 c κs = ?
+wide-requires-3 c κs = search needs
 
--- src/lib.rt:566:29
 mul-wide-4 : tie.Need-mul-wide-4 Inv-loop μ-loop
-mul-wide-4 c = ?
+unfolding base
+mul-wide-4 c = omega (arith, start (looped (c .before .before .before .before)) .pre .few, c .before .before .before .before .before .before .loop-test .taken)
 
--- src/lib.rt:566:29
 shared-slice-read-wide-2 : tie.Need-shared-slice-read-wide-2 Inv-loop μ-loop
-shared-slice-read-wide-2 c = ?
+shared-slice-read-wide-2 c = let one = c .before .before .before .before .before in omega (arith, looped one .loop .inv .0 .endsLong, one .before .before .loop-test .taken)
 
--- src/lib.rt:566:24
 wide-requires-4 : tie.Need-wide-requires-4 Inv-loop μ-loop
-wide-requires-4 c κs = ?
+wide-requires-4 c κs = search needs
 
--- src/lib.rt:573:13
 slice-aggregate-judge-next : tie.Need-slice-aggregate-judge-next Inv-loop μ-loop
-slice-aggregate-judge-next c = ?
+unfolding base
+slice-aggregate-judge-next c = sym (looped (wides (c .before .before)) .loop .inv .0 .callKeysLong)
 
--- src/lib.rt:575:13
 slice-aggregate-judge-next-2 : tie.Need-slice-aggregate-judge-next-2 Inv-loop μ-loop
-slice-aggregate-judge-next-2 c = ?
+unfolding base
+slice-aggregate-judge-next-2 c = sym (looped (wides (c .before .before .before .before)) .loop .inv .0 .exchangeKeysLong)
 
--- src/lib.rt:576:13
 slice-aggregate-judge-next-3 : tie.Need-slice-aggregate-judge-next-3 Inv-loop μ-loop
-slice-aggregate-judge-next-3 c = ?
+unfolding base
+slice-aggregate-judge-next-3 c = sym (looped (wides (lent c)) .loop .inv .0 .squaresLong)
 
--- src/lib.rt:568:13
 judge-next-requires : tie.Need-judge-next-requires Inv-loop μ-loop
-judge-next-requires c κs = ?
+judge-next-requires c κs = 
+    let four = lent c in
+    let one = wides four in
+    let at = looped one in
+    let two = four .before .before .before .before in
+    let three = four .before .before in
+    ready (start at .pre) (at .loop .inv .0) (one .before .before .loop-test .taken) (one .wide .ensures .0) (two .wide2 .ensures .0) (three .wide3 .ensures .0) (four .wide4 .ensures .0) (one .wide .ensures .1) (two .wide2 .ensures .1)
 
--- src/lib.rt:580:9
 counted-requires : tie.Need-counted-requires Inv-loop μ-loop
-counted-requires c κs = ?
+counted-requires c κs = 
+    let back = c .before .before .before in
+    let step = back .before .before .before .before .before .before in
+    let four = lent (step .before) in
+    let one = wides four in
+    let at = looped one in
+    let two = four .before .before .before .before in
+    let three = four .before .before in
+    countable (start at .pre) (at .loop .inv .0) (one .before .before .loop-test .taken) (one .wide .ensures .0) (two .wide2 .ensures .0) (three .wide3 .ensures .0) (four .wide4 .ensures .0) (step .judge-next .ensures)
 
--- src/lib.rt:581:23
 verdict-number-requires : tie.Need-verdict-number-requires Inv-loop μ-loop
-verdict-number-requires c κs = ?
+verdict-number-requires c κs = search needs
 
--- src/lib.rt:581:9
 slice-write-verdicts : tie.Need-slice-write-verdicts Inv-loop μ-loop
-slice-write-verdicts c = ?
+slice-write-verdicts c = 
+    let back = c .before .before .before .before .before in
+    let step = back .before .before .before .before .before .before in
+    let one = wides (lent (step .before)) in
+    omega (arith, looped one .loop .inv .0 .size, start (looped one) .pre .room, one .before .before .loop-test .taken)
 
--- src/lib.rt:582:9
 add-i : tie.Need-add-i Inv-loop μ-loop
-add-i c = ?
+unfolding base
+add-i c = 
+    let back = c .before .before .before .before .before in
+    let step = back .before .before .before .before .before .before in
+    let one = wides (lent (step .before)) in
+    omega (arith, start (looped one) .pre .few, one .before .before .loop-test .taken)
 
--- src/lib.rt:561:5
 loop-less : tie.Need-loop-less Inv-loop μ-loop
-loop-less c = ?
+loop-less c = 
+    let back = c .before .before .before .before .before in
+    let step = back .before .before .before .before .before .before in
+    let one = wides (lent (step .before)) in
+    omega (arith, one .before .before .loop-test .taken)
 
--- src/lib.rt:561:5
 loop-again : tie.Need-loop-again Inv-loop μ-loop
-loop-again c = ?
+loop-again c = 
+    let back = c .before .before .before .before .before in
+    let step = back .before .before .before .before .before .before in
+    let four = lent (step .before) in
+    let one = wides four in
+    let at = looped one in
+    let two = four .before .before .before .before in
+    let three = four .before .before in
+    let kept = step .judge-next .kept .1 .1 .1 in
+    let inv = at .loop .inv in
+    (walks-on (start at .pre) (at .loop .inv .0) (one .before .before .loop-test .taken) (one .wide .ensures .0) (two .wide2 .ensures .0) (three .wide3 .ensures .0) (four .wide4 .ensures .0) (step .judge-next .ensures) (c .before .counted .ensures) (c .verdict-number .ensures) (kept .0) (kept .1 .0) (kept .1 .1 .0) (kept .1 .1 .1 .0) (kept .1 .1 .1 .1 .0),
+    kept .0 ∙ inv .1,
+    kept .1 .1 .0 ∙ inv .2)
 
--- src/lib.rt:539:1
 same-length : tie.Need-same-length Inv-loop μ-loop
-same-length c = ?
+same-length c = c .before .loop .inv .0 .size
 
--- src/lib.rt:539:1
 same-length-2 : tie.Need-same-length-2 Inv-loop μ-loop
-same-length-2 c = ?
+same-length-2 c = c .before .loop .inv .1
 
--- src/lib.rt:539:1
 same-length-3 : tie.Need-same-length-3 Inv-loop μ-loop
-same-length-3 c = ?
+same-length-3 c = c .before .loop .inv .2
 
--- src/lib.rt:539:1
 returns : tie.Need-returns Inv-loop μ-loop
-returns c = ?
+returns c = walks-end (start (c .before) .pre) (c .before .loop .inv .0) (c .loop-test .left)
 
 pub walk-records-spec : {M : Type 1} → statement M
 walk-records-spec =
