@@ -7,3 +7,4 @@ pub mod ToldLaws
 pub mod RememberLaws
 pub mod StepLaws
 pub mod WalkLaws
+pub mod JudgeLaws

@@ -6,4 +6,5 @@ pub mod Bounds
 pub mod Parts
 pub mod Memory
 pub mod Step
+pub mod Judge
 pub mod Weigh

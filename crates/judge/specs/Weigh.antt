@@ -9,7 +9,7 @@ use Rattle.rules.specs.declared.Totals.{Totals}
 use Rattle.rules.specs.Text.{Text}
 use Rattle.rules.specs.Rules.{Rules}
 use Rattle.rules.specs.Fields.{Qso}
-use Rattle.rules.specs.Log.{recordRules}
+use Rattle.rules.specs.Log.{Log, recordRules}
 use Rattle.rules.specs.Judging.{verdicts, verdictNumber, zeroTotals}
 use Rattle.rules.specs.Reading.{Reading, accepted, refused, read}
 use Rattle.rules.specs.Answers.{over}
@@ -17,6 +17,7 @@ use Rattle.reader.specs.declared.Contact.{Contact}
 use Rattle.reader.specs.Contact.{contactsAt, Holds}
 use Rattle.judge.specs.Bounds.{Counts}
 use Rattle.judge.specs.Count.{addRecords}
+use Rattle.judge.specs.Judge.{firstOf, claimsOf}
 
 -- The records of a log; none where it is refused.
 abbrev pub recordsIn : Reading → List Qso
@@ -36,6 +37,13 @@ pub record Listed (R : Rules) (s : Text) (first n : ℕ) (place : Contact → �
   pub long : n ≤ length list
   pub places : take n list ≡ map place (contactsAt R s first n)
 
+-- Four places of each record are noted so.
+pub record Listings (R : Rules) (s : Text) (first n : ℕ) (calls exchanges points pointsends : List ℕ) : Type 0 where
+  pub callsListed : Listed R s first n (λ c. c .call) calls
+  pub exchangesListed : Listed R s first n (λ c. c .exchange) exchanges
+  pub pointsListed : Listed R s first n (λ c. c .points) points
+  pub endsListed : Listed R s first n (λ c. c .pointsend) pointsends
+
 -- The log holds so many records, their places are noted, and the slice has room for their verdicts.
 pub record Weighable (R : Rules) (s : Text) (n : ℕ) (slice calls exchanges points pointsends : List ℕ) : Type 0 where
   pub first : ℕ
@@ -44,13 +52,18 @@ pub record Weighable (R : Rules) (s : Text) (n : ℕ) (slice calls exchanges poi
   pub all : n ≡ length (recordsOf R s)
   pub few : n ≤ R .mostRecords
   pub room : n ≤ length slice
-  pub callsListed : Listed R s first n (λ c. c .call) calls
-  pub exchangesListed : Listed R s first n (λ c. c .exchange) exchanges
-  pub pointsListed : Listed R s first n (λ c. c .points) points
-  pub endsListed : Listed R s first n (λ c. c .pointsend) pointsends
+  pub listings : Listings R s first n calls exchanges points pointsends
 
 -- The totals are those of the records, and their verdicts are written.
 pub record Weighs (R : Rules) (s : Text) (slice : List ℕ) (r : Totals) (slice' : List ℕ) : Type 0 where
   pub totals : r ≡ addRecords zeroTotals (recordsOf R s) (verdicts R (recordsOf R s))
   pub few : Counts R (R .mostRecords) r
   pub written : slice' ≡ over (numbersOf R (recordsOf R s)) slice
+
+-- The log was read, and has so many records, the first at this place, and its claims at that.
+pub record Accepts (R : Rules) (s : Text) (records first claims : ℕ) : Type 0 where
+  pub log : Log
+  pub isRead : read R s ≡ accepted log
+  pub count : records ≡ length (log .records)
+  pub place : first ≡ firstOf s (accepted log)
+  pub claiming : claims ≡ claimsOf (accepted log)

@@ -5,12 +5,15 @@ ghost use Prim.Native.Nat.{_+_, _-_, _*_, _%_, _<_, _≤_};
 ghost use Rattle.fields.specs.Field.{textAt, endOf};
 ghost use Rattle.judge.specs.Bounds.{Closable, Countable};
 ghost use Rattle.judge.specs.Count.{addRecord, closing, worthIf};
+ghost use Rattle.judge.specs.Judge.{judgedOf, verdictsAfterwards, weighedOf};
 ghost use Rattle.judge.specs.Numbers.{classFrom, verdictFrom};
 ghost use Rattle.judge.specs.Parts.{Ahead, First, Keyed, Lying, keyOf, keptTexts, numberOfSquare, partBy, seek, squareThere};
 ghost use Rattle.judge.specs.Said.{classBy, verdictBy};
-ghost use Rattle.judge.specs.Weigh.{Weighable, Weighs};
+ghost use Rattle.judge.specs.Weigh.{Accepts, Listings, Weighable, Weighs};
 ghost use Rattle.judge.specs.Step.{Classed, CreditReady, Credits, NewPart, NewSquare, Ready, Steps, classNoted};
 ghost use Rattle.reader.specs.Contact.{between, fieldStart, valueBy};
+ghost use Rattle.reader.specs.Noted.{contactsRead, listed};
+ghost use Rattle.reader.specs.Read.{readOf};
 ghost use Rattle.rules.specs.Arguments.{among};
 ghost use Rattle.rules.specs.Fields.{emptyOr, errorCall, locator, newMark};
 ghost use Rattle.rules.specs.Judging.{classNumber, verdictNumber, zeroTotals};
@@ -582,4 +585,132 @@ fn walk_records(
         i += 1;
     }
     totals
+}
+
+// # The log
+
+// What a log is judged to be, with how many records it has, where the first begins and where the claims do, for a caller that walks them again.
+pub enum Weighed {
+    Refused(Refusal),
+    Done {
+        totals: Totals,
+        records: usize,
+        first: usize,
+        claims: usize,
+    },
+}
+
+// What a log is judged to be.
+pub enum Judged {
+    Totals(Totals),
+    Refused(Refusal),
+}
+
+// An accepted log, of whose records the places are noted, is judged, if the slice has room for its verdicts; otherwise the slice is left as it is.
+fn weigh_accepted(
+    log: &[u8],
+    records: usize,
+    first: usize,
+    claims: usize,
+    verdicts: &mut [u8],
+    calls: &mut [u16],
+    exchanges: &mut [u16],
+    points: &[u16],
+    pointsends: &[u16],
+) -> Weighed
+    requires { ⌜ Accepts base (now log) records first claims ⌝ }
+    requires { ⌜ Listings base (now log) first records (now calls) (now exchanges) (now points) (now pointsends) ⌝ }
+    ensures answer { λ r. ⌜ r ≡ weighedOf base (length (now (verdicts .entry))) (now (log .entry)) ⌝ }
+    ensures slice { λ r. ⌜ now (verdicts .exit) ≡ verdictsAfterwards base (now (log .entry)) (now (verdicts .entry)) ⌝ }
+{
+    if verdicts.len() < records {
+        return Weighed::Refused(Refusal {
+            number: 7,
+            line: 0,
+            field: 0,
+        });
+    }
+    let sums = walk_records(log, records, verdicts, calls, exchanges, points, pointsends);
+    let totals = closed(sums, places::declared_at(log, claims));
+    Weighed::Done {
+        totals,
+        records,
+        first,
+        claims,
+    }
+}
+
+fn survey(
+    log: &[u8],
+    calls: &mut [u16],
+    exchanges: &mut [u16],
+    points: &mut [u16],
+    pointsends: &mut [u16],
+    ends: &mut [u16],
+) -> ReadAnswer
+    ensures answer { λ r. ⌜ r ≡ readOf (now (log .entry)) ⌝ }
+    ensures calls { λ r. ⌜ now (calls .exit) ≡ listed (λ c. c .call) (contactsRead base (now (log .entry))) (now (calls .entry)) ⌝ }
+    ensures exchanges { λ r. ⌜ now (exchanges .exit) ≡ listed (λ c. c .exchange) (contactsRead base (now (log .entry))) (now (exchanges .entry)) ⌝ }
+    ensures points { λ r. ⌜ now (points .exit) ≡ listed (λ c. c .points) (contactsRead base (now (log .entry))) (now (points .entry)) ⌝ }
+    ensures pointsends { λ r. ⌜ now (pointsends .exit) ≡ listed (λ c. c .pointsend) (contactsRead base (now (log .entry))) (now (pointsends .entry)) ⌝ }
+    ensures ends { λ r. ⌜ now (ends .exit) ≡ listed (λ c. c .end) (contactsRead base (now (log .entry))) (now (ends .entry)) ⌝ }
+{
+    reader::read(log)
+}
+
+// A log is read and judged: its verdicts are written to the front of the slice, and where the points of each record that was read begin and end,
+// and where the record does, to the front of the three lists, for a caller that writes them anew. On a refusal nothing of the slice is changed, and
+// the lists have what was read in front of it.
+pub fn weigh(
+    log: &[u8],
+    verdicts: &mut [u8],
+    points: &mut [u16; rules::MOST_RECORDS],
+    pointsends: &mut [u16; rules::MOST_RECORDS],
+    ends: &mut [u16; rules::MOST_RECORDS],
+) -> Weighed
+    ensures answer { λ r. ⌜ r ≡ weighedOf base (length (now (verdicts .entry))) (now (log .entry)) ⌝ }
+    ensures slice { λ r. ⌜ now (verdicts .exit) ≡ verdictsAfterwards base (now (log .entry)) (now (verdicts .entry)) ⌝ }
+    ensures points { λ r. ⌜ now (points .exit) ≡ listed (λ c. c .points) (contactsRead base (now (log .entry))) (now (points .entry)) ⌝ }
+    ensures pointsends { λ r. ⌜ now (pointsends .exit) ≡ listed (λ c. c .pointsend) (contactsRead base (now (log .entry))) (now (pointsends .entry)) ⌝ }
+    ensures ends { λ r. ⌜ now (ends .exit) ≡ listed (λ c. c .end) (contactsRead base (now (log .entry))) (now (ends .entry)) ⌝ }
+{
+    let mut calls = [0u16; rules::MOST_RECORDS];
+    let mut exchanges = [0u16; rules::MOST_RECORDS];
+    match survey(log, &mut calls, &mut exchanges, points, pointsends, ends) {
+        ReadAnswer::Accepted {
+            records,
+            first,
+            claims,
+        } => weigh_accepted(
+            log,
+            records,
+            first,
+            claims,
+            verdicts,
+            &mut calls,
+            &mut exchanges,
+            points,
+            pointsends,
+        ),
+        ReadAnswer::Refused(r) => Weighed::Refused(r),
+    }
+}
+
+// The same, where the totals and the verdicts are all that is asked for.
+pub fn judge(log: &[u8], verdicts: &mut [u8]) -> Judged
+    ensures answer { λ r. ⌜ r ≡ judgedOf base (length (now (verdicts .entry))) (now (log .entry)) ⌝ }
+    ensures slice { λ r. ⌜ now (verdicts .exit) ≡ verdictsAfterwards base (now (log .entry)) (now (verdicts .entry)) ⌝ }
+{
+    let mut points = [0u16; rules::MOST_RECORDS];
+    let mut pointsends = [0u16; rules::MOST_RECORDS];
+    let mut ends = [0u16; rules::MOST_RECORDS];
+    match weigh(log, verdicts, &mut points, &mut pointsends, &mut ends) {
+        Weighed::Done {
+            totals,
+            records: _,
+            first: _,
+            claims: _,
+        } => Judged::Totals(totals),
+        Weighed::Refused(r) => Judged::Refused(r),
+    }
 }
