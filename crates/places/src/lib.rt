@@ -9,7 +9,8 @@ ghost use Rattle.rules.specs.Fields.{errorCall, newMark};
 ghost use Rattle.rules.specs.Arguments.{part, bonus, multiplier};
 ghost use Rattle.fields.specs.Field.{textAt, endOf};
 ghost use Rattle.rules.specs.Rules.{base};
-ghost use Rattle.rules.specs.Answers.{view, viewed};
+ghost use Rattle.rules.specs.Answers.{startOfView, view, viewed};
+ghost use denote.Ref.{ptr};
 ghost use Rattle.places.specs.Places.{partSeen, viewOf};
 use reader::ReadAnswer;
 use rules::Refusal;
@@ -250,7 +251,7 @@ fn rates_at(s: &[u8], at: usize) -> Rates
 // The bonuses and multipliers of CWWLs, CExcs and CDXCs, by the place where the claims begin: the first of these three stands two lines behind
 // it, and each of the others two lines behind the last.
 pub fn declared_at(s: &[u8], claims: usize) -> Declared
-    ensures { λ r. ⌜ r ≡ declaredAt (now (s .entry)) claims ⌝ }
+    ensures { λ r. ⌜ r ≡ declaredAt base (now (s .entry)) claims ⌝ }
 {
     let squares = next_line(s, next_line(s, claims));
     let exchanges = next_line(s, next_line(s, squares));
@@ -295,7 +296,7 @@ fn argument_part(log: &[u8], k: usize) -> ViewRead
 
 // The view of a keyword, by its number, 1 to 36.
 pub fn view(log: &[u8], k: usize) -> ViewRead
-    ensures { λ r. ⌜ r ≡ viewOf k (now (log .entry)) ⌝ }
+    ensures { λ r. ⌜ r ≡ viewOf base k (now (log .entry)) ⌝ }
 {
     if k < 1 {
         return ViewRead::Refused(Refusal {
@@ -324,7 +325,9 @@ pub fn view(log: &[u8], k: usize) -> ViewRead
 
 // The part of the log that a view shows: nothing where there is none.
 pub fn viewed(log: &[u8], k: usize) -> &[u8]
-    ensures { λ r. ⌜ now r ≡ viewed (view base k (now (log .entry))) ⌝ }
+    ensures text { λ r. ⌜ now r ≡ viewed (view base k (now (log .entry))) ⌝ }
+    ensures block { λ r. ⌜ ptr r .0 ≡ ptr (log .entry) .0 ⌝ }
+    ensures place { λ r. ⌜ ptr r .1 ≡ ptr (log .entry) .1 + startOfView (view base k (now (log .entry))) ⌝ }
 {
     let seen = view(log, k);
     match seen {
