@@ -13,7 +13,6 @@ ghost use Rattle.judge.specs.Weigh.{Accepts, Listings, Weighable, Weighs
 ghost use Rattle.judge.specs.Step.{Classed, CreditReady, Credits, NewPart, NewSquare, Ready, Steps, classNoted};
 ghost use Rattle.reader.specs.Contact.{between, fieldStart, valueBy};
 ghost use Rattle.reader.specs.Noted.{contactsRead, listed};
-ghost use Rattle.reader.specs.Read.{readOf};
 ghost use Rattle.rules.specs.Arguments.{among};
 ghost use Rattle.rules.specs.Fields.{emptyOr, errorCall, locator, newMark};
 ghost use Rattle.rules.specs.Judging.{classNumber, verdictNumber, zeroTotals};
@@ -640,24 +639,6 @@ fn weigh_accepted(
     }
 }
 
-fn survey(
-    log: &[u8],
-    calls: &mut [u16],
-    exchanges: &mut [u16],
-    points: &mut [u16],
-    pointsends: &mut [u16],
-    ends: &mut [u16],
-) -> ReadAnswer
-    ensures answer { λ r. ⌜ r ≡ readOf (now (log .entry)) ⌝ }
-    ensures calls { λ r. ⌜ now (calls .exit) ≡ listed (λ c. c .call) (contactsRead base (now (log .entry))) (now (calls .entry)) ⌝ }
-    ensures exchanges { λ r. ⌜ now (exchanges .exit) ≡ listed (λ c. c .exchange) (contactsRead base (now (log .entry))) (now (exchanges .entry)) ⌝ }
-    ensures points { λ r. ⌜ now (points .exit) ≡ listed (λ c. c .points) (contactsRead base (now (log .entry))) (now (points .entry)) ⌝ }
-    ensures pointsends { λ r. ⌜ now (pointsends .exit) ≡ listed (λ c. c .pointsend) (contactsRead base (now (log .entry))) (now (pointsends .entry)) ⌝ }
-    ensures ends { λ r. ⌜ now (ends .exit) ≡ listed (λ c. c .end) (contactsRead base (now (log .entry))) (now (ends .entry)) ⌝ }
-{
-    reader::read(log)
-}
-
 // A log is read and judged: its verdicts are written to the front of the slice, and where the points of each record that was read begin and end,
 // and where the record does, to the front of the three lists, for a caller that writes them anew. On a refusal nothing of the slice is changed, and
 // the lists have what was read in front of it.
@@ -676,7 +657,7 @@ pub fn weigh(
 {
     let mut calls = [0u16; rules::MOST_RECORDS];
     let mut exchanges = [0u16; rules::MOST_RECORDS];
-    match survey(log, &mut calls, &mut exchanges, points, pointsends, ends) {
+    match reader::survey(log, &mut calls, &mut exchanges, points, pointsends, ends) {
         ReadAnswer::Accepted {
             records,
             first,

@@ -7,7 +7,7 @@ use Rattle.rules.specs.Text.{Text}
 use Rattle.reader.specs.Contact.{contactsAt}
 use Rattle.reader.specs.Noted.{contactsRead}
 use Rattle.reader.specs.Read.{readOf}
-use Rattle.reader.proofs.RecordsHeld.{recordsStart}
+use Rattle.reader.proofs.WholeLaws.{contacts-accepted}
 use Rattle.judge.specs.Weigh.{Accepts}
 use Rattle.judge.proofs.JudgeLaws.{accepts, all-listed, contacts-are, few-records, kept-unread, refused-unread}
 use native.Mathlib.Omega.{arith}
@@ -38,9 +38,6 @@ slice-aggregate-weigh-accepted c = search needs
 slice-aggregate-weigh-accepted-2 : tie.Need-slice-aggregate-weigh-accepted-2
 slice-aggregate-weigh-accepted-2 c = search needs
 
-contacts-accepted : (s : Text) (log : Log) → read base s ≡ accepted log → contactsRead base s ≡ contactsAt base s (recordsStart s log) (length (log .records))
-contacts-accepted s log e = ?
-
 weigh-accepted-requires : tie.Need-weigh-accepted-requires
 unfolding readOf base
 weigh-accepted-requires c κs =
@@ -52,7 +49,7 @@ weigh-accepted-requires c κs =
     let s = now (start .args .log) in
     let survey = surveyed .survey .ensures in
     let accept : Accepts base s (answer .records .given .0 .0) (answer .records .given .0 .1 .0) (answer .records .given .0 .1 .1 .0) = accepts base s (sym (survey .0) ∙ answer .records .given .1) in
-    let contacts = contacts-are accept (contacts-accepted s (accept .log) (accept .isRead)) in
+    let contacts = contacts-are accept (contacts-accepted base s (accept .log) (accept .isRead)) in
     let few = few-records accept in
     (accept,
     record {
