@@ -3,7 +3,7 @@
 use Prim.Native.Nat.{ℕ, zero, suc, _≤_, _<_}
 use native.Mathlib.Omega.{arith}
 use mathlib.Core.Path.{_≡_, refl, sym, ap, subst, _∙_}
-use mathlib.Core.Bool.{false, true}
+use mathlib.Core.Bool.{false}
 use mathlib.Core.List.{List, _++_, map}
 use lib.Dec.{ltb}
 use lib.ListN.{length, take, drop, length-map, length-drop, length-append}
@@ -21,16 +21,16 @@ use Rattle.rules.specs.Answers.{Judgement, judged, unjudged, judge, judgeReadin
 use Rattle.rules.proofs.Format.{accepted-when-written}
 use Rattle.rules.proofs.ValidLogs.{count-valid}
 use Rattle.rules.proofs.Classes.{length-verdicts}
+use Rattle.reader.specs.declared.Contact.{Contact}
+use Rattle.reader.specs.Contact.{contactAt, behind, contactsAt, Holds}
+use Rattle.reader.specs.Noted.{listed}
+use Rattle.reader.specs.Read.{claimsStart, readTold}
+use Rattle.reader.specs.declared.ReadAnswer.the-variants as ReadAnswer
+use Rattle.reader.proofs.RecordsHeld.{recordsStart, records-held, records-stand}
 use Rattle.places.specs.declared.Declared.{Declared}
 use Rattle.places.specs.Places.{declaredAt}
 use Rattle.places.proofs.HeaderHeld.{declared-held}
 use Rattle.places.proofs.ToldBounds.{declared-below}
-use Rattle.reader.specs.declared.Contact.{Contact}
-use Rattle.reader.specs.declared.ReadAnswer.the-variants as ReadAnswer
-use Rattle.reader.specs.Contact.{contactAt, behind, contactsAt, Holds}
-use Rattle.reader.specs.Noted.{listed}
-use Rattle.reader.specs.Read.{claimsStart, readTold}
-use Rattle.reader.proofs.RecordsHeld.{recordsStart, records-held, records-stand}
 use Rattle.judge.specs.declared.Weighed.{Weighed}
 use Rattle.judge.specs.declared.Weighed.the-variants as Weighed
 use Rattle.judge.specs.declared.Judged.the-variants as Judged
@@ -74,7 +74,7 @@ all-listed R s first n place list {list' = list'} e f h =
     let size : length places ≡ n = length-map (contactsAt R s first n) place ∙ length-contacts R s first n in
     let whole : take (length list) places ≡ places = take-all (length list) places (omega arith) in
     let is : list' ≡ places ++ drop (length places) list =
-        f ∙ ap (λ (x : List Contact). over (take (length list) (map place x)) list) e ∙ ap (λ (x : List ℕ). over x list) whole in
+    f ∙ ap (λ (x : List Contact). over (take (length list) (map place x)) list) e ∙ ap (λ (x : List ℕ). over x list) whole in
     record {
       long = omega (arith, ap length is, length-append places (drop (length places) list), length-drop (length places) list);
       places = ap (take n) is ∙ ap (λ (k : ℕ). take k (places ++ drop (length places) list)) (sym size) ∙ take-append-seam places (drop (length places) list);
