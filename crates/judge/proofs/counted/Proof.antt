@@ -1,5 +1,4 @@
 -- What a record adds is told by its class.
-use Prim.Native.Nat.{_-_}
 use native.Mathlib.Omega.{arith}
 use borrow.Author.Needs.{needs}
 use Rattle.judge.proofs.CountLaws.{countable-small, void-sums, duplicate-sums, error-sums}

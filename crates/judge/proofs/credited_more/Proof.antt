@@ -1,5 +1,4 @@
 -- What a credited record adds: one to the credited ones, its points, and one for each of its marks.
-use Prim.Native.Nat.{_-_}
 use native.Mathlib.Omega.{arith}
 use borrow.Author.Needs.{needs}
 use Rattle.judge.proofs.CountLaws.{countable-small, worth-small, worth-most, credited-sums}

@@ -1,5 +1,4 @@
 -- Only a part of five characters is compared.
-use Prim.Native.Nat.{_-_}
 use borrow.Author.Needs.{needs}
 use denote.Ref.{now}
 use Rattle.rules.specs.Fields.{errorCall}

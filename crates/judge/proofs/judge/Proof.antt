@@ -1,5 +1,4 @@
 -- Of what the log is weighed to, the totals or the refusal.
-use Prim.Native.Nat.{_-_}
 use mathlib.Core.Path.{sym, _∙_}
 use borrow.Author.Needs.{needs}
 use Rattle.rules.specs.Rules.{base}

@@ -1,5 +1,5 @@
 -- One step: the key of the call stands behind those that are kept, the class is found, and a credited record is kept.
-use Prim.Native.Nat.{ℕ, _-_}
+use Prim.Native.Nat.{ℕ}
 use native.Mathlib.Omega.{arith}
 use mathlib.Core.Path.{_≡_, ap, _∙_}
 use borrow.Author.Needs.{needs}

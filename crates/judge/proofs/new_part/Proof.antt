@@ -1,5 +1,4 @@
 -- A part that is empty brings nothing; another is looked for by its key, and kept where it is found nowhere.
-use Prim.Native.Nat.{_-_}
 use borrow.Author.Needs.{needs}
 use denote.Ref.{now}
 use Rattle.judge.proofs.PartLaws.{lying-key}

@@ -1,5 +1,4 @@
 -- An empty locator brings nothing; otherwise the number of the square is looked for among those that are kept, and stands behind them.
-use Prim.Native.Nat.{_-_}
 use native.Mathlib.Omega.{arith}
 use lib.ListN.{length-set}
 use lib.Seq.{getD-set-same}

@@ -1,5 +1,4 @@
 -- The four characters are letters and digits, so that each makes its digit of the number.
-use Prim.Native.Nat.{_-_}
 use native.Mathlib.Omega.{arith}
 use mathlib.Core.Path.{_∙_}
 use denote.Ref.{now}

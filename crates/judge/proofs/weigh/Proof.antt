@@ -1,5 +1,4 @@
 -- The log is read, with the places of its records noted, and an accepted one is weighed.
-use Prim.Native.Nat.{_-_}
 use native.Mathlib.Omega.{arith}
 use mathlib.Core.Path.{sym, _∙_}
 use lib.ListN.{replicate}

@@ -1,5 +1,4 @@
 -- An accepted log is walked over where the slice has room, and its totals are closed with what it declares.
-use Prim.Native.Nat.{_-_}
 use borrow.Author.Needs.{needs}
 use denote.Ref.{now}
 use Rattle.judge.proofs.JudgeLaws.{closable, done, kept-short, refused-short, weighable, written-done}

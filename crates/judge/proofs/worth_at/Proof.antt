@@ -1,5 +1,4 @@
 -- The points are read as the reader reads them.
-use Prim.Native.Nat.{_-_}
 use mathlib.Core.Path.{sym, _∙_}
 use borrow.Author.Needs.{needs}
 use Rattle.rules.specs.Rules.{base}
