@@ -1,6 +1,6 @@
 -- Laws of parts of a log that are kept by their places, of their keys, and of the search among them.
 -- Assumes nothing.
-use Prim.Native.Nat.{ℕ, zero, suc, _+_, _-_, _*_, _/_, _%_, _≤_, _<_, min}
+use Prim.Native.Nat.{ℕ, zero, suc, _+_, _-_, _*_, _/_, _%_, _≤_, _<_}
 use native.Mathlib.Omega.{arith}
 use native.Mathlib.Nat.{add-zero, zero-add, sub-zero}
 use mathlib.Core.Path.{_≡_, refl, sym, ap, _∙_}
@@ -12,8 +12,8 @@ use lib.Seq.{drop-cons, getD-take, getD-drop, getD-set-same, getD-set-other}
 use borrow.Author.Tests.{eqb-true, eqb-false, eq-eqb, ne-eqb, leb-true, leb-false}
 use Rattle.rules.specs.Text.{Text, same}
 use Rattle.rules.specs.Arguments.{among}
-use Rattle.rules.proofs.Tests.{fails, holds}
 use Rattle.rules.specs.Fields.{errorCall}
+use Rattle.rules.proofs.Tests.{fails, holds}
 use Rattle.rules.proofs.Passing.{same→equal}
 use Rattle.rules.proofs.TextLaws.{same-apart}
 use Rattle.fields.specs.Field.{inField, endOf}
@@ -154,7 +154,6 @@ module _ (s : Text) (places keys : List ℕ) (t : Text) where
 
   pub kept-none : (m : ℕ) → seek s places keys t m 0 ≡ Nothing → false ≡ among (keptTexts s places keys m) t
   kept-none m e = sym (ap isAt e) ∙ seek-among m
-
 
   -- Indexes at which another key stands are passed over.
   pub seek-over : (a m : ℕ) (i j : ℕ) → Lying s places keys m → Keyed s a (getD keys m 0) → t ≡ partBy s a (getD keys m 0) → i ≤ j → j ≤ m → ((x : ℕ) → i ≤ x → x < j → getD keys x 0 ≡ getD keys m 0 → ⊥) → seek s places keys t (m - i) i ≡ seek s places keys t (m - j) j

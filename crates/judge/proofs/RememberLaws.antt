@@ -5,10 +5,9 @@ use Prim.Native.Nat.{ℕ}
 use mathlib.Core.Path.{_≡_, refl, sym, ap, _∙_}
 use mathlib.Core.Bool.{Bool, true, false, cond, not, _&&_, _||_}
 use mathlib.Core.List.{List, [], _∷_}
-use lib.Dec.{T, eqb}
+use lib.Dec.{T}
 use lib.ListN.{take}
 use borrow.Author.Tests.{not-false}
-use Rattle.rules.specs.declared.Class.the-variants.{Credited}
 use Rattle.rules.specs.Text.{Text, same, empty}
 use Rattle.rules.specs.Rules.{Rules, base}
 use Rattle.rules.specs.Fields.{Qso, errorCall, isError, emptyOr, locator}
@@ -20,7 +19,7 @@ use Rattle.judge.specs.declared.Noted.{Noted}
 use Rattle.judge.specs.Said.{classBy}
 use Rattle.judge.specs.Parts.{squareThere, numberOfSquare, hasNumber}
 use Rattle.judge.specs.Memory.{Memory, unseen, unseenSquare, keptWith, Remembers}
-use Rattle.judge.specs.Step.{callNoted, exchangeNoted, locatorNoted, claimsNoted, classNoted, Told}
+use Rattle.judge.specs.Step.{callNoted, exchangeNoted, locatorNoted, classNoted, Told}
 use Rattle.judge.proofs.SaidLaws.{class-said}
 use Rattle.judge.proofs.SquareLaws.{same-number, square-stands}
 use Rattle.judge.proofs.ToldLaws.{call-is, exchange-is, locator-is, claims-is, locator-ruled}
@@ -99,7 +98,7 @@ module _ (R : Rules) (s : Text) (p : Noted) (q : Qso) (told : Told R s p q) (m :
   class-is home =
       let error : same (callNoted s p) errorCall ≡ isError q = ap (λ (t : Text). same t errorCall) (call-is told) in
       let repeats : among (m .calls) (callNoted s p) ≡ some (λ e. sameCall R (e .call) (q .call)) credited =
-          ap (among (m .calls)) (call-is told ∙ sym (home (q .call))) ∙ r .calls (R .home (q .call)) in
+      ap (among (m .calls)) (call-is told ∙ sym (home (q .call))) ∙ r .calls (R .home (q .call)) in
       (λ i. classBy (error i) (repeats i) (claims-is told i)) ∙ class-said R credited q
 
   -- What is new.

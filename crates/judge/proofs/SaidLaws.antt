@@ -1,15 +1,14 @@
 -- What is said of a record by the right answers is what document 01 says of it.
 -- Assumes nothing.
 use Prim.Native.Nat.{ℕ}
-use mathlib.Core.Path.{_≡_, refl, sym, ap, _∙_}
-use mathlib.Core.Bool.{Bool, true, false, _&&_}
+use mathlib.Core.Path.{_≡_, refl, sym, _∙_}
+use mathlib.Core.Bool.{Bool, true, false}
 use mathlib.Core.List.{List}
 use lib.Dec.{eqb}
 use borrow.Author.Tests.{eq-eqb, ne-eqb}
 use Rattle.rules.specs.declared.Class.{Class}
 use Rattle.rules.specs.declared.Class.the-variants.{Credited, Void, Duplicate, Error}
 use Rattle.rules.specs.declared.Verdict.{Verdict}
-use Rattle.rules.specs.Text.{same}
 use Rattle.rules.specs.Rules.{Rules}
 use Rattle.rules.specs.Fields.{Qso, isError}
 use Rattle.rules.specs.Judging.{classNumber, is, some, claimsPoints, sameCall, classOf, square, isNew, claimsCountry, verdictOf}

@@ -5,14 +5,13 @@ use native.Mathlib.Omega.{arith}
 use mathlib.Core.Path.{_≡_, refl, sym, ap, _∙_}
 use mathlib.Core.Bool.{Bool, true, false, not, _&&_, true≢false}
 use mathlib.Core.List.{List, [], _∷_}
-use lib.Dec.{eqb}
 use lib.ListN.{length, take, drop, getD, set, length-set}
 use lib.Seq.{getD-set-same, drop-set-lt}
 use borrow.Author.Tests.{eq-eqb, ne-eqb}
 use Rattle.rules.specs.declared.Class.{Class}
 use Rattle.rules.specs.declared.Class.the-variants.{Credited}
 use Rattle.rules.specs.declared.Verdict.{Verdict}
-use Rattle.rules.specs.Text.{Text, same, empty, value}
+use Rattle.rules.specs.Text.{Text, same, value}
 use Rattle.rules.specs.Rules.{base}
 use Rattle.rules.specs.Fields.{Qso, errorCall}
 use Rattle.rules.specs.Arguments.{among}

@@ -4,16 +4,15 @@ use Prim.Native.Nat.{ℕ, _+_, _-_, _*_, _≤_, _<_}
 use native.Mathlib.Omega.{arith}
 use mathlib.Core.Path.{_≡_, refl, sym, ap, _∙_}
 use mathlib.Core.Bool.{Bool, true, false, not, _&&_, _||_}
-use mathlib.Core.List.{List, [], _∷_}
+use mathlib.Core.List.{[], _∷_}
 use lib.Dec.{T, leb, eqb}
 use lib.ListN.{length, getD}
 use borrow.Author.Tests.{eqb-true, eqb-false, ne-eqb, leb-true}
-use Rattle.rules.specs.Text.{Text, bytes, digit, all, same, begins, empty, number, numberOf, value, valueAfter}
+use Rattle.rules.specs.Text.{Text, bytes, digit, all, same, begins, number, numberOf, value, valueAfter}
 use Rattle.rules.specs.Rules.{Rules, base}
 use Rattle.rules.specs.Fields.{Qso, call, callCharacter, exchange, exchangeCharacter, locator, emptyOr, newMark, isError, pointsRule, fieldRules}
-use Rattle.rules.specs.Log.{conjunction}
 use Rattle.rules.specs.Judging.{claimsPoints, claimsCountry}
-use Rattle.rules.proofs.Tests.{so, holds, never, and-l, and-r, or-cases}
+use Rattle.rules.proofs.Tests.{so, holds, never, and-l, and-r}
 use Rattle.rules.proofs.Passing.{same→equal}
 use Rattle.rules.proofs.NumberLaws.{number-below}
 use Rattle.rules.proofs.ValidLogs.{rule-at, points-ruled}

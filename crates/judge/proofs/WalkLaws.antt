@@ -1,6 +1,6 @@
 -- The walk over the records: where it begins, one record more, and where it ends.
 -- Assumes nothing.
-use Prim.Native.Nat.{ℕ, zero, suc, _+_, _-_, _≤_, _<_}
+use Prim.Native.Nat.{ℕ, suc, _+_, _-_, _≤_, _<_}
 use native.Mathlib.Omega.{arith}
 use native.Mathlib.Nat.{add-zero}
 use native.Mathlib.Numerals.{add-one}
@@ -26,7 +26,7 @@ use Rattle.judge.specs.declared.Kept.{Kept}
 use Rattle.judge.specs.declared.Noted.{Noted}
 use Rattle.judge.specs.declared.Step.{Step}
 use Rattle.judge.specs.Bounds.{mostWorth, Counts, Countable}
-use Rattle.judge.specs.Count.{worthIf, addRecord, addRecords}
+use Rattle.judge.specs.Count.{addRecord, addRecords}
 use Rattle.judge.specs.Parts.{keptTexts, keptNumbers, Lying}
 use Rattle.judge.specs.Memory.{Memory, memory, Remembers}
 use Rattle.judge.specs.Step.{Told, Stays, Ready, Judges, Steps}
@@ -66,11 +66,11 @@ noting-kept : (R : Rules) (s : Text) (place : Contact → ℕ) (at k m i : ℕ) 
 noting-kept R s place at k m i list list' h e n =
     let there : m + 1 + (i - m) ≡ i + 1 = omega arith in
     let same : drop (i + 1) list' ≡ drop (i + 1) list =
-        ap (λ (x : ℕ). drop x list') (sym there)
-        ∙ sym (drop-drop (i - m) (m + 1) list')
-        ∙ ap (drop (i - m)) e
-        ∙ drop-drop (i - m) (m + 1) list
-        ∙ ap (λ (x : ℕ). drop x list) there in
+    ap (λ (x : ℕ). drop x list') (sym there)
+    ∙ sym (drop-drop (i - m) (m + 1) list')
+    ∙ ap (drop (i - m)) e
+    ∙ drop-drop (i - m) (m + 1) list
+    ∙ ap (λ (x : ℕ). drop x list) there in
     ap (take k) same ∙ n
 
 -- # The slice

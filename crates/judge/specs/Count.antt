@@ -8,8 +8,7 @@ use Rattle.rules.specs.declared.Verdict.{Verdict}
 use Rattle.rules.specs.declared.Totals.{Totals}
 use Rattle.rules.specs.Text.{value}
 use Rattle.rules.specs.Fields.{Qso}
-use Rattle.rules.specs.Judging.{is}
-use Rattle.rules.specs.Judging.{Declared as DeclaredRates}
+use Rattle.rules.specs.Judging.{is, Declared as DeclaredRates}
 use Rattle.places.specs.declared.Declared.{Declared}
 
 -- What a test adds, if it holds.

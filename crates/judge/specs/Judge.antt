@@ -10,8 +10,8 @@ use Rattle.rules.specs.Reading.{Reading, accepted, refused, read}
 use Rattle.rules.specs.Answers.{Judgement, judged, unjudged, judge, recordsOfReading, numbersOfJudgement, over}
 use Rattle.reader.specs.Read.{claimsStart}
 use Rattle.judge.specs.declared.Weighed.{Weighed}
-use Rattle.judge.specs.declared.Weighed.the-variants as Weighed
 use Rattle.judge.specs.declared.Judged.{Judged}
+use Rattle.judge.specs.declared.Weighed.the-variants as Weighed
 use Rattle.judge.specs.declared.Judged.the-variants as Judged
 
 -- Where the first record of an accepted log begins: its records stand last.

@@ -2,7 +2,17 @@
 // that are noted of each record.
 
 ghost use Prim.Native.Nat.{_+_, _-_, _*_, _%_, _<_, _≤_};
+ghost use mathlib.Core.Bool.{true};
+ghost use mathlib.Core.Path.{_≡_};
+ghost use lib.ListN.{drop, getD, length, set, take};
+ghost use Rattle.rules.specs.Arguments.{among};
+ghost use Rattle.rules.specs.Fields.{emptyOr, errorCall, locator, newMark};
+ghost use Rattle.rules.specs.Judging.{classNumber, verdictNumber, zeroTotals};
+ghost use Rattle.rules.specs.Rules.{base};
+ghost use Rattle.rules.specs.Text.{numberOf, same};
 ghost use Rattle.fields.specs.Field.{textAt, endOf};
+ghost use Rattle.reader.specs.Contact.{between, fieldStart, valueBy};
+ghost use Rattle.reader.specs.Noted.{contactsRead, listed};
 ghost use Rattle.judge.specs.Bounds.{Closable, Countable};
 ghost use Rattle.judge.specs.Count.{addRecord, closing, worthIf};
 ghost use Rattle.judge.specs.Judge.{judgedOf, verdictsAfterwards, weighedOf};
@@ -11,17 +21,6 @@ ghost use Rattle.judge.specs.Parts.{Ahead, First, Keyed, Lying, keyOf, k
 ghost use Rattle.judge.specs.Said.{classBy, verdictBy};
 ghost use Rattle.judge.specs.Weigh.{Accepts, Listings, Weighable, Weighs};
 ghost use Rattle.judge.specs.Step.{Classed, CreditReady, Credits, NewPart, NewSquare, Ready, Steps, classNoted};
-ghost use Rattle.reader.specs.Contact.{between, fieldStart, valueBy};
-ghost use Rattle.reader.specs.Noted.{contactsRead, listed};
-ghost use Rattle.reader.specs.Read.{readOf};
-ghost use Rattle.rules.specs.Arguments.{among};
-ghost use Rattle.rules.specs.Fields.{emptyOr, errorCall, locator, newMark};
-ghost use Rattle.rules.specs.Judging.{classNumber, verdictNumber, zeroTotals};
-ghost use Rattle.rules.specs.Rules.{base};
-ghost use Rattle.rules.specs.Text.{numberOf, same};
-ghost use lib.ListN.{drop, getD, length, set, take};
-ghost use mathlib.Core.Bool.{true};
-ghost use mathlib.Core.Path.{_≡_};
 use figures::NumberRead;
 use places::Declared;
 use reader::ReadAnswer;
@@ -252,13 +251,7 @@ fn wide(x: u16) -> usize
 
 // The first of the m parts kept that is the same as the part at a place, whose key stands behind the m keys. Parts whose keys differ are passed
 // over.
-fn find(
-    s: &[u8],
-    places: &[u16],
-    keys: &[u16],
-    m: usize,
-    place: usize,
-) -> Found
+fn find(s: &[u8], places: &[u16], keys: &[u16], m: usize, place: usize) -> Found
     requires { ⌜ Lying (now s) (now places) (now keys) m × Keyed (now s) place (getD (now keys) m 0) ⌝ }
     ensures { λ r. ⌜ r ≡ seek (now (s .entry)) (now (places .entry)) (now (keys .entry)) (partBy (now (s .entry)) place (getD (now (keys .entry)) m 0)) m 0 ⌝ }
 {
@@ -282,13 +275,7 @@ fn find(
 }
 
 // The part at a place is the same as one of the m parts kept; its key stands behind the m keys.
-fn is_kept(
-    s: &[u8],
-    places: &[u16],
-    keys: &[u16],
-    m: usize,
-    place: usize,
-) -> bool
+fn is_kept(s: &[u8], places: &[u16], keys: &[u16], m: usize, place: usize) -> bool
     requires { ⌜ Lying (now s) (now places) (now keys) m × Keyed (now s) place (getD (now keys) m 0) ⌝ }
     ensures { λ r. ⌜ r ≡ among (keptTexts (now (s .entry)) (now (places .entry)) (now (keys .entry)) m) (partBy (now (s .entry)) place (getD (now (keys .entry)) m 0)) ⌝ }
 {
@@ -309,14 +296,7 @@ fn one_if(yes: bool) -> usize
 }
 
 // A part is looked for among the m that are kept, and kept behind them if it is there and new.
-fn new_part(
-    s: &[u8],
-    places: &mut [u16],
-    keys: &mut [u16],
-    m: usize,
-    a: usize,
-    e: usize,
-) -> bool
+fn new_part(s: &[u8], places: &mut [u16], keys: &mut [u16], m: usize, a: usize, e: usize) -> bool
     requires { ⌜ Lying (now s) (now places) (now keys) m × (m < length (now places)) × (m + 1 < length (now keys)) ⌝ }
     requires { ⌜ (a ≤ e) × (e ≤ length (now s)) × (e ≤ a + 15) × (a < 65_536) ⌝ }
     ensures { λ r. ⌜ NewPart (now (s .entry)) (now (places .entry)) (now (keys .entry)) m a e r (now (places .exit)) (now (keys .exit)) ⌝ }
@@ -370,14 +350,7 @@ struct Step {
 }
 
 // The class of a record, after those whose calls are kept. Where its call ends is known, and the call's key stands behind the others.
-fn class_of(
-    s: &[u8],
-    p: Noted,
-    end: usize,
-    calls: &[u16],
-    keys: &[u16],
-    m: usize,
-) -> Class
+fn class_of(s: &[u8], p: Noted, end: usize, calls: &[u16], keys: &[u16], m: usize) -> Class
     requires { ⌜ Classed (now s) p end (now calls) (now keys) m ⌝ }
     ensures { λ r. ⌜ r ≡ classNoted (keptTexts (now (s .entry)) (now (calls .entry)) (now (keys .entry)) m) (now (s .entry)) p ⌝ }
 {
@@ -440,7 +413,8 @@ fn judge_next(
     let m = kept.calls;
     callkeys[m] = key_of(s, call, end);
     let class = class_of(s, p, end, calls, callkeys, m);
-    if class_number(class) == 0 {
+    let number = class_number(class);
+    if number == 0 {
         return credited_next(s, p, kept, calls, exchanges, exchangekeys, squares);
     }
     let verdict = verdict_by(class, false, false, false);

@@ -1,4 +1,9 @@
 -- The third mark behind the points is looked at where it lies.
+use Prim.Native.Nat.{ℕ, _+_, _<_}
+use native.Mathlib.Omega.{arith}
+use mathlib.Core.Path.{_≡_, ap, _∙_}
+use lib.ListN.{length}
+use denote.Ref.{now}
 use Rattle.rules.specs.Text.{same}
 use Rattle.rules.specs.Fields.{newMark}
 use Rattle.fields.specs.Field.{textAt, endOf}
@@ -6,13 +11,6 @@ use Rattle.header.proofs.PartLaws.{end-by-span}
 use Rattle.reader.specs.Contact.{fieldStart}
 use Rattle.reader.proofs.PlaceLaws.{no-new, new-by-byte}
 use Rattle.judge.proofs.ToldLaws.{three-inside, two-on}
-use borrow.Author.Needs.{needs}
-use native.Mathlib.Omega.{arith}
-use mathlib.Core.Path.{_≡_, refl, sym, ap, _∙_}
-use mathlib.Core.Bool.{true, false}
-use Prim.Native.Nat.{ℕ, _+_, _-_, _*_, _≤_, _<_}
-use lib.ListN.{length, drop, take, getD, set}
-use denote.Ref.{now}
 use Rattle.judge.proofs.claims_country.Statement.{statement}
 use Rattle.judge.proofs.claims_country.Tie as tie
 

@@ -1,3 +1,4 @@
+-- The class that a number tells.
 use Rattle.judge.proofs.NumberLaws.{credited-from, void-from, duplicate-from, error-from}
 use Rattle.judge.proofs.class_from.Statement.{statement}
 use Rattle.judge.proofs.class_from.Tie as tie

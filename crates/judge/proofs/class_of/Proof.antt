@@ -1,17 +1,14 @@
 -- The class by the answers that are found in the log and among the calls kept.
+use Prim.Native.Nat.{_≤_}
+use native.Mathlib.Omega.{arith}
+use lib.ListN.{length}
+use borrow.Author.Needs.{needs}
+use denote.Ref.{now}
 use Rattle.fields.specs.Field.{endOf}
 use Rattle.header.proofs.PartLaws.{end-by-span}
-use Rattle.judge.specs.Parts.{partBy, keptTexts}
-use Rattle.judge.specs.Step.{callNoted}
+use Rattle.judge.specs.Parts.{keptTexts}
 use Rattle.judge.proofs.PartLaws.{part-by, part-keyed}
 use Rattle.judge.proofs.StepLaws.{noted-error, noted-other}
-use native.Mathlib.Omega.{arith}
-use mathlib.Core.Path.{_≡_, refl, sym, ap, _∙_}
-use mathlib.Core.Bool.{true, false}
-use Prim.Native.Nat.{ℕ, _+_, _-_, _*_, _≤_, _<_}
-use lib.ListN.{length, drop, take, getD, set}
-use denote.Ref.{now}
-use borrow.Author.Needs.{needs}
 use Rattle.judge.proofs.class_of.Statement.{statement}
 use Rattle.judge.proofs.class_of.Tie as tie
 
@@ -51,9 +48,10 @@ class-by-requires-2 c κs = search needs
 
 returns-2 : tie.Need-returns-2
 returns-2 c =
-    let start = c .before .before .before .before .before .before .before .before in
+    let tested = c .before .before .before .before in
+    let start = tested .before .before .before .before in
     let a = start .args in
-    noted-other (keptTexts (now (a .s)) (now (a .calls)) (now (a .keys)) (a .m)) (now (a .s)) (a .p) (start .pre .ends) (c .before .before .before .before .is-error .ensures) (c .before .before .before .if1 .left) (c .before .before .is-kept .ensures)
+    noted-other (keptTexts (now (a .s)) (now (a .calls)) (now (a .keys)) (a .m)) (now (a .s)) (a .p) (start .pre .ends) (tested .is-error .ensures) (c .before .before .before .if1 .left) (c .before .before .is-kept .ensures)
     (part-by (now (a .s)) (a .p .call) (endOf (now (a .s)) (a .p .call)) (from start) (to start) (start .pre .key))
     (c .class-by2 .ensures)
 

@@ -1,12 +1,7 @@
 -- What a record adds is told by its class.
-use Rattle.judge.proofs.CountLaws.{countable-small, void-sums, duplicate-sums, error-sums}
 use native.Mathlib.Omega.{arith}
-use mathlib.Core.Path.{_≡_, refl, sym, ap, _∙_}
-use mathlib.Core.Bool.{true, false}
-use Prim.Native.Nat.{ℕ, _+_, _-_, _*_, _≤_, _<_}
-use lib.ListN.{length, drop, take, getD, set}
-use denote.Ref.{now}
 use borrow.Author.Needs.{needs}
+use Rattle.judge.proofs.CountLaws.{countable-small, void-sums, duplicate-sums, error-sums}
 use Rattle.judge.proofs.counted.Statement.{statement}
 use Rattle.judge.proofs.counted.Tie as tie
 

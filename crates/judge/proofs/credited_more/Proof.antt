@@ -1,14 +1,13 @@
 -- What a credited record adds: one to the credited ones, its points, and one for each of its marks.
-use Rattle.judge.proofs.CountLaws.{countable-small, worth-small, worth-most, credited-sums}
 use native.Mathlib.Omega.{arith}
-use mathlib.Core.Path.{_≡_, refl, sym, ap, _∙_}
-use mathlib.Core.Bool.{true, false}
-use Prim.Native.Nat.{ℕ, _+_, _-_, _*_, _≤_, _<_}
-use lib.ListN.{length, drop, take, getD, set}
-use denote.Ref.{now}
 use borrow.Author.Needs.{needs}
+use Rattle.judge.proofs.CountLaws.{countable-small, worth-small, worth-most, credited-sums}
 use Rattle.judge.proofs.credited_more.Statement.{statement}
 use Rattle.judge.proofs.credited_more.Tie as tie
+
+-- Where the code begins, from where the squares are raised.
+abbrev squared : tie.After-struct-known3 → tie.Start
+squared c = c .before .before .before .before
 
 add-sums : tie.Need-add-sums
 add-sums c = omega (arith, countable-small (c .before .pre .0))
@@ -32,10 +31,10 @@ one-if-requires-3 : tie.Need-one-if-requires-3
 one-if-requires-3 c κs = search needs
 
 add-sums-5 : tie.Need-add-sums-5
-add-sums-5 c = let start = c .before .before .before .before .before .before .before .before in omega (arith, countable-small (start .pre .0), c .before .one-if3 .ensures, worth-most (start .args .v .country) 1)
+add-sums-5 c = let start = squared (c .before .before .before .before) in omega (arith, countable-small (start .pre .0), c .before .one-if3 .ensures, worth-most (start .args .v .country) 1)
 
 returns : tie.Need-returns
-returns c = let start = c .before .before .before .before .before .before .before .before in credited-sums (start .args .t) (start .args .worth) (start .args .v) (start .pre .1) (c .before .before .before .before .before .one-if .ensures) (c .before .before .before .one-if2 .ensures) (c .before .one-if3 .ensures)
+returns c = let start = squared (c .before .before .before .before) in credited-sums (start .args .t) (start .args .worth) (start .args .v) (start .pre .1) (c .before .before .before .before .before .one-if .ensures) (c .before .before .before .one-if2 .ensures) (c .before .one-if3 .ensures)
 
 pub credited-more-spec : {M : Type 1} → statement M
 credited-more-spec =

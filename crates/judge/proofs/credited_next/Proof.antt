@@ -1,17 +1,14 @@
 -- The marks of a credited record are the answers that are found, and its call, its square and its exchange are kept.
+use Prim.Native.Nat.{ℕ, _+_, _-_}
+use native.Mathlib.Omega.{arith}
+use mathlib.Core.Path.{ap, _∙_}
+use borrow.Author.Needs.{needs}
+use denote.Ref.{now}
 use Rattle.rules.specs.Fields.{emptyOr, locator}
-use Rattle.fields.specs.Field.{endOf}
 use Rattle.reader.specs.Contact.{between}
 use Rattle.judge.proofs.CountLaws.{worth-most}
 use Rattle.judge.proofs.ToldLaws.{country-inside, exchange-from, exchange-inside, exchange-short, exchange-size, locator-inside, locator-is, locator-ruled}
 use Rattle.judge.proofs.StepLaws.{credits}
-use native.Mathlib.Omega.{arith}
-use mathlib.Core.Path.{_≡_, refl, sym, ap, _∙_}
-use mathlib.Core.Bool.{true, false}
-use Prim.Native.Nat.{ℕ, _+_, _-_, _*_, _≤_, _<_}
-use lib.ListN.{length, drop, take, getD, set}
-use denote.Ref.{now}
-use borrow.Author.Needs.{needs}
 use Rattle.judge.proofs.credited_next.Statement.{statement}
 use Rattle.judge.proofs.credited_next.Tie as tie
 
@@ -42,9 +39,10 @@ new-part-requires c κs =
     let ended = c .before .before in
     let start = begun ended in
     let told = start .pre .told in
-    let end = ended .part-end .ensures in
-    ((start .pre .exchangesLie, start .pre .exchangeRoom, start .pre .exchangeKeyRoom),
-    (omega (arith, end, exchange-from told), omega (arith, end, exchange-inside told), omega (arith, end, exchange-size told, exchange-short), start .pre .exchangeShort))
+    let end = ended .part-end .ensures in (
+      (start .pre .exchangesLie, start .pre .exchangeRoom, start .pre .exchangeKeyRoom),
+      (omega (arith, end, exchange-from told), omega (arith, end, exchange-inside told), omega (arith, end, exchange-size told, exchange-short), start .pre .exchangeShort),
+    )
 
 add-new-square : tie.Need-add-new-square
 add-new-square c = let ended = parted (lent c) in omega (arith, ended .part-end .ensures, exchange-inside (begun ended .pre .told))
@@ -57,11 +55,12 @@ new-square-requires c κs =
     let ended = parted (lent (c .before)) in
     let first = begun ended in
     let told = first .pre .told in
-    let end = ended .part-end .ensures in
-    (omega (arith, first .pre .squareRoom),
-    omega (arith, end, locator-inside told),
-    locator-inside told .1,
-    ap (λ (n : ℕ). emptyOr locator (between (now (first .args .s)) (n + 1) (first .args .p .points - 1))) end ∙ ap (emptyOr locator) (locator-is told) ∙ locator-ruled told)
+    let end = ended .part-end .ensures in (
+      omega (arith, first .pre .squareRoom),
+      omega (arith, end, locator-inside told),
+      locator-inside told .1,
+      ap (λ (n : ℕ). emptyOr locator (between (now (first .args .s)) (n + 1) (first .args .p .points - 1))) end ∙ ap (emptyOr locator) (locator-is told) ∙ locator-ruled told,
+    )
 
 claims-country-requires : tie.Need-claims-country-requires
 claims-country-requires c κs = country-inside (begun (parted (squared (c .before .before))) .pre .told)

@@ -1,11 +1,11 @@
 -- The search goes from one equal key to the next, and ends at the first part that is the same.
 use Prim.Native.Nat.{_+_, _-_, _≤_}
-use borrow.Author.Needs.{needs}
-use denote.Ref.{now}
-use lib.ListN.{getD}
+use native.Mathlib.Omega.{arith}
 use mathlib.Core.Logic.{⊎-elim}
 use mathlib.Core.Path.{_≡_, refl, sym, ap, _∙_}
-use native.Mathlib.Omega.{arith}
+use lib.ListN.{getD}
+use borrow.Author.Needs.{needs}
+use denote.Ref.{now}
 use Rattle.judge.specs.declared.Found.the-variants.{At}
 use Rattle.judge.specs.Parts.{seek, partBy}
 use Rattle.judge.proofs.PartLaws.{compared, first-most, seek-all, seek-none, seek-here, seek-later, seek-over}

@@ -1,13 +1,8 @@
 -- Only a part of five characters is compared.
+use borrow.Author.Needs.{needs}
+use denote.Ref.{now}
 use Rattle.rules.specs.Fields.{errorCall}
 use Rattle.judge.proofs.PartLaws.{error-short}
-use native.Mathlib.Omega.{arith}
-use mathlib.Core.Path.{_≡_, refl, sym, ap, _∙_}
-use mathlib.Core.Bool.{true, false}
-use Prim.Native.Nat.{ℕ, _+_, _-_, _*_, _≤_, _<_}
-use lib.ListN.{length, drop, take, getD, set}
-use denote.Ref.{now}
-use borrow.Author.Needs.{needs}
 use Rattle.judge.proofs.is_error.Statement.{statement}
 use Rattle.judge.proofs.is_error.Tie as tie
 

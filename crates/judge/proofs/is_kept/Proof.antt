@@ -1,7 +1,7 @@
 -- Something is found exactly where the part is among those that are kept.
-use Rattle.judge.proofs.PartLaws.{kept-found, kept-none}
 use mathlib.Core.Path.{sym, _∙_}
 use borrow.Author.Needs.{needs}
+use Rattle.judge.proofs.PartLaws.{kept-found, kept-none}
 use Rattle.judge.proofs.is_kept.Statement.{statement}
 use Rattle.judge.proofs.is_kept.Tie as tie
 

@@ -1,17 +1,14 @@
 -- One step: the key of the call stands behind those that are kept, the class is found, and a credited record is kept.
-use Rattle.fields.specs.Field.{endOf}
+use Prim.Native.Nat.{ℕ}
+use native.Mathlib.Omega.{arith}
+use mathlib.Core.Path.{_≡_, ap, _∙_}
+use borrow.Author.Needs.{needs}
+use denote.Ref.{now}
 use Rattle.reader.specs.Contact.{between}
 use Rattle.judge.specs.Parts.{keyOf}
 use Rattle.judge.specs.Step.{callNoted}
 use Rattle.judge.proofs.ToldLaws.{call-inside, call-size}
 use Rattle.judge.proofs.StepLaws.{classed, steps-credited, steps-other}
-use borrow.Author.Needs.{needs}
-use native.Mathlib.Omega.{arith}
-use mathlib.Core.Path.{_≡_, refl, sym, ap, _∙_}
-use mathlib.Core.Bool.{true, false}
-use Prim.Native.Nat.{ℕ, _+_, _-_, _*_, _≤_, _<_}
-use lib.ListN.{length, drop, take, getD, set}
-use denote.Ref.{now}
 use Rattle.judge.proofs.judge_next.Statement.{statement}
 use Rattle.judge.proofs.judge_next.Tie as tie
 

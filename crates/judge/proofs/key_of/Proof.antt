@@ -1,12 +1,10 @@
 -- The key is made of the length and the last two characters.
-use Rattle.judge.proofs.PartLaws.{key-told}
+use Prim.Native.Nat.{_-_}
 use native.Mathlib.Omega.{arith}
-use mathlib.Core.Path.{_≡_, refl, sym, ap, _∙_}
-use mathlib.Core.Bool.{true, false}
-use Prim.Native.Nat.{ℕ, _+_, _-_, _*_, _≤_, _<_}
-use lib.ListN.{length, drop, take, getD, set}
-use denote.Ref.{now}
+use mathlib.Core.Path.{refl}
 use borrow.Author.Needs.{needs}
+use denote.Ref.{now}
+use Rattle.judge.proofs.PartLaws.{key-told}
 use Rattle.judge.proofs.key_of.Statement.{statement}
 use Rattle.judge.proofs.key_of.Tie as tie
 

@@ -1,13 +1,8 @@
 -- A part that is empty brings nothing; another is looked for by its key, and kept where it is found nowhere.
+use borrow.Author.Needs.{needs}
+use denote.Ref.{now}
 use Rattle.judge.proofs.PartLaws.{lying-key}
 use Rattle.judge.proofs.StepLaws.{part-none, key-kept, part-old, part-new}
-use native.Mathlib.Omega.{arith}
-use mathlib.Core.Path.{_≡_, refl, sym, ap, _∙_}
-use mathlib.Core.Bool.{true, false}
-use Prim.Native.Nat.{ℕ, _+_, _-_, _*_, _≤_, _<_}
-use lib.ListN.{length, drop, take, getD, set}
-use denote.Ref.{now}
-use borrow.Author.Needs.{needs}
 use Rattle.judge.proofs.new_part.Statement.{statement}
 use Rattle.judge.proofs.new_part.Tie as tie
 
@@ -25,9 +20,10 @@ slice-write-keys c = search needs
 
 is-kept-requires : tie.Need-is-kept-requires
 is-kept-requires c κs =
-    let start = c .before .before .before .before .before .before .before in
+    let keyed = c .before .before in
+    let start = keyed .before .before .before .before .before in
     let a = start .args in
-    (lying-key (now (a .s)) (now (a .places)) (now (a .keys)) (a .m) (start .pre .0 .0) (c .before .before .key-of .result), key-kept (now (a .s)) (now (a .places)) (now (a .keys)) (a .m) (a .a) (a .e) (start .pre .0 .0) (start .pre .1 .0) (start .pre .1 .1) (c .before .before .key-of .ensures))
+    (lying-key (now (a .s)) (now (a .places)) (now (a .keys)) (a .m) (start .pre .0 .0) (keyed .key-of .result), key-kept (now (a .s)) (now (a .places)) (now (a .keys)) (a .m) (a .a) (a .e) (start .pre .0 .0) (start .pre .1 .0) (start .pre .1 .1) (keyed .key-of .ensures))
 
 same-length : tie.Need-same-length
 same-length c = search needs

@@ -1,14 +1,10 @@
 -- An empty locator brings nothing; otherwise the number of the square is looked for among those that are kept, and stands behind them.
-use Rattle.judge.proofs.SquareLaws.{locator-square, no-square, square-looked}
+use native.Mathlib.Omega.{arith}
 use lib.ListN.{length-set}
 use lib.Seq.{getD-set-same}
-use native.Mathlib.Omega.{arith}
-use mathlib.Core.Path.{_≡_, refl, sym, ap, _∙_}
-use mathlib.Core.Bool.{true, false}
-use Prim.Native.Nat.{ℕ, _+_, _-_, _*_, _≤_, _<_}
-use lib.ListN.{length, drop, take, getD, set}
-use denote.Ref.{now}
 use borrow.Author.Needs.{needs}
+use denote.Ref.{now}
+use Rattle.judge.proofs.SquareLaws.{locator-square, no-square, square-looked}
 use Rattle.judge.proofs.new_square.Statement.{statement}
 use Rattle.judge.proofs.new_square.Tie as tie
 

@@ -1,10 +1,10 @@
 -- The search ends at the first index of the key: it stands somewhere ahead, and at no index that was passed.
-use Prim.Native.Nat.{ℕ, _+_, _-_, _≤_, _<_}
+use Prim.Native.Nat.{ℕ, _-_, _≤_, _<_}
+use native.Mathlib.Omega.{arith}
+use mathlib.Core.Path.{_≡_}
+use lib.ListN.{getD, length}
 use borrow.Author.Needs.{needs}
 use denote.Ref.{now}
-use lib.ListN.{getD, length}
-use mathlib.Core.Path.{_≡_}
-use native.Mathlib.Omega.{arith}
 use Rattle.judge.specs.Parts.{Ahead}
 use Rattle.judge.proofs.PartLaws.{ahead-more, none-more}
 use Rattle.judge.proofs.next_key.Statement.{statement}

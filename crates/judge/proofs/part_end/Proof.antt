@@ -1,11 +1,11 @@
 -- The field ends at the first semicolon from its place on.
 use Prim.Native.Nat.{_-_}
-use borrow.Author.Tests.{eq-eqb, ne-eqb}
-use denote.Ref.{now}
-use lib.ListN.{length}
+use native.Mathlib.Omega.{arith}
 use mathlib.Core.Bool.{Bool, not}
 use mathlib.Core.Path.{refl, sym, ap, _∙_}
-use native.Mathlib.Omega.{arith}
+use lib.ListN.{length}
+use borrow.Author.Tests.{eq-eqb, ne-eqb}
+use denote.Ref.{now}
 use Rattle.fields.specs.Field.{inField}
 use Rattle.fields.proofs.FieldLaws.{Within, run-starts, run-more, run-stops}
 use Rattle.header.proofs.PartLaws.{end-by-span}

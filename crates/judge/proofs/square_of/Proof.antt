@@ -1,12 +1,8 @@
 -- The four characters are letters and digits, so that each makes its digit of the number.
-use Rattle.judge.proofs.SquareLaws.{square-at}
-use borrow.Author.Needs.{needs}
 use native.Mathlib.Omega.{arith}
-use mathlib.Core.Path.{_≡_, refl, sym, ap, _∙_}
-use mathlib.Core.Bool.{true, false}
-use Prim.Native.Nat.{ℕ, _+_, _-_, _*_, _≤_, _<_}
-use lib.ListN.{length, drop, take, getD, set}
+use mathlib.Core.Path.{_∙_}
 use denote.Ref.{now}
+use Rattle.judge.proofs.SquareLaws.{square-at}
 use Rattle.judge.proofs.square_of.Statement.{statement}
 use Rattle.judge.proofs.square_of.Tie as tie
 

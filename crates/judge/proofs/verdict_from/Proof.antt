@@ -1,5 +1,6 @@
-use Rattle.judge.specs.Numbers.{verdictFrom}
+-- The verdict that a number tells, part by part.
 use borrow.Author.Needs.{needs}
+use Rattle.judge.specs.Numbers.{verdictFrom}
 use Rattle.judge.proofs.verdict_from.Statement.{statement}
 use Rattle.judge.proofs.verdict_from.Tie as tie
 

@@ -1,7 +1,8 @@
-use Rattle.rules.specs.Judging.{verdictNumber}
-use Rattle.judge.proofs.CountLaws.{class-number-most, worth-most}
+-- The number of a verdict: that of its class, and what each mark adds.
 use native.Mathlib.Omega.{arith}
 use borrow.Author.Needs.{needs}
+use Rattle.rules.specs.Judging.{verdictNumber}
+use Rattle.judge.proofs.CountLaws.{class-number-most, worth-most}
 use Rattle.judge.proofs.verdict_number.Statement.{statement}
 use Rattle.judge.proofs.verdict_number.Tie as tie
 

@@ -1,14 +1,14 @@
 -- The log is read, with the places of its records noted, and an accepted one is weighed.
+use native.Mathlib.Omega.{arith}
+use mathlib.Core.Path.{sym, _∙_}
+use lib.ListN.{replicate}
+use borrow.Author.Needs.{needs}
+use denote.Ref.{now}
 use Rattle.rules.specs.Rules.{base}
 use Rattle.reader.specs.Read.{readOf}
 use Rattle.reader.proofs.WholeLaws.{contacts-accepted}
 use Rattle.judge.specs.Weigh.{Accepts}
 use Rattle.judge.proofs.JudgeLaws.{accepts, all-listed, contacts-are, few-records, kept-unread, refused-unread}
-use native.Mathlib.Omega.{arith}
-use mathlib.Core.Path.{sym, _∙_}
-use lib.ListN.{replicate}
-use denote.Ref.{now}
-use borrow.Author.Needs.{needs}
 use Rattle.judge.proofs.weigh.Statement.{statement}
 use Rattle.judge.proofs.weigh.Tie as tie
 
@@ -42,14 +42,15 @@ weigh-accepted-requires c κs =
     let survey = surveyed .survey .ensures in
     let accept : Accepts base s (answer .records .given .0 .0) (answer .records .given .0 .1 .0) (answer .records .given .0 .1 .1 .0) = accepts base s (sym (survey .0) ∙ answer .records .given .1) in
     let contacts = contacts-are accept (contacts-accepted base s (accept .log) (accept .isRead)) in
-    let few = few-records accept in
-    (accept,
-    record {
-      callsListed = all-listed base s _ _ (λ c. c .call) (replicate (base .mostRecords) 0) contacts (survey .1 .0) few;
-      exchangesListed = all-listed base s _ _ (λ c. c .exchange) (replicate (base .mostRecords) 0) contacts (survey .1 .1 .0) few;
-      pointsListed = all-listed base s _ _ (λ c. c .points) (now (start .args .points)) contacts (survey .1 .1 .1 .0) (omega arith);
-      endsListed = all-listed base s _ _ (λ c. c .pointsend) (now (start .args .pointsends)) contacts (survey .1 .1 .1 .1 .0) (omega arith);
-    })
+    let few = few-records accept in (
+      accept,
+      record {
+        callsListed = all-listed base s _ _ (λ c. c .call) (replicate (base .mostRecords) 0) contacts (survey .1 .0) few;
+        exchangesListed = all-listed base s _ _ (λ c. c .exchange) (replicate (base .mostRecords) 0) contacts (survey .1 .1 .0) few;
+        pointsListed = all-listed base s _ _ (λ c. c .points) (now (start .args .points)) contacts (survey .1 .1 .1 .0) (omega arith);
+        endsListed = all-listed base s _ _ (λ c. c .pointsend) (now (start .args .pointsends)) contacts (survey .1 .1 .1 .1 .0) (omega arith);
+      },
+    )
 
 enum-known-r : tie.Need-enum-known-r
 enum-known-r c = search needs

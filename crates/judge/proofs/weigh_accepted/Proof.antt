@@ -1,12 +1,7 @@
 -- An accepted log is walked over where the slice has room, and its totals are closed with what it declares.
-use Rattle.judge.proofs.JudgeLaws.{closable, done, kept-short, refused-short, weighable, written-done}
-use native.Mathlib.Omega.{arith}
-use mathlib.Core.Path.{_≡_, refl, sym, ap, _∙_}
-use mathlib.Core.Bool.{true, false}
-use Prim.Native.Nat.{ℕ, _+_, _-_, _*_, _≤_, _<_}
-use lib.ListN.{length, drop, take, getD, set}
-use denote.Ref.{now}
 use borrow.Author.Needs.{needs}
+use denote.Ref.{now}
+use Rattle.judge.proofs.JudgeLaws.{closable, done, kept-short, refused-short, weighable, written-done}
 use Rattle.judge.proofs.weigh_accepted.Statement.{statement}
 use Rattle.judge.proofs.weigh_accepted.Tie as tie
 

@@ -1,13 +1,8 @@
 -- The points are read as the reader reads them.
+use mathlib.Core.Path.{sym, _∙_}
+use borrow.Author.Needs.{needs}
 use Rattle.rules.specs.Rules.{base}
 use Rattle.reader.proofs.PlaceLaws.{value-read, value-none}
-use native.Mathlib.Omega.{arith}
-use mathlib.Core.Path.{_≡_, refl, sym, ap, _∙_}
-use mathlib.Core.Bool.{true, false}
-use Prim.Native.Nat.{ℕ, _+_, _-_, _*_, _≤_, _<_}
-use lib.ListN.{length, drop, take, getD, set}
-use denote.Ref.{now}
-use borrow.Author.Needs.{needs}
 use Rattle.judge.proofs.worth_at.Statement.{statement}
 use Rattle.judge.proofs.worth_at.Tie as tie
 
