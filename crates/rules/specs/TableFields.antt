@@ -45,6 +45,10 @@ fieldCases =
     fits sampleRecord 1 ("240229" ∷ "000229" ∷ "891231" ∷ "900101" ∷ "991231" ∷ "240131" ∷ "240331" ∷ "240430" ∷ "240531" ∷ "240630" ∷ "240731" ∷ "240831" ∷ "240930" ∷ "241031" ∷ "241130" ∷ "241231" ∷ [])
     ++ breaksAt sampleRecord 1 ("230229" ∷ "" ∷ "24022" ∷ "2402299" ∷ "24022A" ∷ "240001" ∷ "241301" ∷ "240100" ∷ "240132" ∷ "240230" ∷ "240332" ∷ "240431" ∷ "240532" ∷ "240631" ∷ "240732" ∷ "240832" ∷ "240931" ∷ "241032" ∷ "241131" ∷ "241232" ∷ "90 101" ∷ "890229" ∷ "900229" ∷ [])
     ++ fits sampleRecord 2 ("0000" ∷ "2359" ∷ "1200" ∷ "0959" ∷ [])
+    -- more characters than there may be, of which the last write a day, a minute or a square all the same
+    ++ breaksAt sampleRecord 1 ("2403002" ∷ "24030002" ∷ [])
+    ++ breaksAt sampleRecord 2 ("14001" ∷ "140001" ∷ [])
+    ++ breaksAt sampleRecord 10 ("JO40AAAA" ∷ "JO40AAAAAA" ∷ [])
     ++ breaksAt sampleRecord 2 ("2400" ∷ "" ∷ "2360" ∷ "235" ∷ "23599" ∷ "1260" ∷ "12A0" ∷ "2 00" ∷ [])
     ++ fits sampleRecord 3 ("DK1" ∷ "ABCDEFGHIJKLMN" ∷ "DK1AA/P" ∷ [])
     ++ breaksAt sampleRecord 3 ("DK" ∷ "" ∷ "ABCDEFGHIJKLMNO" ∷ "dk1aa" ∷ "DK-1A" ∷ "DK 1A" ∷ [])
