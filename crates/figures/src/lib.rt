@@ -263,16 +263,10 @@ fn is_leap(year: u32) -> bool
     year % 4 == 0
 }
 
-// The days of a month. There is no month 0: as in the definition, it counts as the first.
-pub fn month_length(year: u32, month: u32) -> u32
+fn month_length(year: u32, month: u32) -> u32
+    requires { ⌜ (1 ≤ month) × (month ≤ 12) ⌝ }
     ensures { λ r. ⌜ r ≡ monthLength year month ⌝ }
 {
-    if 12 < month {
-        return 0;
-    }
-    if month == 0 {
-        return MONTHS[0] as u32;
-    }
     let i = (month - 1) as usize;
     let days = MONTHS[i] as u32;
     if month != 2 {

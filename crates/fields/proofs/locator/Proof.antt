@@ -3,7 +3,6 @@ use Prim.Native.Nat.{ℕ, _+_}
 use native.Mathlib.Omega.{arith}
 use mathlib.Core.Path.{refl}
 use denote.Ref.{now}
-use borrow.Author.Needs.{needs}
 use Rattle.rules.specs.Fields.{locator, squareLetter, subLetter}
 use Rattle.rules.specs.Text.{digit}
 use Rattle.fields.proofs.ShapeLaws.{Shape, Goes, goes, ended, one, too-long, whole, may-end, may-go-on, step, stop, locator-2, locator-4, locator-is, locator-bad, locator-kept}
@@ -37,10 +36,10 @@ abbrev Behind : tie.Start → Shape → ℕ → Type 0
 Behind c p n = Goes locator p (now (c .args .s)) (c .args .at) (c .args .at + n)
 
 byte-at-requires : tie.Need-byte-at-requires
-byte-at-requires c κs = search needs
+byte-at-requires c κs = tt
 
 is-square-letter-requires : tie.Need-is-square-letter-requires
-is-square-letter-requires c κs = search needs
+is-square-letter-requires c κs = tt
 
 returns : tie.Need-returns
 returns c = locator-bad _ _ (stop squareLetter refl (goes _ _ locator-is) (c .before .before .byte-at .ensures) (c .before .is-square-letter .ensures) (c .if1 .taken))
@@ -52,10 +51,10 @@ add-byte-at : tie.Need-add-byte-at
 add-byte-at c = omega (arith, behind1 c .within (omega arith))
 
 byte-at-requires-2 : tie.Need-byte-at-requires-2
-byte-at-requires-2 c κs = search needs
+byte-at-requires-2 c κs = tt
 
 is-square-letter-requires-2 : tie.Need-is-square-letter-requires-2
-is-square-letter-requires-2 c κs = search needs
+is-square-letter-requires-2 c κs = tt
 
 returns-2 : tie.Need-returns-2
 returns-2 c = locator-bad _ _ (stop squareLetter refl (behind1 (c .before .before .before)) (c .before .before .byte-at2 .ensures) (c .before .is-square-letter2 .ensures) (c .if2 .taken))
@@ -67,10 +66,10 @@ add-byte-at-2 : tie.Need-add-byte-at-2
 add-byte-at-2 c = omega (arith, behind2 c .within (omega arith))
 
 byte-at-requires-3 : tie.Need-byte-at-requires-3
-byte-at-requires-3 c κs = search needs
+byte-at-requires-3 c κs = tt
 
 is-digit-requires : tie.Need-is-digit-requires
-is-digit-requires c κs = search needs
+is-digit-requires c κs = tt
 
 returns-3 : tie.Need-returns-3
 returns-3 c = locator-bad _ _ (stop digit refl (behind2 (c .before .before .before)) (c .before .before .byte-at3 .ensures) (c .before .is-digit .ensures) (c .if3 .taken))
@@ -82,10 +81,10 @@ add-byte-at-3 : tie.Need-add-byte-at-3
 add-byte-at-3 c = omega (arith, behind3 c .within (omega arith))
 
 byte-at-requires-4 : tie.Need-byte-at-requires-4
-byte-at-requires-4 c κs = search needs
+byte-at-requires-4 c κs = tt
 
 is-digit-requires-2 : tie.Need-is-digit-requires-2
-is-digit-requires-2 c κs = search needs
+is-digit-requires-2 c κs = tt
 
 returns-4 : tie.Need-returns-4
 returns-4 c = locator-bad _ _ (stop digit refl (behind3 (c .before .before .before)) (c .before .before .byte-at4 .ensures) (c .before .is-digit2 .ensures) (c .if4 .taken))
@@ -97,7 +96,7 @@ add-four : tie.Need-add-four
 add-four c = omega (arith, behind4 c .within (omega arith))
 
 byte-at-requires-5 : tie.Need-byte-at-requires-5
-byte-at-requires-5 c κs = search needs
+byte-at-requires-5 c κs = tt
 
 returns-5 : tie.Need-returns-5
 returns-5 c = locator-kept _ _ _ (may-end (c .before .byte-at5 .ensures) (behind4 (c .before .before)) (c .if5 .taken))
@@ -106,7 +105,7 @@ past4 : (c : tie.Else5) → Behind (start5 c) (one subLetter (one subLetter ende
 past4 c = may-go-on (c .before .byte-at5 .ensures) (behind4 (c .before .before)) (c .if5 .left)
 
 is-sub-letter-requires : tie.Need-is-sub-letter-requires
-is-sub-letter-requires c κs = search needs
+is-sub-letter-requires c κs = tt
 
 returns-6 : tie.Need-returns-6
 returns-6 c = locator-bad _ _ (stop subLetter refl (past4 (c .before .before)) (c .before .before .before .byte-at5 .ensures) (c .before .is-sub-letter .ensures) (c .if6 .taken))
@@ -118,10 +117,10 @@ add-byte-at-4 : tie.Need-add-byte-at-4
 add-byte-at-4 c = omega (arith, behind5 c .within (omega arith))
 
 byte-at-requires-6 : tie.Need-byte-at-requires-6
-byte-at-requires-6 c κs = search needs
+byte-at-requires-6 c κs = tt
 
 is-sub-letter-requires-2 : tie.Need-is-sub-letter-requires-2
-is-sub-letter-requires-2 c κs = search needs
+is-sub-letter-requires-2 c κs = tt
 
 returns-7 : tie.Need-returns-7
 returns-7 c = locator-bad _ _ (stop subLetter refl (behind5 (c .before .before .before)) (c .before .before .byte-at6 .ensures) (c .before .is-sub-letter2 .ensures) (c .if7 .taken))
@@ -133,7 +132,7 @@ add-six : tie.Need-add-six
 add-six c = omega (arith, behind6 c .within (omega arith))
 
 ends-requires : tie.Need-ends-requires
-ends-requires c κs = search needs
+ends-requires c κs = tt
 
 returns-8 : tie.Need-returns-8
 returns-8 c = locator-bad _ _ (too-long (c .before .ends .ensures) (behind6 (c .before .before)) (c .if8 .taken))

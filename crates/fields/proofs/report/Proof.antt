@@ -3,7 +3,6 @@ use Prim.Native.Nat.{ℕ, _+_}
 use native.Mathlib.Omega.{arith}
 use mathlib.Core.Path.{refl}
 use denote.Ref.{now}
-use borrow.Author.Needs.{needs}
 use Rattle.rules.specs.Fields.{report}
 use Rattle.rules.specs.Text.{digit}
 use Rattle.fields.proofs.ShapeLaws.{Shape, Goes, goes, ended, one, too-long, whole, may-end, may-go-on, step, stop, digitOrCapital, report-2, report-is, report-bad, report-kept}
@@ -31,7 +30,7 @@ abbrev Behind : tie.Start → Shape → ℕ → Type 0
 Behind c p n = Goes report p (now (c .args .s)) (c .args .at) (c .args .at + n)
 
 byte-at-requires : tie.Need-byte-at-requires
-byte-at-requires c κs = search needs
+byte-at-requires c κs = tt
 
 returns : tie.Need-returns
 returns c = report-kept _ _ _ (may-end (c .before .byte-at .ensures) (goes _ _ report-is) (c .if1 .taken))
@@ -40,7 +39,7 @@ past0 : (c : tie.Else1) → Goes report (one digit (one digit report-2)) (now (s
 past0 c = may-go-on (c .before .byte-at .ensures) (goes _ _ report-is) (c .if1 .left)
 
 is-digit-requires : tie.Need-is-digit-requires
-is-digit-requires c κs = search needs
+is-digit-requires c κs = tt
 
 returns-2 : tie.Need-returns-2
 returns-2 c = report-bad _ _ (stop digit refl (past0 (c .before .before)) (c .before .before .before .byte-at .ensures) (c .before .is-digit .ensures) (c .if2 .taken))
@@ -52,10 +51,10 @@ add-byte-at : tie.Need-add-byte-at
 add-byte-at c = omega (arith, behind1 c .within (omega arith))
 
 byte-at-requires-2 : tie.Need-byte-at-requires-2
-byte-at-requires-2 c κs = search needs
+byte-at-requires-2 c κs = tt
 
 is-digit-requires-2 : tie.Need-is-digit-requires-2
-is-digit-requires-2 c κs = search needs
+is-digit-requires-2 c κs = tt
 
 returns-3 : tie.Need-returns-3
 returns-3 c = report-bad _ _ (stop digit refl (behind1 (c .before .before .before)) (c .before .before .byte-at2 .ensures) (c .before .is-digit2 .ensures) (c .if3 .taken))
@@ -67,7 +66,7 @@ add-two : tie.Need-add-two
 add-two c = omega (arith, behind2 c .within (omega arith))
 
 byte-at-requires-3 : tie.Need-byte-at-requires-3
-byte-at-requires-3 c κs = search needs
+byte-at-requires-3 c κs = tt
 
 returns-4 : tie.Need-returns-4
 returns-4 c = report-kept _ _ _ (may-end (c .before .byte-at3 .ensures) (behind2 (c .before .before)) (c .if4 .taken))
@@ -76,7 +75,7 @@ past2 : (c : tie.Else4) → Behind (start4 c) (one digitOrCapital ended) 2
 past2 c = may-go-on (c .before .byte-at3 .ensures) (behind2 (c .before .before)) (c .if4 .left)
 
 is-report-character-requires : tie.Need-is-report-character-requires
-is-report-character-requires c κs = search needs
+is-report-character-requires c κs = tt
 
 returns-5 : tie.Need-returns-5
 returns-5 c = report-bad _ _ (stop digitOrCapital refl (past2 (c .before .before)) (c .before .before .before .byte-at3 .ensures) (c .before .is-report-character .ensures) (c .if5 .taken))
@@ -88,7 +87,7 @@ add-three : tie.Need-add-three
 add-three c = omega (arith, behind3 c .within (omega arith))
 
 ends-requires : tie.Need-ends-requires
-ends-requires c κs = search needs
+ends-requires c κs = tt
 
 returns-6 : tie.Need-returns-6
 returns-6 c = report-bad _ _ (too-long (c .before .ends .ensures) (behind3 (c .before .before)) (c .if6 .taken))

@@ -3,7 +3,6 @@ use Prim.Native.Nat.{ℕ, _+_}
 use native.Mathlib.Omega.{arith}
 use mathlib.Core.Path.{refl}
 use denote.Ref.{now}
-use borrow.Author.Needs.{needs}
 use Rattle.rules.specs.Fields.{serial}
 use Rattle.rules.specs.Text.{digit}
 use Rattle.fields.proofs.ShapeLaws.{Shape, Goes, goes, ended, one, too-long, whole, may-end, may-go-on, step, stop, serial-3, serial-is, serial-bad, serial-kept}
@@ -34,7 +33,7 @@ abbrev Behind : tie.Start → Shape → ℕ → Type 0
 Behind c p n = Goes serial p (now (c .args .s)) (c .args .at) (c .args .at + n)
 
 byte-at-requires : tie.Need-byte-at-requires
-byte-at-requires c κs = search needs
+byte-at-requires c κs = tt
 
 returns : tie.Need-returns
 returns c = serial-kept _ _ _ (may-end (c .before .byte-at .ensures) (goes _ _ serial-is) (c .if1 .taken))
@@ -43,7 +42,7 @@ past0 : (c : tie.Else1) → Goes serial (one digit (one digit (one digit serial-
 past0 c = may-go-on (c .before .byte-at .ensures) (goes _ _ serial-is) (c .if1 .left)
 
 is-digit-requires : tie.Need-is-digit-requires
-is-digit-requires c κs = search needs
+is-digit-requires c κs = tt
 
 returns-2 : tie.Need-returns-2
 returns-2 c =
@@ -58,10 +57,10 @@ add-byte-at : tie.Need-add-byte-at
 add-byte-at c = omega (arith, behind1 c .within (omega arith))
 
 byte-at-requires-2 : tie.Need-byte-at-requires-2
-byte-at-requires-2 c κs = search needs
+byte-at-requires-2 c κs = tt
 
 is-digit-requires-2 : tie.Need-is-digit-requires-2
-is-digit-requires-2 c κs = search needs
+is-digit-requires-2 c κs = tt
 
 returns-3 : tie.Need-returns-3
 returns-3 c =
@@ -76,10 +75,10 @@ add-byte-at-2 : tie.Need-add-byte-at-2
 add-byte-at-2 c = omega (arith, behind2 c .within (omega arith))
 
 byte-at-requires-3 : tie.Need-byte-at-requires-3
-byte-at-requires-3 c κs = search needs
+byte-at-requires-3 c κs = tt
 
 is-digit-requires-3 : tie.Need-is-digit-requires-3
-is-digit-requires-3 c κs = search needs
+is-digit-requires-3 c κs = tt
 
 returns-4 : tie.Need-returns-4
 returns-4 c =
@@ -94,7 +93,7 @@ add-three : tie.Need-add-three
 add-three c = omega (arith, behind3 c .within (omega arith))
 
 byte-at-requires-4 : tie.Need-byte-at-requires-4
-byte-at-requires-4 c κs = search needs
+byte-at-requires-4 c κs = tt
 
 returns-5 : tie.Need-returns-5
 returns-5 c = serial-kept _ _ _ (may-end (c .before .byte-at4 .ensures) (behind3 (c .before .before)) (c .if5 .taken))
@@ -103,7 +102,7 @@ past3 : (c : tie.Else5) → Behind (start5 c) (one digit ended) 3
 past3 c = may-go-on (c .before .byte-at4 .ensures) (behind3 (c .before .before)) (c .if5 .left)
 
 is-digit-requires-4 : tie.Need-is-digit-requires-4
-is-digit-requires-4 c κs = search needs
+is-digit-requires-4 c κs = tt
 
 returns-6 : tie.Need-returns-6
 returns-6 c =
@@ -118,7 +117,7 @@ add-four : tie.Need-add-four
 add-four c = omega (arith, behind4 c .within (omega arith))
 
 ends-requires : tie.Need-ends-requires
-ends-requires c κs = search needs
+ends-requires c κs = tt
 
 returns-7 : tie.Need-returns-7
 returns-7 c = serial-bad _ _ (too-long (c .before .ends .ensures) (behind4 (c .before .before)) (c .if7 .taken))

@@ -1,12 +1,11 @@
 -- A claimed bonus is read with as many digits as the rules allow.
 use native.Mathlib.Omega.{arith}
-use borrow.Author.Needs.{needs}
 use Rattle.figures.proofs.LimitLaws.{readable, digits-read}
 use Rattle.figures.proofs.claimed_bonus.Statement.{statement}
 use Rattle.figures.proofs.claimed_bonus.Tie as tie
 
 claimed-bonus-digits-requires : tie.Need-claimed-bonus-digits-requires
-claimed-bonus-digits-requires c κs = search needs
+claimed-bonus-digits-requires c κs = tt
 
 number-requires : tie.Need-number-requires
 number-requires c κs = omega (arith, c .claimed-bonus-digits .ensures, readable .claimedBonus)

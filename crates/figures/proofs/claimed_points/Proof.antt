@@ -1,12 +1,11 @@
 -- Claimed points are read with as many digits as the rules allow.
 use native.Mathlib.Omega.{arith}
-use borrow.Author.Needs.{needs}
 use Rattle.figures.proofs.LimitLaws.{readable, digits-read}
 use Rattle.figures.proofs.claimed_points.Statement.{statement}
 use Rattle.figures.proofs.claimed_points.Tie as tie
 
 claimed-points-digits-requires : tie.Need-claimed-points-digits-requires
-claimed-points-digits-requires c κs = search needs
+claimed-points-digits-requires c κs = tt
 
 number-requires : tie.Need-number-requires
 number-requires c κs = omega (arith, c .claimed-points-digits .ensures, readable .claimedPoints)

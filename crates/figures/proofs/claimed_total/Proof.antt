@@ -1,12 +1,11 @@
 -- A claimed total is read with as many digits as the rules allow.
 use native.Mathlib.Omega.{arith}
-use borrow.Author.Needs.{needs}
 use Rattle.figures.proofs.LimitLaws.{readable, digits-read}
 use Rattle.figures.proofs.claimed_total.Statement.{statement}
 use Rattle.figures.proofs.claimed_total.Tie as tie
 
 claimed-total-digits-requires : tie.Need-claimed-total-digits-requires
-claimed-total-digits-requires c κs = search needs
+claimed-total-digits-requires c κs = tt
 
 number-requires : tie.Need-number-requires
 number-requires c κs = omega (arith, c .claimed-total-digits .ensures, readable .claimedTotal)

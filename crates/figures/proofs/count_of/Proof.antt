@@ -1,13 +1,12 @@
 -- A count is read between the bounds that the rules give.
 use native.Mathlib.Omega.{arith}
-use borrow.Author.Needs.{needs}
 use Rattle.rules.specs.Arguments.{count}
 use Rattle.figures.proofs.LimitLaws.{readable, bound-read}
 use Rattle.figures.proofs.count_of.Statement.{statement}
 use Rattle.figures.proofs.count_of.Tie as tie
 
 most-count-requires : tie.Need-most-count-requires
-most-count-requires c κs = search needs
+most-count-requires c κs = tt
 
 number-from-requires : tie.Need-number-from-requires
 number-from-requires c κs = omega (arith, c .most-count .ensures, readable .count)

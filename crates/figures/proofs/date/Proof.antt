@@ -22,7 +22,7 @@ abbrev ended : tie.After-is-short-date → tie.Else4
 ended c = fourth c .before .before .before
 
 ends-requires : tie.Need-ends-requires
-ends-requires c κs = search needs
+ends-requires c κs = tt
 
 returns : tie.Need-returns
 returns c = date-empty _ _ (sym (c .before .ends .ensures) ∙ c .if1 .taken)
@@ -40,7 +40,7 @@ add-ends : tie.Need-add-ends
 add-ends c = search needs
 
 ends-requires-2 : tie.Need-ends-requires-2
-ends-requires-2 c κs = search needs
+ends-requires-2 c κs = tt
 
 returns-4 : tie.Need-returns-4
 returns-4 c = date-unended _ _ (goes-on (c .before .before .before .before)) (sym (c .before .ends2 .ensures) ∙ not-true _ (c .if4 .taken))
@@ -79,7 +79,7 @@ shared-slice-read-is-short-date-6 : tie.Need-shared-slice-read-is-short-date-6
 shared-slice-read-is-short-date-6 c = search needs
 
 is-short-date-requires : tie.Need-is-short-date-requires
-is-short-date-requires c κs = search needs
+is-short-date-requires c κs = tt
 
 returns-5 : tie.Need-returns-5
 returns-5 c =

@@ -1,12 +1,11 @@
 -- A distance is read with as many digits as the rules allow.
 use native.Mathlib.Omega.{arith}
-use borrow.Author.Needs.{needs}
 use Rattle.figures.proofs.LimitLaws.{readable, digits-read}
 use Rattle.figures.proofs.distance.Statement.{statement}
 use Rattle.figures.proofs.distance.Tie as tie
 
 distance-digits-requires : tie.Need-distance-digits-requires
-distance-digits-requires c κs = search needs
+distance-digits-requires c κs = tt
 
 number-requires : tie.Need-number-requires
 number-requires c κs = omega (arith, c .distance-digits .ensures, readable .distance)

@@ -4,7 +4,6 @@ use mathlib.Core.Bool.{true}
 use mathlib.Core.List.{[], _∷_}
 use mathlib.Core.Path.{_≡_, sym, _∙_}
 use lib.ListN.{take, drop}
-use borrow.Author.Needs.{needs}
 use borrow.Author.Tests.{not-false}
 use Rattle.rules.specs.Text.{Text, digit, all}
 use Rattle.rules.proofs.NumberLaws.{value-below}
@@ -45,19 +44,19 @@ year-digits : (c : tie.Else1) → all digit (take 2 (six (start1 c))) ≡ true
 year-digits c = sym (c .before .are-digits .ensures) ∙ not-false _ (c .if1 .left)
 
 are-digits-requires : tie.Need-are-digits-requires
-are-digits-requires c κs = search needs
+are-digits-requires c κs = tt
 
 returns : tie.Need-returns
 returns c = six-kind _ _ _ _ _ _ (stops _ _ _ (c .before .are-digits .ensures) (c .if1 .taken))
 
 are-digits-requires-2 : tie.Need-are-digits-requires-2
-are-digits-requires-2 c κs = search needs
+are-digits-requires-2 c κs = tt
 
 returns-2 : tie.Need-returns-2
 returns-2 c = six-kind _ _ _ _ _ _ (upto1 (c .before .before) ∙ stops _ _ _ (c .before .are-digits2 .ensures) (c .if2 .taken))
 
 are-digits-requires-3 : tie.Need-are-digits-requires-3
-are-digits-requires-3 c κs = search needs
+are-digits-requires-3 c κs = tt
 
 returns-3 : tie.Need-returns-3
 returns-3 c = six-kind _ _ _ _ _ _ (upto2 (c .before .before) ∙ stops _ _ _ (c .before .are-digits3 .ensures) (c .if3 .taken))
@@ -81,7 +80,7 @@ two-digits-requires-3 c κs =
     sym (d .before .are-digits3 .ensures) ∙ not-false _ (d .if3 .left)
 
 day-exists-requires : tie.Need-day-exists-requires
-day-exists-requires c κs = search needs
+day-exists-requires c κs = tt
 
 returns-4 : tie.Need-returns-4
 returns-4 c =

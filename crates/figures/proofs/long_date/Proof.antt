@@ -19,7 +19,7 @@ read-digits-requires : tie.Need-read-digits-requires
 read-digits-requires c κs = search needs
 
 ends-requires : tie.Need-ends-requires
-ends-requires c κs = search needs
+ends-requires c κs = tt
 
 returns : tie.Need-returns
 returns c = long-date-unended _ _ _ (c .before .before .read-digits .ensures) (ap not (sym (c .before .ends .ensures)) ∙ c .if1 .taken)
@@ -45,7 +45,7 @@ returns-4 c =
     (search needs) (search needs)
 
 day-exists-requires : tie.Need-day-exists-requires
-day-exists-requires c κs = search needs
+day-exists-requires c κs = tt
 
 returns-5 : tie.Need-returns-5
 returns-5 c =

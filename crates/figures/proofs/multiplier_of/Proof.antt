@@ -1,13 +1,12 @@
 -- A multiplier is read between the bounds that the rules give.
 use native.Mathlib.Omega.{arith}
-use borrow.Author.Needs.{needs}
 use Rattle.rules.specs.Arguments.{multiplier}
 use Rattle.figures.proofs.LimitLaws.{readable, bound-read}
 use Rattle.figures.proofs.multiplier_of.Statement.{statement}
 use Rattle.figures.proofs.multiplier_of.Tie as tie
 
 most-multiplier-requires : tie.Need-most-multiplier-requires
-most-multiplier-requires c κs = search needs
+most-multiplier-requires c κs = tt
 
 number-from-requires : tie.Need-number-from-requires
 number-from-requires c κs = omega (arith, c .most-multiplier .ensures, readable .multiplier)

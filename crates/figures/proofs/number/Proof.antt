@@ -18,7 +18,7 @@ read-digits-requires : tie.Need-read-digits-requires
 read-digits-requires c κs = search needs
 
 ends-requires : tie.Need-ends-requires
-ends-requires c κs = search needs
+ends-requires c κs = tt
 
 returns : tie.Need-returns
 returns c = reads-no-end _ _ _ _ (c .before .before .read-digits .ensures) (ap not (sym (c .before .ends .ensures)) ∙ c .if1 .taken)

@@ -1,12 +1,11 @@
 -- A record's points are read with as many digits as the rules allow.
 use native.Mathlib.Omega.{arith}
-use borrow.Author.Needs.{needs}
 use Rattle.figures.proofs.LimitLaws.{readable, digits-read}
 use Rattle.figures.proofs.points.Statement.{statement}
 use Rattle.figures.proofs.points.Tie as tie
 
 points-digits-requires : tie.Need-points-digits-requires
-points-digits-requires c κs = search needs
+points-digits-requires c κs = tt
 
 number-requires : tie.Need-number-requires
 number-requires c κs = omega (arith, c .points-digits .ensures, readable .points)

@@ -1,12 +1,11 @@
 -- N is read between the bounds that the rules give.
 use native.Mathlib.Omega.{arith}
-use borrow.Author.Needs.{needs}
 use Rattle.figures.proofs.LimitLaws.{readable, bound-read}
 use Rattle.figures.proofs.record_count.Statement.{statement}
 use Rattle.figures.proofs.record_count.Tie as tie
 
 most-records-requires : tie.Need-most-records-requires
-most-records-requires c κs = search needs
+most-records-requires c κs = tt
 
 number-from-requires : tie.Need-number-from-requires
 number-from-requires c κs = omega (arith, c .most-records .ensures, readable .records)

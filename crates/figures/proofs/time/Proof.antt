@@ -24,7 +24,7 @@ add-ends : tie.Need-add-ends
 add-ends c = search needs
 
 ends-requires : tie.Need-ends-requires
-ends-requires c κs = search needs
+ends-requires c κs = tt
 
 returns-3 : tie.Need-returns-3
 returns-3 c = time-unended _ _ (sym (c .before .ends .ensures) ∙ not-true _ (c .if3 .taken))
@@ -51,7 +51,7 @@ shared-slice-read-from-digits-4 : tie.Need-shared-slice-read-from-digits-4
 shared-slice-read-from-digits-4 c = search needs
 
 from-digits-requires : tie.Need-from-digits-requires
-from-digits-requires c κs = search needs
+from-digits-requires c κs = tt
 
 enum-known-t : tie.Need-enum-known-t
 enum-known-t c = search needs

@@ -2,7 +2,6 @@
 use Prim.Native.Nat.{ℕ, zero-le}
 use mathlib.Core.List.{List, [], _∷_}
 use mathlib.Core.Path.{refl}
-use borrow.Author.Needs.{needs}
 use Rattle.rules.specs.Arguments.{entries, meets, anything, twoDates, aCall, emptyOrCall, emptyOrCalls, aLocator, anExchange, aBand, countAndMultiplier, countBonusMultiplier, claimedPoints, claimedBonus, claimedTotal, bestContact}
 use Rattle.rules.specs.Rules.{base}
 use Rattle.header.specs.Header.{firstArgument, argumentOf}
@@ -31,82 +30,82 @@ returns : tie.Need-returns
 returns c = beyond-table base _ _ (c .if1 .taken)
 
 is-two-dates-requires : tie.Need-is-two-dates-requires
-is-two-dates-requires c κs = search needs
+is-two-dates-requires c κs = tt
 
 told-requires : tie.Need-told-requires
-told-requires c κs = search needs
+told-requires c κs = tt
 
 is-call-requires : tie.Need-is-call-requires
-is-call-requires c κs = search needs
+is-call-requires c κs = tt
 
 told-requires-2 : tie.Need-told-requires-2
-told-requires-2 c κs = search needs
+told-requires-2 c κs = tt
 
 is-locator-requires : tie.Need-is-locator-requires
-is-locator-requires c κs = search needs
+is-locator-requires c κs = tt
 
 told-requires-3 : tie.Need-told-requires-3
-told-requires-3 c κs = search needs
+told-requires-3 c κs = tt
 
 is-exchange-requires : tie.Need-is-exchange-requires
-is-exchange-requires c κs = search needs
+is-exchange-requires c κs = tt
 
 told-requires-4 : tie.Need-told-requires-4
-told-requires-4 c κs = search needs
+told-requires-4 c κs = tt
 
 is-band-name-requires : tie.Need-is-band-name-requires
-is-band-name-requires c κs = search needs
+is-band-name-requires c κs = tt
 
 told-requires-5 : tie.Need-told-requires-5
-told-requires-5 c κs = search needs
+told-requires-5 c κs = tt
 
 is-empty-or-call-requires : tie.Need-is-empty-or-call-requires
-is-empty-or-call-requires c κs = search needs
+is-empty-or-call-requires c κs = tt
 
 told-requires-6 : tie.Need-told-requires-6
-told-requires-6 c κs = search needs
+told-requires-6 c κs = tt
 
 is-count-and-multiplier-requires : tie.Need-is-count-and-multiplier-requires
-is-count-and-multiplier-requires c κs = search needs
+is-count-and-multiplier-requires c κs = tt
 
 told-requires-7 : tie.Need-told-requires-7
-told-requires-7 c κs = search needs
+told-requires-7 c κs = tt
 
 is-claimed-points-requires : tie.Need-is-claimed-points-requires
-is-claimed-points-requires c κs = search needs
+is-claimed-points-requires c κs = tt
 
 told-requires-8 : tie.Need-told-requires-8
-told-requires-8 c κs = search needs
+told-requires-8 c κs = tt
 
 is-count-bonus-multiplier-requires : tie.Need-is-count-bonus-multiplier-requires
-is-count-bonus-multiplier-requires c κs = search needs
+is-count-bonus-multiplier-requires c κs = tt
 
 told-requires-9 : tie.Need-told-requires-9
-told-requires-9 c κs = search needs
+told-requires-9 c κs = tt
 
 is-claimed-bonus-requires : tie.Need-is-claimed-bonus-requires
-is-claimed-bonus-requires c κs = search needs
+is-claimed-bonus-requires c κs = tt
 
 told-requires-10 : tie.Need-told-requires-10
-told-requires-10 c κs = search needs
+told-requires-10 c κs = tt
 
 is-claimed-total-requires : tie.Need-is-claimed-total-requires
-is-claimed-total-requires c κs = search needs
+is-claimed-total-requires c κs = tt
 
 told-requires-11 : tie.Need-told-requires-11
-told-requires-11 c κs = search needs
+told-requires-11 c κs = tt
 
 is-best-contact-requires : tie.Need-is-best-contact-requires
-is-best-contact-requires c κs = search needs
+is-best-contact-requires c κs = tt
 
 told-requires-12 : tie.Need-told-requires-12
-told-requires-12 c κs = search needs
+told-requires-12 c κs = tt
 
 is-empty-or-calls-requires : tie.Need-is-empty-or-calls-requires
-is-empty-or-calls-requires c κs = search needs
+is-empty-or-calls-requires c κs = tt
 
 told-requires-13 : tie.Need-told-requires-13
-told-requires-13 c κs = search needs
+told-requires-13 c κs = tt
 
 returns-2 : tie.Need-returns-2
 unfolding argumentOf firstArgument entries

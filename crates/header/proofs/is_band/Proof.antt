@@ -26,7 +26,7 @@ slice-aggregate-same-text : tie.Need-slice-aggregate-same-text
 slice-aggregate-same-text c = front-length (c .before .before .before .args .k) (search needs)
 
 same-text-requires : tie.Need-same-text-requires
-same-text-requires c κs = search needs
+same-text-requires c κs = tt
 
 returns : tie.Need-returns
 returns c =

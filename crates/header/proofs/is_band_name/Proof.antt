@@ -8,7 +8,7 @@ use Rattle.header.proofs.is_band_name.Statement.{statement}
 use Rattle.header.proofs.is_band_name.Tie as tie
 
 band-requires : tie.Need-band-requires
-band-requires c κs = search needs
+band-requires c κs = tt
 
 enum-told : tie.Need-enum-told
 enum-told c = search needs

@@ -54,7 +54,7 @@ end-kept : (c : tie.After-known-told3) → Kept (numberOf (base .distanceDigits)
 end-kept c = number-kept (numberOf (base .distanceDigits)) _ _ (sym (c .before .before .before .distance .ensures) ∙ c .before .end .given .1)
 
 call-or-empty-requires : tie.Need-call-or-empty-requires
-call-or-empty-requires c κs = search needs
+call-or-empty-requires c κs = tt
 
 enum-known-call : tie.Need-enum-known-call
 enum-known-call c = search needs
@@ -72,7 +72,7 @@ add-locator-or-empty : tie.Need-add-locator-or-empty
 add-locator-or-empty c = omega (arith, call-kept c .ending, end-within (now (start1 c .args .t)) 0)
 
 locator-or-empty-requires : tie.Need-locator-or-empty-requires
-locator-or-empty-requires c κs = search needs
+locator-or-empty-requires c κs = tt
 
 enum-known-locator : tie.Need-enum-known-locator
 enum-known-locator c = search needs
@@ -94,7 +94,7 @@ add-distance c =
     omega (arith, call-kept d .ending, end-within t 0, locator-kept c .ending, end-within t (second d))
 
 distance-requires : tie.Need-distance-requires
-distance-requires c κs = search needs
+distance-requires c κs = tt
 
 enum-known-end : tie.Need-enum-known-end
 enum-known-end c = search needs

@@ -11,7 +11,7 @@ use Rattle.header.proofs.is_call.Statement.{statement}
 use Rattle.header.proofs.is_call.Tie as tie
 
 call-requires : tie.Need-call-requires
-call-requires c κs = search needs
+call-requires c κs = tt
 
 enum-known-end : tie.Need-enum-known-end
 enum-known-end c = search needs

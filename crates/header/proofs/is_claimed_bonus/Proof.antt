@@ -7,7 +7,7 @@ use Rattle.header.proofs.is_claimed_bonus.Statement.{statement}
 use Rattle.header.proofs.is_claimed_bonus.Tie as tie
 
 claimed-bonus-requires : tie.Need-claimed-bonus-requires
-claimed-bonus-requires c κs = search needs
+claimed-bonus-requires c κs = tt
 
 enum-known-end : tie.Need-enum-known-end
 enum-known-end c = search needs

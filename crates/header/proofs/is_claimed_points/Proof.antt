@@ -7,7 +7,7 @@ use Rattle.header.proofs.is_claimed_points.Statement.{statement}
 use Rattle.header.proofs.is_claimed_points.Tie as tie
 
 claimed-points-requires : tie.Need-claimed-points-requires
-claimed-points-requires c κs = search needs
+claimed-points-requires c κs = tt
 
 enum-known-end : tie.Need-enum-known-end
 enum-known-end c = search needs

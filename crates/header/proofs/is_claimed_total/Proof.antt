@@ -7,7 +7,7 @@ use Rattle.header.proofs.is_claimed_total.Statement.{statement}
 use Rattle.header.proofs.is_claimed_total.Tie as tie
 
 claimed-total-requires : tie.Need-claimed-total-requires
-claimed-total-requires c κs = search needs
+claimed-total-requires c κs = tt
 
 enum-known-end : tie.Need-enum-known-end
 enum-known-end c = search needs

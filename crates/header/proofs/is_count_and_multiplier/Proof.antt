@@ -41,7 +41,7 @@ end-kept : (c : tie.After-known-told2) → Kept (multiplier base) (now (start2 c
 end-kept c = number-kept (multiplier base) _ _ (sym (c .before .before .before .multiplier-of .ensures) ∙ c .before .end .given .1)
 
 count-of-requires : tie.Need-count-of-requires
-count-of-requires c κs = search needs
+count-of-requires c κs = tt
 
 enum-known-count : tie.Need-enum-known-count
 enum-known-count c = search needs
@@ -59,7 +59,7 @@ add-multiplier-of : tie.Need-add-multiplier-of
 add-multiplier-of c = omega (arith, count-kept c .ending, end-within (now (start1 c .args .t)) 0)
 
 multiplier-of-requires : tie.Need-multiplier-of-requires
-multiplier-of-requires c κs = search needs
+multiplier-of-requires c κs = tt
 
 enum-known-end : tie.Need-enum-known-end
 enum-known-end c = search needs

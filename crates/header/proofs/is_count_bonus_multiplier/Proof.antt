@@ -53,7 +53,7 @@ end-kept : (c : tie.After-known-told3) → Kept (multiplier base) (now (start3 c
 end-kept c = number-kept (multiplier base) _ _ (sym (c .before .before .before .multiplier-of .ensures) ∙ c .before .end .given .1)
 
 count-of-requires : tie.Need-count-of-requires
-count-of-requires c κs = search needs
+count-of-requires c κs = tt
 
 enum-known-count : tie.Need-enum-known-count
 enum-known-count c = search needs
@@ -71,7 +71,7 @@ add-bonus-of : tie.Need-add-bonus-of
 add-bonus-of c = omega (arith, count-kept c .ending, end-within (now (start1 c .args .t)) 0)
 
 bonus-of-requires : tie.Need-bonus-of-requires
-bonus-of-requires c κs = search needs
+bonus-of-requires c κs = tt
 
 enum-known-bonus : tie.Need-enum-known-bonus
 enum-known-bonus c = search needs
@@ -93,7 +93,7 @@ add-multiplier-of c =
     omega (arith, count-kept d .ending, end-within t 0, bonus-kept c .ending, end-within t (second d))
 
 multiplier-of-requires : tie.Need-multiplier-of-requires
-multiplier-of-requires c κs = search needs
+multiplier-of-requires c κs = tt
 
 enum-known-end : tie.Need-enum-known-end
 enum-known-end c = search needs

@@ -11,7 +11,7 @@ use Rattle.header.proofs.is_empty_or_call.Statement.{statement}
 use Rattle.header.proofs.is_empty_or_call.Tie as tie
 
 call-or-empty-requires : tie.Need-call-or-empty-requires
-call-or-empty-requires c κs = search needs
+call-or-empty-requires c κs = tt
 
 enum-known-end : tie.Need-enum-known-end
 enum-known-end c = search needs

@@ -39,7 +39,7 @@ loop-holds : tie.Need-loop-holds Inv-loop μ-loop
 loop-holds c = (search needs, refl)
 
 call-requires : tie.Need-call-requires Inv-loop μ-loop
-call-requires c κs = search needs
+call-requires c κs = tt
 
 enum-known-end : tie.Need-enum-known-end Inv-loop μ-loop
 enum-known-end c = search needs

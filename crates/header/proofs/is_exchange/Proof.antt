@@ -12,7 +12,7 @@ use Rattle.header.proofs.is_exchange.Statement.{statement}
 use Rattle.header.proofs.is_exchange.Tie as tie
 
 exchange-requires : tie.Need-exchange-requires
-exchange-requires c κs = search needs
+exchange-requires c κs = tt
 
 enum-known-end : tie.Need-enum-known-end
 enum-known-end c = search needs

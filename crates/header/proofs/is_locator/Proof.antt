@@ -11,7 +11,7 @@ use Rattle.header.proofs.is_locator.Statement.{statement}
 use Rattle.header.proofs.is_locator.Tie as tie
 
 locator-requires : tie.Need-locator-requires
-locator-requires c κs = search needs
+locator-requires c κs = tt
 
 enum-known-end : tie.Need-enum-known-end
 enum-known-end c = search needs

@@ -40,7 +40,7 @@ last-read c =
     date-kept (now (start2 c .args .t)) (second (c .before .before .before .before)) (sym (c .before .before .before .long-date2 .ensures) ∙ c .before .last .given .1)
 
 long-date-requires : tie.Need-long-date-requires
-long-date-requires c κs = search needs
+long-date-requires c κs = tt
 
 enum-known-first : tie.Need-enum-known-first
 enum-known-first c = search needs
@@ -57,7 +57,7 @@ add-long-date : tie.Need-add-long-date
 add-long-date c = omega (arith, first-read c .0 .ending, end-within (now (start1 c .args .t)) 0)
 
 long-date-requires-2 : tie.Need-long-date-requires-2
-long-date-requires-2 c κs = search needs
+long-date-requires-2 c κs = tt
 
 enum-known-last : tie.Need-enum-known-last
 enum-known-last c = search needs

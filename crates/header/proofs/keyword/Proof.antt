@@ -19,7 +19,7 @@ index-1-begins-with : tie.Need-index-1-begins-with
 index-1-begins-with c = search needs
 
 begins-with-requires : tie.Need-begins-with-requires
-begins-with-requires c κs = search needs
+begins-with-requires c κs = tt
 
 returns-2 : tie.Need-returns-2
 unfolding entries keywordStart

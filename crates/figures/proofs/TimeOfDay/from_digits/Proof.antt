@@ -26,13 +26,13 @@ unfolding all
 digits c = upto2 c
 
 are-digits-requires : tie.Need-are-digits-requires
-are-digits-requires c κs = search needs
+are-digits-requires c κs = tt
 
 returns : tie.Need-returns
 returns c = made-kind _ _ _ _ (stops _ _ _ (c .before .are-digits .ensures) (c .if1 .taken))
 
 are-digits-requires-2 : tie.Need-are-digits-requires-2
-are-digits-requires-2 c κs = search needs
+are-digits-requires-2 c κs = tt
 
 returns-2 : tie.Need-returns-2
 returns-2 c = made-kind _ _ _ _ (upto1 (c .before .before) ∙ stops _ _ _ (c .before .are-digits2 .ensures) (c .if2 .taken))
