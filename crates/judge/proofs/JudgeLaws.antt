@@ -164,8 +164,8 @@ module _ {R : Rules} {s : Text} {records first claims : ℕ} (a : Accepts R s re
   totals-are w e f =
       f
       ∙ (λ i. closing (w .totals i) ((e ∙ claims-are) i))
-      ∙ closed-totals (declaredAt R s (claimsStart (a .log))) (recordsOf R s) (verdicts R (recordsOf R s)) (length-verdicts R (recordsOf R s))
-      ∙ (λ i. totalsOf (declared-are i) (records-are a i) (verdicts R (records-are a i)))
+      ∙ closed-totals R (declaredAt R s (claimsStart (a .log))) (recordsOf R s) (verdicts R (recordsOf R s)) (length-verdicts R (recordsOf R s))
+      ∙ (λ i. totalsOf R (declared-are i) (records-are a i) (verdicts R (records-are a i)))
 
   pub done : {t u : Totals} {d : Declared} {slice' : List ℕ} → Weighs R s slice t slice' → d ≡ declaredAt R s claims → u ≡ closing t d → Weighed.Done u records first claims ≡ weighedOf R (length slice) s
   unfolding weighedOf weighedBy judge judgeReading judgeLog recordsOfReading
