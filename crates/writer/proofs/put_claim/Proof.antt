@@ -6,7 +6,7 @@ use Prim.Native.Nat.{_-_}
 use lib.ListN.{length, length-append}
 use denote.Ref.{now}
 use Rattle.rules.specs.Text.{digits}
-use Rattle.places.specs.Places.{between}
+use Rattle.reader.specs.Contact.{between}
 use Rattle.writer.proofs.WrittenLaws.{puts-room, puts-then, part-length}
 use borrow.Author.Needs.{needs}
 use Rattle.writer.proofs.put_claim.Statement.{statement}

@@ -1,7 +1,7 @@
 -- `writer::put_part` meets its contract. The loop's invariant: the part up to `i` is laid over the slice as it was. The measure is what is left
 -- of the part.
 -- Assumes nothing.
-use Rattle.places.specs.Places.{between}
+use Rattle.reader.specs.Contact.{between}
 use Rattle.writer.specs.Written.{written}
 use Rattle.writer.proofs.WrittenLaws.{part-length, part-none, part-turn}
 use borrow.Author.Needs.{needs}
