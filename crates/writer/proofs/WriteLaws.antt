@@ -42,14 +42,14 @@ unfolding verdictsOfLog
 as-many R log = length-map (verdictsOfLog R log) verdictNumber ∙ length-verdicts R (log .records)
 
 module _ {R : Rules} {s : Text} {t : Totals} {first line : ℕ} {points pointsends ends numbers : List ℕ} (w : Writable R s t first line points pointsends ends numbers) where
-  abbrev log : Log
+  abbrev pub log : Log
   log = w .log
 
   -- The log as it is written back, and its text.
-  abbrev after : Log
+  abbrev pub after : Log
   after = writtenBack R log
 
-  abbrev result : Text
+  abbrev pub result : Text
   result = render after
 
   -- # What is given
@@ -85,6 +85,16 @@ module _ {R : Rules} {s : Text} {t : Totals} {first line : ℕ} {points pointsen
   claims-in-order =
       subst (λ (n : ℕ). ClaimsLie s n (claimStarts s line 9) (claimEnds s line 9) 9) (sym (w .place))
       (subst (λ (n : ℕ). ClaimsLie s (recordsStart s log) (claimStarts s n 9) (claimEnds s n 9) 9) (sym (w .claiming)) (claims-lie R s log (w .isRead)))
+
+  -- As the code has found them.
+  module _ {starts stops : List ℕ} (p : starts ≡ claimStarts s line 9) (q : stops ≡ claimEnds s line 9) where
+    pub found-in-order : ClaimsLie s first starts stops 9
+    found-in-order =
+        subst (λ (l : List ℕ). ClaimsLie s first l stops 9) (sym p)
+        (subst (λ (l : List ℕ). ClaimsLie s first (claimStarts s line 9) l 9) (sym q) claims-in-order)
+
+    pub found-text : claimsText s first 0 starts stops (claimNumbers t) ≡ claimsText s first 0 (claimStarts s line 9) (claimEnds s line 9) (claimNumbers t)
+    found-text = λ i. claimsText s first 0 (p i) (q i) (claimNumbers t)
 
   pub claims-begin : ClaimsBegin s line 9
   claims-begin i h =

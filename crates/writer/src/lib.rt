@@ -335,13 +335,7 @@ fn put_claims(
 }
 
 // How many bytes `put_claims` writes.
-fn claims_length(
-    s: &[u8],
-    first: usize,
-    starts: &[usize],
-    ends: &[usize],
-    claims: &[u64],
-) -> usize
+fn claims_length(s: &[u8], first: usize, starts: &[usize], ends: &[usize], claims: &[u64]) -> usize
     requires { ⌜ ClaimsLie (now s) first (now starts) (now ends) (length (now claims)) × (length (now claims) ≤ 9) × (length (now s) ≤ base .longestLog) ⌝ }
     ensures { λ r. ⌜ (r ≡ length (claimsText (now (s .entry)) first 0 (now (starts .entry)) (now (ends .entry)) (now (claims .entry)))) × (r ≤ length (now (s .entry)) + 20 * 9) ⌝ }
 {

@@ -70,7 +70,7 @@ slice-write-ends : tie.Need-slice-write-ends Inv-loop μ-loop
 slice-write-ends c = search needs
 
 line-behind-requires : tie.Need-line-behind-requires Inv-loop μ-loop
-line-behind-requires c κs = 
+line-behind-requires c κs =
     let s = now (begun (c .before .before) .args .s) in
     let start = numberStart (c .before .before .loop .next) in
     omega (arith, number-is s start (c .digit-run .ensures), number-within s start (begins (c .before)))
@@ -82,7 +82,7 @@ loop-less : tie.Need-loop-less Inv-loop μ-loop
 loop-less c = search needs
 
 loop-again : tie.Need-loop-again Inv-loop μ-loop
-loop-again c = 
+loop-again c =
     let d = c .before in
     let t = d .before in
     let k = t .before .loop in
@@ -103,7 +103,7 @@ same-length-2 : tie.Need-same-length-2 Inv-loop μ-loop
 same-length-2 c = search needs
 
 returns : tie.Need-returns Inv-loop μ-loop
-returns c = 
+returns c =
     let k = c .before .loop in
     let b = begun (c .before) in
     let a = b .args in

@@ -78,14 +78,14 @@ digit-count-requires : tie.Need-digit-count-requires Inv-loop μ-loop
 digit-count-requires c κs = search needs
 
 add-sum : tie.Need-add-sum Inv-loop μ-loop
-add-sum c = 
+add-sum c =
     let t = turn c in
     let l = lies t in
     let b = begun (t .before) in
     omega (arith, c .digit-count .ensures .1, l .rise, l .inside, b .pre .0 .within, b .pre .2, log-small)
 
 add-sum-2 : tie.Need-add-sum-2 Inv-loop μ-loop
-add-sum-2 c = 
+add-sum-2 c =
     let t = turn c in
     let k = t .before .loop in
     let l = lies t in
@@ -105,7 +105,7 @@ loop-less : tie.Need-loop-less Inv-loop μ-loop
 loop-less c = search needs
 
 loop-again : tie.Need-loop-again Inv-loop μ-loop
-loop-again c = 
+loop-again c =
     let d = c .before in
     let t = turn d in
     let k = t .before .loop in
@@ -128,13 +128,13 @@ sub-result : tie.Need-sub-result Inv-loop μ-loop
 sub-result c = behind c
 
 add-result : tie.Need-add-result Inv-loop μ-loop
-add-result c = 
+add-result c =
     let k = c .before .loop in
     let b = begun (c .before) in
     omega (arith, k .inv .3, k .inv .0, behind c, b .pre .0 .within, b .pre .1, b .pre .2, log-small)
 
 returns : tie.Need-returns Inv-loop μ-loop
-returns c = 
+returns c =
     let k = c .before .loop in
     let b = begun (c .before) in
     let a = b .args in

@@ -31,7 +31,7 @@ add-result-4 : tie.Need-add-result-4
 add-result-4 c = search needs
 
 returns : tie.Need-returns
-returns c = 
+returns c =
     let a = c .before .before .before .before .args in
     let l = marks-length (a .exchange) (a .square) (a .country) (a .duplicate) in
     (omega (arith, l), omega (arith, l))

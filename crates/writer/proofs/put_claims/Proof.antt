@@ -61,7 +61,7 @@ shared-slice-read-put-claim-2 : tie.Need-shared-slice-read-put-claim-2 Inv-loop 
 shared-slice-read-put-claim-2 c = search needs
 
 put-claim-requires : tie.Need-put-claim-requires Inv-loop μ-loop
-put-claim-requires c κs = 
+put-claim-requires c κs =
     let t = turn c in
     let k = t .before .loop in
     let b = begun (t .before) in
@@ -86,7 +86,7 @@ loop-less : tie.Need-loop-less Inv-loop μ-loop
 loop-less c = search needs
 
 loop-again : tie.Need-loop-again Inv-loop μ-loop
-loop-again c = 
+loop-again c =
     let w = c .before .before .before in
     let t = turn (w .before) in
     let k = t .before .loop in
@@ -95,7 +95,7 @@ loop-again c =
     (search needs, omega (arith, t .loop-test .taken), starts-behind 0 _ _ _ (sym (add-zero _)), next-put (each (t .before)) (k .inv .3) (puts-as (w .put-claim .ensures) here))
 
 put-part-requires : tie.Need-put-part-requires Inv-loop μ-loop
-put-part-requires c κs = 
+put-part-requires c κs =
     let e = c .before in
     let k = e .before .loop in
     let b = begun (e .before) in
@@ -108,7 +108,7 @@ same-length : tie.Need-same-length Inv-loop μ-loop
 same-length c = search needs
 
 returns : tie.Need-returns Inv-loop μ-loop
-returns c = 
+returns c =
     let p = c .before .before in
     let e = p .before .before in
     let k = e .before .loop in

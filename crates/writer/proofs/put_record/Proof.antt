@@ -71,7 +71,7 @@ copied-to-requires : tie.Need-copied-to-requires
 copied-to-requires c κs = search needs
 
 put-part-requires : tie.Need-put-part-requires
-put-part-requires c κs = 
+put-part-requires c κs =
     let k = c .before in
     let b = begun k in
     let a = b .args in
@@ -81,7 +81,7 @@ put-part-requires c κs =
     (order k, inside k, omega (arith, l, room))
 
 put-zero-requires : tie.Need-put-zero-requires
-put-zero-requires c κs = 
+put-zero-requires c κs =
     let p = c .before .before .before in
     let k = copied p in
     let b = begun k in
@@ -91,7 +91,7 @@ put-zero-requires c κs =
     (room-zero (now (a .s)) (a .start) (a .points) (a .pointsend) (a .number) (d .result) (k .copied-to .result) (d .ensures) (k .copied-to .ensures) (a .at) (length (now (a .out))) (b .pre .1))
 
 put-marks-requires : tie.Need-put-marks-requires
-put-marks-requires c κs = 
+put-marks-requires c κs =
     let z = c .before .before .before in
     let k = copied (parted z) in
     let b = begun k in
@@ -104,7 +104,7 @@ same-length : tie.Need-same-length
 same-length c = search needs
 
 returns : tie.Need-returns
-returns c = 
+returns c =
     let m = c .before .before in
     let z = m .before .before .before .before in
     puts-as (puts-then (upto-zero z) (m .put-marks .ensures)) (sym (parts (copied (parted z))))

@@ -43,7 +43,7 @@ each c =
     numberedText (now (a .s)) (a .first) (now (a .points)) (now (a .pointsends)) (now (a .ends)) (now (a .numbers))
 
 loop-holds : tie.Need-loop-holds Inv-loop μ-loop
-loop-holds c = 
+loop-holds c =
     let b = c .before .before .before .before .before .before in
     (refl, omega arith, starts-first 2 _ _, nothing-put _ _ _ (omega (arith, b .pre .1)))
 
@@ -63,7 +63,7 @@ shared-slice-read-put-record-3 : tie.Need-shared-slice-read-put-record-3 Inv-loo
 shared-slice-read-put-record-3 c = search needs
 
 put-record-requires : tie.Need-put-record-requires Inv-loop μ-loop
-put-record-requires c κs = 
+put-record-requires c κs =
     let h = turn c .loop-test .taken in
     let p = turn c .before in
     let k = p .loop in
@@ -91,7 +91,7 @@ loop-less : tie.Need-loop-less Inv-loop μ-loop
 loop-less c = search needs
 
 loop-again : tie.Need-loop-again Inv-loop μ-loop
-loop-again c = 
+loop-again c =
     let w = c .before .before .before .before in
     let h = turn (w .before) .loop-test .taken in
     let p = turn (w .before) .before in
@@ -104,7 +104,7 @@ same-length : tie.Need-same-length Inv-loop μ-loop
 same-length c = search needs
 
 returns : tie.Need-returns Inv-loop μ-loop
-returns c = 
+returns c =
     let k = c .before .loop in
     let a = begun (c .before) .args in
     puts-as (k .inv .3) (records-are (now (a .s)) (a .first) (now (a .points)) (now (a .pointsends)) (now (a .ends)) (now (a .numbers)) (k .i) (omega arith))

@@ -13,7 +13,7 @@ returns : tie.Need-returns
 returns c = puts-nothing (no-zero (c .before .before .args .duplicate) (c .if1 .taken)) (omega (arith, c .before .before .pre))
 
 put-byte-requires : tie.Need-put-byte-requires
-put-byte-requires c κs = 
+put-byte-requires c κs =
     let b = c .before .before .before in
     omega (arith, b .pre, ap length (a-zero (b .args .duplicate) (c .before .if1 .left)))
 
@@ -21,7 +21,7 @@ same-length : tie.Need-same-length
 same-length c = search needs
 
 returns-2 : tie.Need-returns-2
-returns-2 c = 
+returns-2 c =
     puts-as (c .before .before .put-byte .ensures)
     (sym (a-zero (c .before .before .before .before .before .before .args .duplicate) (c .before .before .before .before .if1 .left)))
 

@@ -53,7 +53,7 @@ add-result-2 : tie.Need-add-result-2
 add-result-2 c = omega (arith, inside (copied c), begun (copied c) .fits .pointsend .fits, c .zero-length .ensures .1, c .before .marks-length .ensures .1)
 
 returns : tie.Need-returns
-returns c = 
+returns c =
     let k = copied c in
     let b = begun k in
     let a = b .args in

@@ -57,14 +57,14 @@ shared-slice-read-record-length-3 : tie.Need-shared-slice-read-record-length-3 I
 shared-slice-read-record-length-3 c = search needs
 
 record-length-requires : tie.Need-record-length-requires Inv-loop μ-loop
-record-length-requires c κs = 
+record-length-requires c κs =
     let t = c .before .before .before in
     let k = t .before .loop in
     let l = lies-here (begun (t .before) .pre .0) (k .i) (t .loop-test .taken) (k .inv .1) in
     (l .order, l .rise, omega (arith, l .close, l .inside))
 
 add-sum : tie.Need-add-sum Inv-loop μ-loop
-add-sum c = 
+add-sum c =
     let t = turn c in
     let k = t .before .loop in
     let b = begun (t .before) in
@@ -87,7 +87,7 @@ loop-less : tie.Need-loop-less Inv-loop μ-loop
 loop-less c = search needs
 
 loop-again : tie.Need-loop-again Inv-loop μ-loop
-loop-again c = 
+loop-again c =
     let m = c .before .before in
     let t = turn m in
     let k = t .before .loop in
@@ -103,7 +103,7 @@ loop-again c =
     )
 
 returns : tie.Need-returns Inv-loop μ-loop
-returns c = 
+returns c =
     let k = c .before .loop in
     let b = begun (c .before) in
     let a = b .args in
