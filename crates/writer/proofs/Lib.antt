@@ -9,3 +9,4 @@ pub mod NumberedLines
 pub mod ClaimLines
 pub mod ClaimsWritten
 pub mod WriteLaws
+pub mod WeighedLaws
