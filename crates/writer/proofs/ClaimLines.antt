@@ -2,24 +2,24 @@
 -- Assumes nothing.
 use Prim.Native.Nat.{ℕ, _≤_}
 use native.Mathlib.Omega.{arith}
-use mathlib.Core.Path.{_≡_, refl, sym, ap, _∙_}
 use mathlib.Core.Bool.{Bool, true, false, cond, not, _&&_, _||_}
 use mathlib.Core.List.{List, [], _∷_, _++_, map, append-nil, head-eq-of-cons-eq, tail-eq-of-cons-eq}
+use mathlib.Core.Path.{_≡_, refl, sym, ap, _∙_}
 use lib.Dec.{leb, eqb}
 use lib.ListN.{length, take, drop, length-append}
 use lib.Seq.{take-at, drop-at, drop-length, drop-append-seam}
 use borrow.Author.Tests.{not-true, le-leb, eqb-true}
-use Rattle.places.proofs.HeaderHeld.{everyEntry, keyword-count}
 use Rattle.header.proofs.PartLaws.{whole-span}
-use Rattle.rules.specs.declared.Totals.{Totals}
+use Rattle.places.proofs.HeaderHeld.{everyEntry, keyword-count}
+use Rattle.rules.proofs.NumberLaws.{number-from, number-digits}
+use Rattle.rules.proofs.Tests.{never, and-l, and-r, and-i}
+use Rattle.rules.proofs.TextLaws.{parts-some, joined-parts, span-run, same-refl}
 use Rattle.rules.specs.Arguments.{Entry, entries, each, count, bonus, multiplier, meets, every}
 use Rattle.rules.specs.Log.{keywordStart, keywordLines, argumentRules}
 use Rattle.rules.specs.Rules.{Rules}
 use Rattle.rules.specs.Text.{Text, digit, semicolon, all, span, same, number, numberOf, parts, joined, digits}
 use Rattle.rules.specs.Writing.{recounted, Claim, claims, claimed, writtenArguments}
-use Rattle.rules.proofs.NumberLaws.{number-from, number-digits}
-use Rattle.rules.proofs.Tests.{never, and-l, and-r, and-i}
-use Rattle.rules.proofs.TextLaws.{parts-some, joined-parts, span-run, same-refl}
+use Rattle.rules.specs.declared.Totals.{Totals}
 use Rattle.writer.specs.ClaimsText.{claimNumbers}
 use Rattle.writer.proofs.NumberedLines.{behindNumber, renumbered, keyworded, renumberedLine, renumberedLines}
 

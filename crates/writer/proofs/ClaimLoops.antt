@@ -3,16 +3,15 @@
 use Prim.Native.Nat.{ℕ, zero, suc, _+_, _≤_, _<_}
 use native.Mathlib.Numerals.{add-one}
 use native.Mathlib.Omega.{arith}
+use mathlib.Core.List.{List, _++_}
 use mathlib.Core.Path.{_≡_, refl, sym, ap, _∙_}
-use mathlib.Core.List.{List, [], _++_}
 use lib.ListN.{length, drop, getD, length-append, length-drop}
 use Rattle.reader.specs.Contact.{between}
-use Rattle.rules.specs.Text.{Text, digit, span, digits}
 use Rattle.rules.proofs.TextLaws.{span-short}
-use Rattle.writer.specs.ClaimsText.{numberStart, numberEnd, lineBehind, claimLine, claimStart, claimEnd, claimText, claimsText}
+use Rattle.rules.specs.Text.{Text, digit, span, digits}
+use Rattle.writer.specs.ClaimsText.{numberEnd, lineBehind, claimLine, claimEnd, claimText, claimsText}
 use Rattle.writer.specs.Given.{ClaimLies, ClaimsLie}
-use Rattle.writer.specs.Written.{texts, startOf, Puts}
-use Rattle.writer.proofs.WrittenLaws.{puts-room, puts-then}
+use Rattle.writer.specs.Written.{texts, startOf}
 
 -- A number ends within the text, behind its beginning.
 pub number-within : (s : Text) (at : ℕ) → at ≤ length s → numberEnd s at ≤ length s

@@ -1,26 +1,25 @@
 -- The text in front of an accepted log's records, with the claims counted again: the claims lie in order in front of the records, and what is
 -- written is what writing back defines.
 -- Assumes nothing.
-use Prim.Native.Nat.{ℕ, suc, _+_, _≤_, _<_}
+use Prim.Native.Nat.{ℕ, suc, _+_}
 use native.Mathlib.Nat.{zero-add}
 use native.Mathlib.Omega.{arith}
-use mathlib.Core.Path.{_≡_, sym, ap, _∙_}
-use mathlib.Core.Bool.{true}
 use mathlib.Core.List.{List, [], _∷_, _++_, append-assoc}
+use mathlib.Core.Path.{_≡_, sym, ap, _∙_}
 use lib.ListN.{length, take, length-append}
 use lib.Seq.{take-at}
-use Rattle.reader.specs.Read.{claimsStart}
 use Rattle.reader.proofs.RecordsHeld.{recordsStart, ended-append, records, header, split, starts, records-within}
-use Rattle.rules.specs.declared.Totals.{Totals}
-use Rattle.rules.specs.Arguments.{entries, every}
-use Rattle.rules.specs.Log.{Log, identifier, remarksLine, countLine, keywordLines, linesOf, ended, lineRule, argumentRules, valid}
+use Rattle.reader.specs.Read.{claimsStart}
+use Rattle.rules.proofs.Format.{Rightly, of-valid, accepted-when-written}
+use Rattle.rules.proofs.LogLaws.{every-front, every-back, front, lines-split}
+use Rattle.rules.proofs.Tests.{so}
+use Rattle.rules.specs.Arguments.{entries}
+use Rattle.rules.specs.Log.{Log, identifier, remarksLine, countLine, keywordLines, linesOf, ended, lineRule, valid}
 use Rattle.rules.specs.Reading.{read, accepted}
 use Rattle.rules.specs.Rules.{Rules}
 use Rattle.rules.specs.Text.{Text, digits}
 use Rattle.rules.specs.Writing.{claims, writtenArguments}
-use Rattle.rules.proofs.Format.{Rightly, of-valid, accepted-when-written}
-use Rattle.rules.proofs.LogLaws.{every-front, every-back, front, lines-split}
-use Rattle.rules.proofs.Tests.{so}
+use Rattle.rules.specs.declared.Totals.{Totals}
 use Rattle.writer.specs.ClaimsText.{claimNumbers, claimStarts, claimEnds, claimsText}
 use Rattle.writer.specs.Given.{ClaimsLie}
 use Rattle.writer.proofs.ClaimLines.{linesBefore, linesClaiming, linesBehind, old-lines, new-lines, before-count, claiming-count, claiming-keyworded, nine}

@@ -3,24 +3,24 @@
 use Prim.Native.Nat.{ℕ, zero, suc, _+_, _-_, _≤_, _<_}
 use native.Mathlib.Nat.{add-zero}
 use native.Mathlib.Omega.{arith}
-use mathlib.Core.Path.{_≡_, refl, sym, ap, ap₂, _∙_}
 use mathlib.Core.Bool.{Bool, true}
 use mathlib.Core.List.{List, [], _∷_, _++_, append-assoc}
+use mathlib.Core.Path.{_≡_, refl, sym, ap, ap₂, _∙_}
 use lib.Dec.{leb}
 use lib.ListN.{length, take, drop, getD, length-append, length-drop, take-append-drop}
 use lib.Seq.{drop-drop, drop-at, take-at, drop-append-le, take-append-seam, length-take-le}
 use borrow.Author.Tests.{leb-true}
 use Rattle.reader.specs.Contact.{between}
+use Rattle.rules.proofs.LogLaws.{every-first, every-others, length-ended-more}
+use Rattle.rules.proofs.Tests.{and-r}
+use Rattle.rules.proofs.TextLaws.{all-drop, span-stops, span-run, span-short}
 use Rattle.rules.specs.Arguments.{every}
 use Rattle.rules.specs.Log.{crlf, ended, lineRule}
 use Rattle.rules.specs.Rules.{Rules}
 use Rattle.rules.specs.Text.{Text, digit, allowed, all, span, digits}
-use Rattle.rules.proofs.LogLaws.{every-first, every-others, length-ended-more}
-use Rattle.rules.proofs.Tests.{and-r}
-use Rattle.rules.proofs.TextLaws.{all-drop, span-stops, span-run, span-short}
 use Rattle.writer.specs.ClaimsText.{numberStart, numberEnd, lineBehind, claimLine, claimStart, claimEnd, claimStarts, claimEnds, claimText, claimsText}
 use Rattle.writer.specs.Given.{ClaimLies, ClaimsLie}
-use Rattle.writer.specs.Written.{texts, row, startOf}
+use Rattle.writer.specs.Written.{texts, startOf}
 use Rattle.writer.proofs.ClaimLoops.{number-behind}
 use Rattle.writer.proofs.TextsLaws.{texts-front, texts-same, row-length, row-at, start-next}
 

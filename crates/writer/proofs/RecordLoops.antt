@@ -1,15 +1,15 @@
 -- The loops over the records: the record of a turn lies in order, and what is measured stays small.
 -- Assumes nothing.
-use Prim.Native.Nat.{ℕ, zero, suc, _+_, _-_, _*_, _^_, _≤_, _<_}
+use Prim.Native.Nat.{ℕ, zero, suc, _^_, _≤_, _<_}
 use native.Mathlib.Omega.{arith}
-use mathlib.Core.Path.{_≡_, sym, subst}
 use mathlib.Core.List.{List}
+use mathlib.Core.Path.{_≡_}
 use lib.ListN.{length, getD}
 use Rattle.rules.specs.Rules.{base}
 use Rattle.rules.specs.Text.{Text}
 use Rattle.writer.specs.Given.{RecordLies, RecordsLie}
 use Rattle.writer.specs.RecordText.{recordText, numberedText, recordsText}
-use Rattle.writer.specs.Written.{texts, startOf, Puts}
+use Rattle.writer.specs.Written.{texts, startOf}
 
 -- A log is so short that no sum of its parts runs over.
 pub log-small : base .longestLog < 2 ^ 32

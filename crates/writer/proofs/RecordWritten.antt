@@ -1,16 +1,16 @@
 -- Laws of the text that a record is written back as: its parts, and how long they are.
 -- Assumes nothing.
-use Prim.Native.Nat.{ℕ, _+_, _-_, _≤_}
+use Prim.Native.Nat.{ℕ, _+_, _≤_}
 use native.Mathlib.Omega.{arith}
-use mathlib.Core.Path.{_≡_, refl, sym}
 use mathlib.Core.Bool.{Bool, true, false, cond, not}
 use mathlib.Core.List.{[], _∷_, _++_}
+use mathlib.Core.Path.{_≡_, refl, sym}
 use lib.ListN.{length, length-append}
 use Rattle.reader.specs.Contact.{between}
+use Rattle.rules.proofs.Tests.{never}
 use Rattle.rules.specs.Fields.{newMark, duplicateMark}
 use Rattle.rules.specs.Log.{crlf}
 use Rattle.rules.specs.Text.{Text, bytes, semicolon}
-use Rattle.rules.proofs.Tests.{never}
 use Rattle.writer.specs.RecordText.{saysDuplicate, saysNew, markText, marksText, zeroText, recordText}
 
 -- A field without its mark is its semicolon alone; with it, the mark follows.

@@ -2,18 +2,18 @@
 -- Assumes nothing.
 use Prim.Native.Nat.{ℕ, zero, suc, _+_, _-_, _≤_, _<_}
 use native.Mathlib.Omega.{arith}
-use mathlib.Core.Path.{_≡_, refl, sym, ap, ap₂, _∙_}
 use mathlib.Core.Bool.{Bool, true, false, cond, _&&_}
 use mathlib.Core.List.{List, [], _∷_, _++_, map, append-assoc, append-nil}
+use mathlib.Core.Path.{_≡_, refl, sym, ap, ap₂, _∙_}
 use lib.ListN.{length, take, drop, getD, length-append, length-drop, length-map}
 use lib.Seq.{take-at, take-add, drop-drop}
-use Rattle.fields.specs.Field.{endOf}
-use Rattle.reader.specs.declared.Contact.{Contact}
-use Rattle.reader.specs.Contact.{fieldStart, lastEnd, contactAt, behind, contactsAt, between}
 use Rattle.reader.proofs.PlaceLaws.{ends-behind, start-more, start-next, starts-rise}
 use Rattle.reader.proofs.RecordsHeld.{recordLines, Stand, rules-kept, stands, starts-at, describes, others-stand, recordsStart, records-stand, records-within}
-use Rattle.rules.specs.declared.Class.the-variants.{Credited, Duplicate}
-use Rattle.rules.specs.declared.Verdict.{Verdict}
+use Rattle.reader.specs.Contact.{fieldStart, lastEnd, contactAt, behind, contactsAt, between}
+use Rattle.reader.specs.declared.Contact.{Contact}
+use Rattle.rules.proofs.Tests.{so, holds}
+use Rattle.rules.proofs.TextLaws.{same-eq, same-of-eq}
+use Rattle.rules.proofs.ValidLogs.{rule-at}
 use Rattle.rules.specs.Fields.{Qso, newMark, duplicateMark, emptyOr, fieldsOf, fieldRules}
 use Rattle.rules.specs.Judging.{is, claimsCountry, verdictOf, verdictNumber, creditedAfter, verdictsAfter, verdicts, verdictsOfLog}
 use Rattle.rules.specs.Log.{Log, recordLine, crlf, ended}
@@ -21,9 +21,8 @@ use Rattle.rules.specs.Reading.{read, accepted}
 use Rattle.rules.specs.Rules.{Rules}
 use Rattle.rules.specs.Text.{Text, bytes, semicolon, same, joined}
 use Rattle.rules.specs.Writing.{writtenRecord, writtenRecords}
-use Rattle.rules.proofs.Tests.{so, holds}
-use Rattle.rules.proofs.TextLaws.{same-eq, same-of-eq}
-use Rattle.rules.proofs.ValidLogs.{rule-at}
+use Rattle.rules.specs.declared.Class.the-variants.{Credited, Duplicate}
+use Rattle.rules.specs.declared.Verdict.{Verdict}
 use Rattle.writer.specs.Given.{RecordLies, RecordsLie}
 use Rattle.writer.specs.RecordText.{markText, marksText, zeroText, recordText, numberedText, recordsText}
 use Rattle.writer.specs.Written.{texts, startOf}

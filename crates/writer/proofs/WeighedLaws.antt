@@ -2,26 +2,26 @@
 -- Assumes nothing.
 use Prim.Native.Nat.{ℕ, _≤_}
 use native.Mathlib.Omega.{arith}
-use borrow.Author.Tests.{leb-true, le-ltb}
 use mathlib.Core.List.{List, map}
 use mathlib.Core.Path.{_≡_, refl, sym, ap, _∙_}
 use lib.ListN.{length, take, drop, length-take, length-map}
 use lib.Seq.{take-at, take-all}
+use borrow.Author.Tests.{leb-true, le-ltb}
+use Rattle.judge.specs.Judge.{firstOf, claimsOf, weighedBy, weighedOf, verdictsAfterwards}
 use Rattle.judge.specs.declared.Weighed.{Weighed}
 use Rattle.judge.specs.declared.Weighed.the-variants as Weighed
-use Rattle.judge.specs.Judge.{firstOf, claimsOf, weighedBy, weighedOf, verdictsAfterwards}
-use Rattle.reader.specs.declared.Contact.{Contact}
+use Rattle.reader.proofs.RecordsHeld.{recordsStart}
 use Rattle.reader.specs.Contact.{contactsAt}
 use Rattle.reader.specs.Noted.{contactsRead, listed}
-use Rattle.reader.proofs.RecordsHeld.{recordsStart}
-use Rattle.rules.specs.declared.Refusal.{Refusal}
-use Rattle.rules.specs.declared.Totals.{Totals}
+use Rattle.reader.specs.declared.Contact.{Contact}
 use Rattle.rules.specs.Answers.{judged, judge, judgeReading, judgeLog, numbersOfJudgement, recordsOfReading, write, writeReading, bytesOfWriting, over}
 use Rattle.rules.specs.Judging.{verdictNumber, verdictsOfLog, totalsOfLog}
 use Rattle.rules.specs.Log.{Log}
 use Rattle.rules.specs.Reading.{Reading, accepted, refused, read}
-use Rattle.rules.specs.Rules.{Rules, base}
+use Rattle.rules.specs.Rules.{base}
 use Rattle.rules.specs.Text.{Text}
+use Rattle.rules.specs.declared.Refusal.{Refusal}
+use Rattle.rules.specs.declared.Totals.{Totals}
 use Rattle.writer.specs.Given.{Writable}
 use Rattle.writer.specs.LogText.{wroteBy, wroteOf, writtenAfterwards}
 use Rattle.writer.specs.declared.Wrote.the-variants as Wrote

@@ -1,6 +1,6 @@
 -- From what was judged to what is answered: the result's text by its places is the log written back, and where it does not fit nothing is written.
 -- Assumes nothing.
-use Prim.Native.Nat.{ℕ, _+_, _≤_, _<_}
+use Prim.Native.Nat.{ℕ, _+_, _≤_}
 use native.Mathlib.Nat.{zero-add}
 use native.Mathlib.Omega.{arith}
 use mathlib.Core.Bool.{Bool, true, false, cond, _&&_}
@@ -8,10 +8,13 @@ use mathlib.Core.List.{List, [], _∷_, _++_, map}
 use mathlib.Core.Path.{_≡_, refl, sym, ap, ap₂, subst, _∙_}
 use lib.Dec.{leb}
 use lib.ListN.{length, drop, length-append, length-map}
-use Rattle.reader.specs.declared.Contact.{Contact}
-use Rattle.reader.specs.Contact.{contactsAt}
 use Rattle.reader.proofs.RecordsHeld.{recordsStart, header, records, rendered}
-use Rattle.rules.specs.declared.Totals.{Totals}
+use Rattle.reader.specs.Contact.{contactsAt}
+use Rattle.reader.specs.declared.Contact.{Contact}
+use Rattle.rules.proofs.Classes.{length-verdicts}
+use Rattle.rules.proofs.Format.{accepted-when-written}
+use Rattle.rules.proofs.LogLaws.{front}
+use Rattle.rules.proofs.WrittenValid.{written-length}
 use Rattle.rules.specs.Answers.{Writing, written, unwritten, write, writeReading, writeLog, bytesOfWriting, over}
 use Rattle.rules.specs.Arguments.{entries}
 use Rattle.rules.specs.Judging.{verdictNumber, verdictsOfLog, totalsOfLog}
@@ -20,10 +23,7 @@ use Rattle.rules.specs.Reading.{accepted, refusal, read}
 use Rattle.rules.specs.Rules.{Rules}
 use Rattle.rules.specs.Text.{Text, digits}
 use Rattle.rules.specs.Writing.{writtenArguments, claims, writtenBack}
-use Rattle.rules.proofs.Classes.{length-verdicts}
-use Rattle.rules.proofs.Format.{accepted-when-written}
-use Rattle.rules.proofs.LogLaws.{front}
-use Rattle.rules.proofs.WrittenValid.{written-length}
+use Rattle.rules.specs.declared.Totals.{Totals}
 use Rattle.writer.specs.ClaimsText.{claimNumbers, claimStart, claimEnd, claimStarts, claimEnds, claimsText}
 use Rattle.writer.specs.Given.{ClaimsBegin, ClaimsLie, RecordsLie, Writable}
 use Rattle.writer.specs.LogText.{wroteBy, wroteOf, writtenAfterwards}

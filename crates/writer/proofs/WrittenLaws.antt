@@ -1,17 +1,17 @@
 -- Laws of texts that are laid over a list: one behind the other, and one place at a time.
 -- Assumes nothing.
 use Prim.Native.Nat.{ℕ, suc, _+_, _-_, _/_, _%_, _^_, _≤_, _<_}
-use mathlib.Core.Path.{_≡_, sym, ap, subst, _∙_}
-use mathlib.Core.Logic.{⊎-elim}
-use mathlib.Core.List.{List, [], _∷_, _++_, append-assoc, append-nil}
-use native.Mathlib.Numerals.{add-one}
 use native.Mathlib.Nat.{add-zero}
+use native.Mathlib.Numerals.{add-one}
 use native.Mathlib.Omega.{arith}
+use mathlib.Core.List.{List, [], _∷_, _++_, append-assoc, append-nil}
+use mathlib.Core.Logic.{⊎-elim}
+use mathlib.Core.Path.{_≡_, sym, ap, subst, _∙_}
 use lib.ListN.{length, take, drop, getD, set, length-append, length-drop, take-append-drop}
 use lib.Seq.{length-take-le, take-at, drop-at, drop-drop, set-split, take-set-le, take-suc, getD-drop}
-use Rattle.rules.specs.Text.{Text, digits}
-use Rattle.rules.proofs.NumberLaws.{Small, Large, size, digits-small, digits-large, digits-length}
 use Rattle.reader.specs.Contact.{between}
+use Rattle.rules.proofs.NumberLaws.{Small, Large, size, digits-small, digits-large, digits-length}
+use Rattle.rules.specs.Text.{Text, digits}
 use Rattle.writer.specs.Written.{written, Puts}
 
 -- Nothing laid over a list leaves it as it was.

@@ -3,9 +3,9 @@
 use Prim.Native.Nat.{ℕ, zero, suc, _+_}
 use mathlib.Core.List.{List, [], _∷_, _++_}
 use lib.ListN.{length, drop, getD}
-use Rattle.rules.specs.declared.Totals.{Totals}
-use Rattle.rules.specs.Text.{Text, digit, allowed, span, digits}
 use Rattle.reader.specs.Contact.{between}
+use Rattle.rules.specs.Text.{Text, digit, allowed, span, digits}
+use Rattle.rules.specs.declared.Totals.{Totals}
 use Rattle.writer.specs.Written.{texts, row, startOf}
 
 -- The nine numbers that are claimed, in the order of their lines.

@@ -1,20 +1,20 @@
 -- What the functions under `write` are given: places in order within the log, and a log that was judged.
 -- Assumes nothing.
 use Prim.Native.Nat.{ℕ, _+_, _-_, _≤_, _<_}
-use mathlib.Core.Path.{_≡_}
 use mathlib.Core.List.{List, map}
+use mathlib.Core.Path.{_≡_}
 use lib.ListN.{length, getD}
-use Rattle.rules.specs.declared.Totals.{Totals}
-use Rattle.rules.specs.Text.{Text}
-use Rattle.rules.specs.Rules.{Rules}
-use Rattle.rules.specs.Log.{Log, recordLine, ended}
-use Rattle.rules.specs.Judging.{verdictNumber, verdictsOfLog, totalsOfLog}
-use Rattle.rules.specs.Reading.{read, accepted}
-use Rattle.reader.specs.declared.Contact.{Contact}
 use Rattle.reader.specs.Contact.{contactsAt}
 use Rattle.reader.specs.Read.{claimsStart}
-use Rattle.writer.specs.Written.{startOf}
+use Rattle.reader.specs.declared.Contact.{Contact}
+use Rattle.rules.specs.Judging.{verdictNumber, verdictsOfLog, totalsOfLog}
+use Rattle.rules.specs.Log.{Log, recordLine, ended}
+use Rattle.rules.specs.Reading.{read, accepted}
+use Rattle.rules.specs.Rules.{Rules}
+use Rattle.rules.specs.Text.{Text}
+use Rattle.rules.specs.declared.Totals.{Totals}
 use Rattle.writer.specs.ClaimsText.{claimStart}
+use Rattle.writer.specs.Written.{startOf}
 
 -- The numbers of so many claims begin within the text.
 abbrev pub ClaimsBegin : Text → ℕ → ℕ → Type 0

@@ -3,9 +3,9 @@
 use Prim.Native.Nat.{ℕ}
 use mathlib.Core.List.{List}
 use lib.ListN.{length}
-use Rattle.rules.specs.Text.{Text}
-use Rattle.rules.specs.Rules.{Rules}
 use Rattle.rules.specs.Answers.{Writing, written, unwritten, write, bytesOfWriting, over}
+use Rattle.rules.specs.Rules.{Rules}
+use Rattle.rules.specs.Text.{Text}
 use Rattle.writer.specs.declared.Wrote.{Wrote}
 use Rattle.writer.specs.declared.Wrote.the-variants as Wrote
 

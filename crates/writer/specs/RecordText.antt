@@ -5,10 +5,10 @@ use mathlib.Core.Bool.{Bool, cond}
 use mathlib.Core.List.{List, [], _∷_, _++_}
 use lib.Dec.{eqb}
 use lib.ListN.{length, getD}
-use Rattle.rules.specs.Text.{Text, bytes, semicolon}
+use Rattle.reader.specs.Contact.{between}
 use Rattle.rules.specs.Fields.{newMark, duplicateMark}
 use Rattle.rules.specs.Log.{crlf}
-use Rattle.reader.specs.Contact.{between}
+use Rattle.rules.specs.Text.{Text, bytes, semicolon}
 use Rattle.writer.specs.Written.{texts, startOf}
 
 -- "A verdict is one number for a record: 0 credited, 1 void, 2 duplicate, 3 error, plus 16, 32, 64 for new exchange, square, country."

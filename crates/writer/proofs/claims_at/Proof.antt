@@ -2,16 +2,15 @@
 -- known. The measure is how many claims are left.
 -- Assumes nothing.
 use Prim.Native.Nat.{ℕ, _-_, _≤_, _<_}
-use Rattle.writer.proofs.ClaimLoops.{number-is, number-within, line-first, line-next}
-use Rattle.writer.proofs.TextsLaws.{row-begins, row-next, row-all}
-use Rattle.writer.specs.ClaimsText.{numberStart, numberEnd, lineBehind, claimLine, claimStart, claimEnd, claimStarts, claimEnds}
-use Rattle.writer.specs.Written.{written}
+use native.Mathlib.Omega.{arith}
+use mathlib.Core.Path.{_≡_, refl, ap, _∙_}
+use lib.ListN.{length, length-set}
 use borrow.Author.Needs.{needs}
 use denote.Ref.{now}
-use lib.ListN.{length, length-set}
-use mathlib.Core.List.{List}
-use mathlib.Core.Path.{_≡_, refl, ap, _∙_}
-use native.Mathlib.Omega.{arith}
+use Rattle.writer.specs.ClaimsText.{numberStart, numberEnd, lineBehind, claimLine, claimStart, claimEnd, claimStarts, claimEnds}
+use Rattle.writer.specs.Written.{written}
+use Rattle.writer.proofs.ClaimLoops.{number-is, number-within, line-first, line-next}
+use Rattle.writer.proofs.TextsLaws.{row-begins, row-next, row-all}
 use Rattle.writer.proofs.claims_at.Statement.{statement}
 use Rattle.writer.proofs.claims_at.Tie as tie
 

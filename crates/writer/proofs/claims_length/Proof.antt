@@ -2,20 +2,20 @@
 -- is how many claims are left.
 -- Assumes nothing.
 use Prim.Native.Nat.{ℕ, _+_, _-_, _*_, _≤_}
+use native.Mathlib.Nat.{add-zero}
+use native.Mathlib.Omega.{arith}
+use mathlib.Core.Path.{_≡_, sym, ap}
+use lib.ListN.{length, length-append, getD}
+use borrow.Author.Needs.{needs}
+use denote.Ref.{now}
 use Rattle.reader.specs.Contact.{between}
 use Rattle.rules.specs.Text.{Text, digits}
+use Rattle.writer.specs.Given.{ClaimLies}
+use Rattle.writer.specs.Written.{texts, startOf}
 use Rattle.writer.proofs.ClaimLoops.{claim, claim-lies, claim-here, ends-inside, claims-length}
 use Rattle.writer.proofs.RecordLoops.{log-small}
 use Rattle.writer.proofs.TextsLaws.{nothing-measured, next-measured, starts-first, starts-behind}
 use Rattle.writer.proofs.WrittenLaws.{part-length}
-use Rattle.writer.specs.Given.{ClaimLies}
-use Rattle.writer.specs.Written.{texts, startOf}
-use borrow.Author.Needs.{needs}
-use denote.Ref.{now}
-use lib.ListN.{length, length-append, getD}
-use mathlib.Core.Path.{_≡_, sym, ap, _∙_}
-use native.Mathlib.Nat.{add-zero}
-use native.Mathlib.Omega.{arith}
 use Rattle.writer.proofs.claims_length.Statement.{statement}
 use Rattle.writer.proofs.claims_length.Tie as tie
 

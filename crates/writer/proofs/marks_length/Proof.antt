@@ -1,8 +1,8 @@
 -- `writer::marks_length` meets its contract.
 -- Assumes nothing.
-use Rattle.writer.proofs.RecordWritten.{marks-length}
-use borrow.Author.Needs.{needs}
 use native.Mathlib.Omega.{arith}
+use borrow.Author.Needs.{needs}
+use Rattle.writer.proofs.RecordWritten.{marks-length}
 use Rattle.writer.proofs.marks_length.Statement.{statement}
 use Rattle.writer.proofs.marks_length.Tie as tie
 

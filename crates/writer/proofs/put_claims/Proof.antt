@@ -2,17 +2,17 @@
 -- how many claims are left.
 -- Assumes nothing.
 use Prim.Native.Nat.{ℕ, _-_, _≤_}
+use native.Mathlib.Nat.{add-zero}
+use native.Mathlib.Omega.{arith}
+use mathlib.Core.Path.{_≡_, refl, sym, ap}
+use lib.ListN.{length}
+use borrow.Author.Needs.{needs}
+use denote.Ref.{now}
 use Rattle.rules.specs.Text.{Text}
+use Rattle.writer.specs.Written.{texts, startOf, Puts}
 use Rattle.writer.proofs.ClaimLoops.{claim, claim-lies, claim-here, ends-inside, claims-are, claims-length, claims-within}
 use Rattle.writer.proofs.TextsLaws.{nothing-put, next-room, next-put, starts-first, starts-behind}
 use Rattle.writer.proofs.WrittenLaws.{puts-then, puts-as, part-length}
-use Rattle.writer.specs.Written.{texts, startOf, Puts}
-use borrow.Author.Needs.{needs}
-use denote.Ref.{now}
-use lib.ListN.{length}
-use mathlib.Core.Path.{_≡_, refl, sym, ap}
-use native.Mathlib.Nat.{add-zero}
-use native.Mathlib.Omega.{arith}
 use Rattle.writer.proofs.put_claims.Statement.{statement}
 use Rattle.writer.proofs.put_claims.Tie as tie
 

@@ -1,18 +1,18 @@
 -- `writer::put_record` meets its contract: what is copied, a duplicate's `0` and the marks, each behind what was written before it.
 -- Assumes nothing.
 use Prim.Native.Nat.{_+_, _-_, _≤_}
-use Rattle.reader.specs.Contact.{between}
-use Rattle.rules.specs.Text.{Text}
-use Rattle.writer.proofs.RecordWritten.{copied-behind, copied-inside, marks, record-parts, room-head, room-zero, room-marks}
-use Rattle.writer.proofs.WrittenLaws.{puts-room, puts-then, puts-as, part-length}
-use Rattle.writer.specs.RecordText.{zeroText, recordText}
-use Rattle.writer.specs.Written.{Puts}
-use borrow.Author.Needs.{needs}
-use denote.Ref.{now}
-use lib.ListN.{length}
+use native.Mathlib.Omega.{arith}
 use mathlib.Core.List.{_++_}
 use mathlib.Core.Path.{_≡_, sym}
-use native.Mathlib.Omega.{arith}
+use lib.ListN.{length}
+use borrow.Author.Needs.{needs}
+use denote.Ref.{now}
+use Rattle.reader.specs.Contact.{between}
+use Rattle.rules.specs.Text.{Text}
+use Rattle.writer.specs.RecordText.{zeroText, recordText}
+use Rattle.writer.specs.Written.{Puts}
+use Rattle.writer.proofs.RecordWritten.{copied-behind, copied-inside, marks, record-parts, room-head, room-zero, room-marks}
+use Rattle.writer.proofs.WrittenLaws.{puts-room, puts-then, puts-as, part-length}
 use Rattle.writer.proofs.put_record.Statement.{statement}
 use Rattle.writer.proofs.put_record.Tie as tie
 

@@ -1,18 +1,18 @@
 -- `writer::put_records` meets its contract. The loop's invariant: the first records are written, and it is known where the next one begins. The measure is
 -- how many records are left.
 -- Assumes nothing.
-use Prim.Native.Nat.{ℕ, _+_, _-_, _≤_, _<_}
+use Prim.Native.Nat.{ℕ, _-_, _≤_}
+use native.Mathlib.Omega.{arith}
+use mathlib.Core.Path.{_≡_, refl, ap}
+use lib.ListN.{length}
+use borrow.Author.Needs.{needs}
+use denote.Ref.{now}
 use Rattle.rules.specs.Text.{Text}
+use Rattle.writer.specs.RecordText.{numberedText}
+use Rattle.writer.specs.Written.{texts, startOf, Puts}
 use Rattle.writer.proofs.RecordLoops.{lies-here, record-here, records-are}
 use Rattle.writer.proofs.TextsLaws.{nothing-put, next-room, next-put, starts-first, starts-behind}
 use Rattle.writer.proofs.WrittenLaws.{puts-as}
-use Rattle.writer.specs.RecordText.{numberedText}
-use Rattle.writer.specs.Written.{texts, startOf, Puts}
-use borrow.Author.Needs.{needs}
-use denote.Ref.{now}
-use lib.ListN.{length}
-use mathlib.Core.Path.{_≡_, refl, ap}
-use native.Mathlib.Omega.{arith}
 use Rattle.writer.proofs.put_records.Statement.{statement}
 use Rattle.writer.proofs.put_records.Tie as tie
 

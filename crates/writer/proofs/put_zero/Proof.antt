@@ -1,11 +1,11 @@
 -- `writer::put_zero` meets its contract: a duplicate's `0`, or nothing.
 -- Assumes nothing.
+use native.Mathlib.Omega.{arith}
+use mathlib.Core.Path.{sym, ap}
+use lib.ListN.{length}
+use borrow.Author.Needs.{needs}
 use Rattle.writer.proofs.RecordWritten.{no-zero, a-zero}
 use Rattle.writer.proofs.WrittenLaws.{puts-as, puts-nothing}
-use borrow.Author.Needs.{needs}
-use lib.ListN.{length}
-use mathlib.Core.Path.{sym, ap}
-use native.Mathlib.Omega.{arith}
 use Rattle.writer.proofs.put_zero.Statement.{statement}
 use Rattle.writer.proofs.put_zero.Tie as tie
 

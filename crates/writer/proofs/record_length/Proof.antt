@@ -1,14 +1,14 @@
 -- `writer::record_length` meets its contract.
 -- Assumes nothing.
 use Prim.Native.Nat.{_-_, _≤_}
+use native.Mathlib.Omega.{arith}
+use mathlib.Core.Path.{_≡_}
+use lib.ListN.{length}
+use borrow.Author.Needs.{needs}
+use denote.Ref.{now}
 use Rattle.reader.specs.Contact.{between}
 use Rattle.writer.proofs.RecordWritten.{copied-behind, copied-inside, record-length}
 use Rattle.writer.proofs.WrittenLaws.{part-length}
-use borrow.Author.Needs.{needs}
-use denote.Ref.{now}
-use lib.ListN.{length}
-use mathlib.Core.Path.{_≡_}
-use native.Mathlib.Omega.{arith}
 use Rattle.writer.proofs.record_length.Statement.{statement}
 use Rattle.writer.proofs.record_length.Tie as tie
 

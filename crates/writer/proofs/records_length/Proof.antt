@@ -2,16 +2,16 @@
 -- begins, and that is known. The measure is how many records are left.
 -- Assumes nothing.
 use Prim.Native.Nat.{ℕ, _-_, _*_, _≤_}
-use Rattle.rules.specs.Text.{Text}
-use Rattle.writer.proofs.RecordLoops.{log-small, begins-inside, lies-here, record-here, records-are}
-use Rattle.writer.proofs.TextsLaws.{nothing-measured, next-measured, starts-first, starts-behind}
-use Rattle.writer.specs.RecordText.{numberedText}
-use Rattle.writer.specs.Written.{texts, startOf}
+use native.Mathlib.Omega.{arith}
+use mathlib.Core.Path.{_≡_, ap, _∙_}
+use lib.ListN.{length}
 use borrow.Author.Needs.{needs}
 use denote.Ref.{now}
-use lib.ListN.{length}
-use mathlib.Core.Path.{_≡_, ap, _∙_}
-use native.Mathlib.Omega.{arith}
+use Rattle.rules.specs.Text.{Text}
+use Rattle.writer.specs.RecordText.{numberedText}
+use Rattle.writer.specs.Written.{texts, startOf}
+use Rattle.writer.proofs.RecordLoops.{log-small, begins-inside, lies-here, record-here, records-are}
+use Rattle.writer.proofs.TextsLaws.{nothing-measured, next-measured, starts-first, starts-behind}
 use Rattle.writer.proofs.records_length.Statement.{statement}
 use Rattle.writer.proofs.records_length.Tie as tie
 

@@ -1,10 +1,9 @@
 -- `writer::result_fits` meets its contract.
 -- Assumes nothing.
-use borrow.Author.Needs.{needs}
-use borrow.Author.Tests.{le-leb, lt-leb}
-use mathlib.Core.Path.{_≡_, sym}
 use Prim.Native.Nat.{_≤_, _<_}
 use native.Mathlib.Omega.{arith}
+use borrow.Author.Needs.{needs}
+use borrow.Author.Tests.{le-leb, lt-leb}
 use Rattle.rules.specs.Rules.{base}
 use Rattle.writer.proofs.result_fits.Statement.{statement}
 use Rattle.writer.proofs.result_fits.Tie as tie

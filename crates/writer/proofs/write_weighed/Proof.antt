@@ -1,17 +1,17 @@
 -- `writer::write_weighed` meets its contract: the result is measured, and where it fits the claims and the records are written one behind the other.
 -- Assumes nothing.
 use Prim.Native.Nat.{_+_, _≤_}
+use native.Mathlib.Omega.{arith}
+use mathlib.Core.List.{_++_}
+use mathlib.Core.Path.{_≡_, refl, sym, ap, _∙_}
+use lib.Dec.{leb}
+use lib.ListN.{length}
 use borrow.Author.Needs.{needs}
 use borrow.Author.Tests.{not-true, not-false, leb-true}
 use denote.Ref.{now}
-use lib.Dec.{leb}
-use lib.ListN.{length}
-use mathlib.Core.List.{_++_}
-use mathlib.Core.Path.{_≡_, refl, sym, ap, _∙_}
-use native.Mathlib.Omega.{arith}
+use Rattle.rules.proofs.Tests.{and-r}
 use Rattle.rules.specs.Rules.{base}
 use Rattle.rules.specs.Text.{Text}
-use Rattle.rules.proofs.Tests.{and-r}
 use Rattle.writer.specs.ClaimsText.{claimNumbers}
 use Rattle.writer.proofs.RecordLoops.{log-small}
 use Rattle.writer.proofs.WriteLaws.{result, bodyText, records-in-order, found-in-order, found-text, claims-begin, short, result-length, as-tested, refused-answer, refused-slice, written-answer, written-slice}
