@@ -31,6 +31,7 @@ use Rattle.writer.specs.RecordText.{recordsText}
 use Rattle.writer.specs.Written.{Puts}
 use Rattle.writer.specs.Written as Over
 use Rattle.writer.specs.declared.Wrote.the-variants as Wrote
+use Rattle.writer.proofs.ClaimLines.{nine}
 use Rattle.writer.proofs.ClaimsWritten.{rightly, claims-lie, head-written}
 use Rattle.writer.proofs.RecordsWritten.{pointsOf, pointsendsOf, endsOf, contacts, records-written, records-lie}
 use Rattle.writer.proofs.TextsLaws.{row-at}
@@ -87,14 +88,18 @@ module _ {R : Rules} {s : Text} {t : Totals} {first line : ℕ} {points pointsen
       (subst (λ (n : ℕ). ClaimsLie s (recordsStart s log) (claimStarts s n 9) (claimEnds s n 9) 9) (sym (w .claiming)) (claims-lie R s log (w .isRead)))
 
   -- As the code has found them.
-  module _ {starts stops : List ℕ} (p : starts ≡ claimStarts s line 9) (q : stops ≡ claimEnds s line 9) where
-    pub found-in-order : ClaimsLie s first starts stops 9
-    found-in-order =
-        subst (λ (l : List ℕ). ClaimsLie s first l stops 9) (sym p)
-        (subst (λ (l : List ℕ). ClaimsLie s first (claimStarts s line 9) l 9) (sym q) claims-in-order)
+  module _ {starts stops claimed : List ℕ} (p : starts ≡ claimStarts s line 9) (q : stops ≡ claimEnds s line 9) (r : claimed ≡ claimNumbers t) where
+    pub found-nine : length claimed ≡ 9
+    found-nine = ap length r ∙ nine t
 
-    pub found-text : claimsText s first 0 starts stops (claimNumbers t) ≡ claimsText s first 0 (claimStarts s line 9) (claimEnds s line 9) (claimNumbers t)
-    found-text = λ i. claimsText s first 0 (p i) (q i) (claimNumbers t)
+    pub found-in-order : ClaimsLie s first starts stops (length claimed)
+    found-in-order =
+        subst (λ (n : ℕ). ClaimsLie s first starts stops n) (sym found-nine)
+        (subst (λ (l : List ℕ). ClaimsLie s first l stops 9) (sym p)
+        (subst (λ (l : List ℕ). ClaimsLie s first (claimStarts s line 9) l 9) (sym q) claims-in-order))
+
+    pub found-text : claimsText s first 0 starts stops claimed ≡ claimsText s first 0 (claimStarts s line 9) (claimEnds s line 9) (claimNumbers t)
+    found-text = λ i. claimsText s first 0 (p i) (q i) (r i)
 
   pub claims-begin : ClaimsBegin s line 9
   claims-begin i h =

@@ -12,7 +12,7 @@ ghost use Rattle.rules.specs.Fields.{newMark, duplicateMark};
 ghost use Rattle.rules.specs.Log.{crlf};
 ghost use Rattle.rules.specs.Rules.{base};
 ghost use Rattle.rules.specs.Text.{digits};
-ghost use Rattle.writer.specs.ClaimsText.{lineBehind, claimStarts, claimEnds, claimsText};
+ghost use Rattle.writer.specs.ClaimsText.{claimNumbers, lineBehind, claimStarts, claimEnds, claimsText};
 ghost use Rattle.writer.specs.Given.{ClaimsBegin, ClaimsLie, RecordLies, RecordsLie, Writable};
 ghost use Rattle.writer.specs.LogText.{wroteOf, writtenAfterwards};
 ghost use Rattle.writer.specs.RecordText.{saysDuplicate, markText, marksText, zeroText, recordText, recordsText};
@@ -350,6 +350,23 @@ fn claims_length(s: &[u8], first: usize, starts: &[usize], ends: &[usize], claim
     sum + (first - from)
 }
 
+// The nine numbers that are claimed, in the order of their lines.
+fn claim_numbers(t: Totals) -> [u64; 9]
+    ensures { λ r. ⌜ r ≡ claimNumbers t ⌝ }
+{
+    [
+        t.credited,
+        t.points,
+        t.squares,
+        t.squarebonus,
+        t.exchanges,
+        t.exchangebonus,
+        t.countries,
+        t.countrybonus,
+        t.total,
+    ]
+}
+
 // # The log
 
 // How long the result is, or why nothing was written.
@@ -385,17 +402,7 @@ fn write_weighed(
     ensures answer { λ r. ⌜ r ≡ wroteOf base (length (now (out .entry))) (now (log .entry)) ⌝ }
     ensures slice { λ r. ⌜ now (out .exit) ≡ writtenAfterwards base (now (log .entry)) (now (out .entry)) ⌝ }
 {
-    let claims = [
-        t.credited,
-        t.points,
-        t.squares,
-        t.squarebonus,
-        t.exchanges,
-        t.exchangebonus,
-        t.countries,
-        t.countrybonus,
-        t.total,
-    ];
+    let claims = claim_numbers(t);
     let mut claimstarts = [0usize; 9];
     let mut claimends = [0usize; 9];
     claims_at(log, line, &mut claimstarts, &mut claimends);

@@ -12,9 +12,8 @@ use denote.Ref.{now}
 use Rattle.rules.proofs.Tests.{and-r}
 use Rattle.rules.specs.Rules.{base}
 use Rattle.rules.specs.Text.{Text}
-use Rattle.writer.specs.ClaimsText.{claimNumbers}
 use Rattle.writer.proofs.RecordLoops.{log-small}
-use Rattle.writer.proofs.WriteLaws.{result, bodyText, records-in-order, found-in-order, found-text, claims-begin, short, result-length, as-tested, refused-answer, refused-slice, written-answer, written-slice}
+use Rattle.writer.proofs.WriteLaws.{result, bodyText, records-in-order, found-nine, found-in-order, found-text, claims-begin, short, result-length, as-tested, refused-answer, refused-slice, written-answer, written-slice}
 use Rattle.writer.proofs.WrittenLaws.{puts-room, puts-then, puts-as}
 use Rattle.writer.proofs.write_weighed.Statement.{statement}
 use Rattle.writer.proofs.write_weighed.Tie as tie
@@ -23,8 +22,11 @@ use Rattle.writer.proofs.write_weighed.Tie as tie
 abbrev begun : tie.After-slice-known → tie.Start
 begun c = c .before .before .before .before .before .before
 
+abbrev numbered : tie.After-claims-at → tie.After-claim-numbers
+numbered c = c .before .before .before
+
 abbrev origin : tie.After-claims-at → tie.Start
-origin c = begun (c .before .before .before)
+origin c = begun (numbered c .before)
 
 abbrev located : tie.After-claims-length → tie.After-claims-at
 located c = c .before .before .before .before .before .before
@@ -42,11 +44,10 @@ tested c = c .before .before .before .before .before
 long : (c : tie.After-records-length)
     → let b = origin (located (c .before)) in
     c .before .claims-length .result + c .records-length .result ≡ length (result (b .pre))
-unfolding claimNumbers
 long c =
     let l = located (c .before) in
     let w = origin l .pre in
-    omega (arith, result-length w, ap length (found-text w (l .claims-at .ensures .0) (l .claims-at .ensures .1)), c .before .claims-length .ensures .0, c .records-length .ensures .0)
+    omega (arith, result-length w, ap length (found-text w (l .claims-at .ensures .0) (l .claims-at .ensures .1) (numbered l .claim-numbers .ensures)), c .before .claims-length .ensures .0, c .records-length .ensures .0)
 
 -- The result fits the slice.
 room : (c : tie.Else1)
@@ -58,6 +59,9 @@ room c =
     let k = length (now (start (c .before) .args .out)) in
     leb-true n k (and-r (leb n (base .longestLog)) (leb n k) (sym (c .before .result-fits .ensures) ∙ not-false _ (c .if1 .left)))
 
+claim-numbers-requires : tie.Need-claim-numbers-requires
+claim-numbers-requires c κs = search needs
+
 slice-aggregate-claims-at : tie.Need-slice-aggregate-claims-at
 slice-aggregate-claims-at c = search needs
 
@@ -65,7 +69,7 @@ slice-aggregate-claims-at-2 : tie.Need-slice-aggregate-claims-at-2
 slice-aggregate-claims-at-2 c = search needs
 
 claims-at-requires : tie.Need-claims-at-requires
-claims-at-requires c κs = (claims-begin (begun (c .before .before) .pre), refl)
+claims-at-requires c κs = (claims-begin (begun (c .before .before .before) .pre), refl)
 
 slice-aggregate-claims-length : tie.Need-slice-aggregate-claims-length
 slice-aggregate-claims-length c = search needs
@@ -80,7 +84,7 @@ claims-length-requires : tie.Need-claims-length-requires
 claims-length-requires c κs =
     let l = c .before .before .before .before .before in
     let w = origin l .pre in
-    (found-in-order w (l .claims-at .ensures .0) (l .claims-at .ensures .1), search needs, short w)
+    (found-in-order w (l .claims-at .ensures .0) (l .claims-at .ensures .1) (numbered l .claim-numbers .ensures), omega (arith, found-nine w (l .claims-at .ensures .0) (l .claims-at .ensures .1) (numbered l .claim-numbers .ensures)), short w)
 
 records-length-requires : tie.Need-records-length-requires
 records-length-requires c κs = let w = origin (located c) .pre in (records-in-order w, short w)
@@ -116,7 +120,7 @@ put-claims-requires c κs =
     let e = c .before .before .before .before in
     let m = measured (e .before) in
     let l = located m in
-    (found-in-order (origin l .pre) (l .claims-at .ensures .0) (l .claims-at .ensures .1), omega (arith, room e, m .claims-length .ensures .0))
+    (found-in-order (origin l .pre) (l .claims-at .ensures .0) (l .claims-at .ensures .1) (numbered l .claim-numbers .ensures), omega (arith, room e, m .claims-length .ensures .0))
 
 put-records-requires : tie.Need-put-records-requires
 put-records-requires c κs =
@@ -130,7 +134,6 @@ same-length : tie.Need-same-length
 same-length c = search needs
 
 returns-2 : tie.Need-returns-2
-unfolding claimNumbers
 returns-2 c =
     let r = c .before .before in
     let p = r .before .before .before .before in
@@ -141,7 +144,7 @@ returns-2 c =
     let w = b .pre in
     let l = located (m .before) in
     let yes = sym (as-tested w (length (now (b .args .out))) (m .before .claims-length .result + m .records-length .result) (long m) (f .result-fits .ensures)) ∙ not-false _ (e .if1 .left) in
-    let head = found-text w (l .claims-at .ensures .0) (l .claims-at .ensures .1) in
+    let head = found-text w (l .claims-at .ensures .0) (l .claims-at .ensures .1) (numbered l .claim-numbers .ensures) in
     let put = puts-as (puts-then (p .put-claims .ensures) (r .put-records .ensures)) (ap (λ (t : Text). t ++ bodyText w) head) in
     (written-answer w yes put, written-slice w yes put)
 
@@ -149,6 +152,7 @@ pub write-weighed-spec : {M : Type 1} → statement M
 write-weighed-spec =
     tie.close
     (tie.spec
+    claim-numbers-requires
     slice-aggregate-claims-at
     slice-aggregate-claims-at-2
     claims-at-requires
