@@ -18,7 +18,7 @@ use Rattle.rules.specs.Answers.{judged, judge, judgeReading, judgeLog, numbersO
 use Rattle.rules.specs.Judging.{verdictNumber, verdictsOfLog, totalsOfLog}
 use Rattle.rules.specs.Log.{Log}
 use Rattle.rules.specs.Reading.{Reading, accepted, refused, read}
-use Rattle.rules.specs.Rules.{base}
+use Rattle.rules.specs.Rules.{Rules}
 use Rattle.rules.specs.Text.{Text}
 use Rattle.rules.specs.declared.Refusal.{Refusal}
 use Rattle.rules.specs.declared.Totals.{Totals}
@@ -46,42 +46,42 @@ not-weighed : {t : Totals} {records first claims : ℕ} {r : Refusal} → Weighe
 not-weighed e = let z : _≡_ {A = ℕ} 0 1 = cc in omega arith
 
 -- With room for the verdicts of as many records as a log may have, a log is refused by the judge only where it is refused by the reader.
-module _ (s : Text) where
+module _ (R : Rules) (s : Text) where
   abbrev room : ℕ
-  room = base .mostRecords
+  room = R .mostRecords
 
-  few : (log : Log) → read base s ≡ accepted log → length (log .records) ≤ room
-  few log e = leb-true (length (log .records)) room (rightly base s log e .fits)
+  few : (log : Log) → read R s ≡ accepted log → length (log .records) ≤ room
+  few log e = leb-true (length (log .records)) room (rightly R s log e .fits)
 
-  judged-by : (log : Log) → read base s ≡ accepted log → judge base room s ≡ judged (totalsOfLog base log) (map verdictNumber (verdictsOfLog base log))
+  judged-by : (log : Log) → read R s ≡ accepted log → judge R room s ≡ judged (totalsOfLog R log) (map verdictNumber (verdictsOfLog R log))
   unfolding judge judgeReading judgeLog
   judged-by log e = rw (e, le-ltb room (length (log .records)) (few log e))
 
-  weighed-by : (log : Log) → read base s ≡ accepted log → weighedOf room s ≡ Weighed.Done (totalsOfLog base log) (length (log .records)) (firstOf s (accepted log)) (claimsOf (accepted log))
+  weighed-by : (log : Log) → read R s ≡ accepted log → weighedOf R room s ≡ Weighed.Done (totalsOfLog R log) (length (log .records)) (firstOf s (accepted log)) (claimsOf (accepted log))
   unfolding weighedOf weighedBy recordsOfReading
   weighed-by log e = rw (judged-by log e, e)
 
-  refused-by : (r : Refusal) → read base s ≡ refused r → weighedOf room s ≡ Weighed.Refused r
+  refused-by : (r : Refusal) → read R s ≡ refused r → weighedOf R room s ≡ Weighed.Refused r
   unfolding weighedOf weighedBy judge judgeReading
   refused-by r e = rw e
 
   -- The records that were noted while the log was read are its records.
   abbrev pub Noted : Type 0
-  Noted = (log : Log) → read base s ≡ accepted log → contactsRead base s ≡ contactsAt base s (recordsStart s log) (length (log .records))
+  Noted = (log : Log) → read R s ≡ accepted log → contactsRead R s ≡ contactsAt R s (recordsStart s log) (length (log .records))
 
   -- What is told of a log.
-  module _ {t : Totals} {n first claims : ℕ} (h : weighedOf room s ≡ Weighed.Done t n first claims) where
-    log-read : (log : Log) × (read base s ≡ accepted log)
-    log-read = by (read base s) refl
+  module _ {t : Totals} {n first claims : ℕ} (h : weighedOf R room s ≡ Weighed.Done t n first claims) where
+    log-read : (log : Log) × (read R s ≡ accepted log)
+    log-read = by (read R s) refl
       where
-        by : (x : Reading) → read base s ≡ x → (log : Log) × (read base s ≡ accepted log)
+        by : (x : Reading) → read R s ≡ x → (log : Log) × (read R s ≡ accepted log)
         by (accepted log) e = (log, e)
         by (refused r) e = absurd (not-weighed {r = r} (sym (refused-by r e) ∙ h))
 
     abbrev log : Log
     log = log-read .0
 
-    abbrev known : Weighed.Done t n first claims ≡ Weighed.Done (totalsOfLog base log) (length (log .records)) (firstOf s (accepted log)) (claimsOf (accepted log))
+    abbrev known : Weighed.Done t n first claims ≡ Weighed.Done (totalsOfLog R log) (length (log .records)) (firstOf s (accepted log)) (claimsOf (accepted log))
     known = sym h ∙ weighed-by log (log-read .1)
 
     many : n ≡ length (log .records)
@@ -94,47 +94,47 @@ module _ (s : Text) where
     claims-is : claims ≡ claimsOf (accepted log)
     claims-is = let e = known in cc
 
-    totals-are : t ≡ totalsOfLog base log
+    totals-are : t ≡ totalsOfLog R log
     totals-are = let e = known in cc
 
     -- The verdicts stand in front of their list, and the places of the records in front of theirs.
-    numbers-are : (slice : List ℕ) {numbers : List ℕ} → length slice ≡ room → numbers ≡ verdictsAfterwards s slice → take n numbers ≡ map verdictNumber (verdictsOfLog base log)
+    numbers-are : (slice : List ℕ) {numbers : List ℕ} → length slice ≡ room → numbers ≡ verdictsAfterwards R s slice → take n numbers ≡ map verdictNumber (verdictsOfLog R log)
     unfolding numbersOfJudgement
     numbers-are slice l e =
-        let new : List ℕ = map verdictNumber (verdictsOfLog base log) in
-        let told : numbersOfJudgement (judge base (length slice) s) ≡ new = ap (λ (m : ℕ). numbersOfJudgement (judge base m s)) l ∙ ap numbersOfJudgement (judged-by log (log-read .1)) in
+        let new : List ℕ = map verdictNumber (verdictsOfLog R log) in
+        let told : numbersOfJudgement (judge R (length slice) s) ≡ new = ap (λ (m : ℕ). numbersOfJudgement (judge R m s)) l ∙ ap numbersOfJudgement (judged-by log (log-read .1)) in
         ap (take n) (e ∙ ap (λ (x : List ℕ). over x slice) told)
-        ∙ front-over new slice n (many ∙ sym (as-many base log))
+        ∙ front-over new slice n (many ∙ sym (as-many R log))
 
-    pub many-numbers : (slice : List ℕ) {numbers : List ℕ} → length slice ≡ room → numbers ≡ verdictsAfterwards s slice → n ≤ length numbers
-    many-numbers slice {numbers} l e = omega (arith, ap length (numbers-are slice l e), length-take n numbers, many, as-many base log)
+    pub many-numbers : (slice : List ℕ) {numbers : List ℕ} → length slice ≡ room → numbers ≡ verdictsAfterwards R s slice → n ≤ length numbers
+    many-numbers slice {numbers} l e = omega (arith, ap length (numbers-are slice l e), length-take n numbers, many, as-many R log)
 
     module _ (noted : Noted) where
-      places-are : (place : Contact → ℕ) (slice : List ℕ) {list : List ℕ} → length slice ≡ room → list ≡ listed place (contactsRead base s) slice
-          → take n list ≡ map place (contactsAt base s first (length (log .records)))
+      places-are : (place : Contact → ℕ) (slice : List ℕ) {list : List ℕ} → length slice ≡ room → list ≡ listed place (contactsRead R s) slice
+          → take n list ≡ map place (contactsAt R s first (length (log .records)))
       places-are place slice l e =
-          let cs = contactsAt base s (recordsStart s log) (length (log .records)) in
-          let c : length cs ≡ length (log .records) = length-contacts base s (recordsStart s log) (length (log .records)) in
+          let cs = contactsAt R s (recordsStart s log) (length (log .records)) in
+          let c : length cs ≡ length (log .records) = length-contacts R s (recordsStart s log) (length (log .records)) in
           ap (take n) (e ∙ ap (λ (x : List Contact). listed place x slice) (noted log (log-read .1)))
           ∙ ap (λ (k : ℕ). take k (listed place cs slice)) (many ∙ sym c)
           ∙ front-listed place cs slice (omega (arith, few log (log-read .1)))
-          ∙ ap (λ (k : ℕ). map place (contactsAt base s k (length (log .records)))) (sym first-is)
+          ∙ ap (λ (k : ℕ). map place (contactsAt R s k (length (log .records)))) (sym first-is)
 
-      pub many-places : (place : Contact → ℕ) (slice : List ℕ) {list : List ℕ} → length slice ≡ room → list ≡ listed place (contactsRead base s) slice → n ≤ length list
+      pub many-places : (place : Contact → ℕ) (slice : List ℕ) {list : List ℕ} → length slice ≡ room → list ≡ listed place (contactsRead R s) slice → n ≤ length list
       many-places place slice {list} l e =
-          let cs = contactsAt base s first (length (log .records)) in
-          omega (arith, ap length (places-are place slice l e), length-take n list, length-map cs place, length-contacts base s first (length (log .records)), many)
+          let cs = contactsAt R s first (length (log .records)) in
+          omega (arith, ap length (places-are place slice l e), length-take n list, length-map cs place, length-contacts R s first (length (log .records)), many)
 
       pub writable : (slice slice₁ slice₂ slice₃ : List ℕ) {numbers points pointsends ends : List ℕ} →
           length slice ≡ room →
           length slice₁ ≡ room →
           length slice₂ ≡ room →
           length slice₃ ≡ room →
-          numbers ≡ verdictsAfterwards s slice →
-          points ≡ listed (λ (c : Contact). c .points) (contactsRead base s) slice₁ →
-          pointsends ≡ listed (λ (c : Contact). c .pointsend) (contactsRead base s) slice₂ →
-          ends ≡ listed (λ (c : Contact). c .end) (contactsRead base s) slice₃ →
-          Writable base s t first claims (take n points) (take n pointsends) (take n ends) (take n numbers)
+          numbers ≡ verdictsAfterwards R s slice →
+          points ≡ listed (λ (c : Contact). c .points) (contactsRead R s) slice₁ →
+          pointsends ≡ listed (λ (c : Contact). c .pointsend) (contactsRead R s) slice₂ →
+          ends ≡ listed (λ (c : Contact). c .end) (contactsRead R s) slice₃ →
+          Writable R s t first claims (take n points) (take n pointsends) (take n ends) (take n numbers)
       unfolding claimsOf
       writable slice slice₁ slice₂ slice₃ l l₁ l₂ l₃ v p q r =
           record {
@@ -150,18 +150,18 @@ module _ (s : Text) where
           }
 
   -- The refusal is the reader's.
-  module _ {r : Refusal} (h : weighedOf room s ≡ Weighed.Refused r) where
-    unread : read base s ≡ refused r
-    unread = by (read base s) refl
+  module _ {r : Refusal} (h : weighedOf R room s ≡ Weighed.Refused r) where
+    unread : read R s ≡ refused r
+    unread = by (read R s) refl
       where
-        by : (x : Reading) → read base s ≡ x → read base s ≡ refused r
+        by : (x : Reading) → read R s ≡ x → read R s ≡ refused r
         by (accepted log) e = absurd (not-weighed {r = r} (sym h ∙ weighed-by log e))
         by (refused q) e = let k : Weighed.Refused q ≡ Weighed.Refused r = sym (refused-by q e) ∙ h in let i : q ≡ r = cc in e ∙ ap refused i
 
-    pub unread-answer : (slice : List ℕ) → Wrote.Refused r ≡ wroteOf base (length slice) s
+    pub unread-answer : (slice : List ℕ) → Wrote.Refused r ≡ wroteOf R (length slice) s
     unfolding wroteOf wroteBy write writeReading
     unread-answer slice = rw unread
 
-    pub unread-slice : (slice : List ℕ) → slice ≡ writtenAfterwards base s slice
+    pub unread-slice : (slice : List ℕ) → slice ≡ writtenAfterwards R s slice
     unfolding write writeReading bytesOfWriting over
     unread-slice slice = rw unread

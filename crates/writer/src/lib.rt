@@ -418,3 +418,33 @@ fn write_weighed(
     let at = put_claims(out, log, first, &claimstarts, &claimends, &claims);
     Wrote::Length(put_records(out, at, log, first, points, pointsends, ends, numbers))
 }
+
+// A log is read, judged and written back to the front of the slice. On a refusal no byte of the slice is changed.
+pub fn write(log: &[u8], out: &mut [u8]) -> Wrote
+    ensures answer { λ r. ⌜ r ≡ wroteOf base (length (now (out .entry))) (now (log .entry)) ⌝ }
+    ensures slice { λ r. ⌜ now (out .exit) ≡ writtenAfterwards base (now (log .entry)) (now (out .entry)) ⌝ }
+{
+    let mut verdicts = [0u8; rules::MOST_RECORDS];
+    let mut points = [0u16; rules::MOST_RECORDS];
+    let mut pointsends = [0u16; rules::MOST_RECORDS];
+    let mut ends = [0u16; rules::MOST_RECORDS];
+    match judge::weigh(log, &mut verdicts, &mut points, &mut pointsends, &mut ends) {
+        Weighed::Done {
+            totals,
+            records,
+            first,
+            claims,
+        } => write_weighed(
+            log,
+            totals,
+            first,
+            claims,
+            &points[..records],
+            &pointsends[..records],
+            &ends[..records],
+            &verdicts[..records],
+            out,
+        ),
+        Weighed::Refused(r) => Wrote::Refused(r),
+    }
+}
