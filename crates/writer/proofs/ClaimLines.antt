@@ -9,11 +9,10 @@ use lib.Dec.{leb, eqb}
 use lib.ListN.{length, take, drop, length-append}
 use lib.Seq.{take-at, drop-at, drop-length, drop-append-seam}
 use borrow.Author.Tests.{not-true, le-leb, eqb-true}
-use Rattle.header.proofs.PartLaws.{whole-span}
 use Rattle.places.proofs.HeaderHeld.{everyEntry, keyword-count}
 use Rattle.rules.proofs.NumberLaws.{number-from, number-digits}
 use Rattle.rules.proofs.Tests.{never, and-l, and-r, and-i}
-use Rattle.rules.proofs.TextLaws.{parts-some, joined-parts, span-run, same-refl}
+use Rattle.rules.proofs.TextLaws.{parts-some, joined-parts, span-stops, span-run, same-refl}
 use Rattle.rules.specs.Arguments.{Entry, entries, each, count, bonus, multiplier, meets, every}
 use Rattle.rules.specs.Log.{keywordStart, keywordLines, argumentRules}
 use Rattle.rules.specs.Rules.{Rules}
@@ -26,7 +25,9 @@ use Rattle.writer.proofs.NumberedLines.{behindNumber, renumbered, keywo
 -- # One argument
 
 none-behind : (t : Text) → all digit t ≡ true → behindNumber t ≡ []
-none-behind t e = ap (λ (n : ℕ). drop n t) (whole-span digit t e) ∙ drop-length t
+none-behind t e =
+    let whole : span digit t ≡ length t = sym (span-stops digit t semicolon [] refl) ∙ span-run digit t semicolon [] e refl in
+    ap (λ (n : ℕ). drop n t) whole ∙ drop-length t
 
 -- A number that is the whole argument gives way to another.
 whole-renumbered : (most n : ℕ) (t : Text) → numberOf most t ≡ true → digits n ≡ renumbered n t
