@@ -1,7 +1,10 @@
-pub mod PartLaws
-pub mod MemoryLaws
-pub mod RememberLaws
-pub mod CountLaws
-pub mod WeighLaws
-pub mod JudgeLaws
+pub mod SaidLaws
 pub mod NumberLaws
+pub mod CountLaws
+pub mod PartLaws
+pub mod SquareLaws
+pub mod ToldLaws
+pub mod RememberLaws
+pub mod StepLaws
+pub mod WalkLaws
+pub mod JudgeLaws

@@ -46,7 +46,7 @@ pub record DeclaredBelow (d : Declared) : Type 0 where
   pub countrybonus : d .countrybonus ≤ 9999
   pub countrymultiplier : d .countrymultiplier ≤ 99
 
-pub declared-below : (s : Text) (claims : ℕ) → DeclaredBelow (declaredAt s claims)
+pub declared-below : (s : Text) (claims : ℕ) → DeclaredBelow (declaredAt base s claims)
 unfolding declaredAt
 declared-below s claims =
     record {

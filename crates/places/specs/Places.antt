@@ -7,7 +7,7 @@ use mathlib.Core.Bool.{Bool, cond}
 use mathlib.Core.List.{List, [], _∷_}
 use lib.ListN.{length, take, drop}
 use Rattle.rules.specs.Text.{Text, allowed, span, same, value, numberOf}
-use Rattle.rules.specs.Rules.{base}
+use Rattle.rules.specs.Rules.{Rules}
 use Rattle.rules.specs.Fields.{Qso, errorCall, newMark, isError}
 use Rattle.rules.specs.Arguments.{part, bonus, multiplier}
 use Rattle.rules.specs.Judging.{claimsCountry}
@@ -93,16 +93,16 @@ argumentAt s i = argumentOn s 0 i
 
 -- The bonuses and multipliers of CWWLs, CExcs and CDXCs, by the place where the claims begin: keywords 29, 31 and 33, of which the first claim,
 -- CQSOs, is keyword 27.
-unfoldable pub declaredAt : Text → ℕ → Declared
-unfolding argumentOn part valueBy bonus multiplier base
-declaredAt s claims =
+unfoldable pub declaredAt : Rules → Text → ℕ → Declared
+unfolding argumentOn part valueBy bonus multiplier
+declaredAt R s claims =
     record {
-      squarebonus = valueBy (bonus base) (part 1 (argumentOn s claims 2));
-      squaremultiplier = valueBy (multiplier base) (part 2 (argumentOn s claims 2));
-      exchangebonus = valueBy (bonus base) (part 1 (argumentOn s claims 4));
-      exchangemultiplier = valueBy (multiplier base) (part 2 (argumentOn s claims 4));
-      countrybonus = valueBy (bonus base) (part 1 (argumentOn s claims 6));
-      countrymultiplier = valueBy (multiplier base) (part 2 (argumentOn s claims 6));
+      squarebonus = valueBy (bonus R) (part 1 (argumentOn s claims 2));
+      squaremultiplier = valueBy (multiplier R) (part 2 (argumentOn s claims 2));
+      exchangebonus = valueBy (bonus R) (part 1 (argumentOn s claims 4));
+      exchangemultiplier = valueBy (multiplier R) (part 2 (argumentOn s claims 4));
+      countrybonus = valueBy (bonus R) (part 1 (argumentOn s claims 6));
+      countrymultiplier = valueBy (multiplier R) (part 2 (argumentOn s claims 6));
     }
 
 -- # What is told of an accepted log
@@ -138,6 +138,6 @@ unfoldable pub viewTold : Viewing → ViewRead
 viewTold (seen start t) = ViewRead.Seen start (length t)
 viewTold (unseen r) = ViewRead.Refused r
 
-unfoldable pub viewOf : ℕ → Text → ViewRead
-unfolding viewTold view base
-viewOf k s = viewTold (view base k s)
+unfoldable pub viewOf : Rules → ℕ → Text → ViewRead
+unfolding viewTold view
+viewOf R k s = viewTold (view R k s)

@@ -250,7 +250,7 @@ fn rates_at(s: &[u8], at: usize) -> Rates
 // The bonuses and multipliers of CWWLs, CExcs and CDXCs, by the place where the claims begin: the first of these three stands two lines behind
 // it, and each of the others two lines behind the last.
 pub fn declared_at(s: &[u8], claims: usize) -> Declared
-    ensures { λ r. ⌜ r ≡ declaredAt (now (s .entry)) claims ⌝ }
+    ensures { λ r. ⌜ r ≡ declaredAt base (now (s .entry)) claims ⌝ }
 {
     let squares = next_line(s, next_line(s, claims));
     let exchanges = next_line(s, next_line(s, squares));
@@ -295,7 +295,7 @@ fn argument_part(log: &[u8], k: usize) -> ViewRead
 
 // The view of a keyword, by its number, 1 to 36.
 pub fn view(log: &[u8], k: usize) -> ViewRead
-    ensures { λ r. ⌜ r ≡ viewOf k (now (log .entry)) ⌝ }
+    ensures { λ r. ⌜ r ≡ viewOf base k (now (log .entry)) ⌝ }
 {
     if k < 1 {
         return ViewRead::Refused(Refusal {

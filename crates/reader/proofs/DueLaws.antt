@@ -9,7 +9,7 @@ use mathlib.Core.List.{[], _∷_}
 use lib.ListN.{length, take, drop, getD, length-drop, List·getD-map, drop-of-length-le}
 use lib.Seq.{drop-cons, take-all}
 use Rattle.rules.specs.Text.{Text, same, begins}
-use Rattle.rules.specs.Rules.{base}
+use Rattle.rules.specs.Rules.{Rules, base}
 use Rattle.rules.specs.declared.Due.{Due}
 use Rattle.rules.specs.declared.Due.the-variants as Due
 use Rattle.rules.specs.declared.Next.{Next}
@@ -25,9 +25,11 @@ use Rattle.header.specs.declared.ArgumentRead.the-variants as ArgumentRead
 use Rattle.header.specs.Header.{firstKeyword, keywordAt, firstArgument, argumentOf}
 use Rattle.header.proofs.WordLaws.{begins-short}
 use Rattle.header.proofs.TableLaws.{word-length, keyword-beyond}
+use Rattle.reader.specs.declared.Contact.{Contact}
 use Rattle.reader.specs.declared.RecordRead.{RecordRead}
 use Rattle.reader.specs.declared.RecordRead.the-variants as RecordRead
-use Rattle.reader.specs.Record.{recordTold, recordOf}
+use Rattle.reader.specs.Contact.{contactAt}
+use Rattle.reader.specs.Record.{recordOn, toldBy}
 
 -- A line that has to be these words.
 module _ (words line : Text) (next : Due) where
@@ -191,40 +193,44 @@ module _ (line : Text) where
   a-remark e =
       ap (λ (b : Bool). cond b (countRule base (drop (length countStart) line)) (Next.Goes Due.Remark)) (sym e) ∙ sym (remark-law line)
 
+-- What is told of a record says whether it keeps its rules.
+pub kept-told : (c : Contact) (r : RecordRule) {d : Contact} → toldBy c r ≡ RecordRead.Kept d → r ≡ keeps
+unfolding toldBy
+kept-told c keeps e = refl
+kept-told c (breaks f) e = let z : _≡_ {A = ℕ} 0 1 = cc in absurd (omega arith)
+
+pub stops-told : (c : Contact) (r : RecordRule) {number field : ℕ} → toldBy c r ≡ RecordRead.Stops number field → (number ≡ 5) × (r ≡ breaks field)
+unfolding toldBy
+stops-told c keeps e = let z : _≡_ {A = ℕ} 0 1 = cc in absurd (omega arith)
+stops-told c (breaks g) {number} {field} e = let h : g ≡ field = cc in (cc, ap breaks h)
+
 -- A record.
-record-law : (n : ℕ) (line : Text) → step base (Due.Record n) line ≡ afterRecord n (recordRule base line)
-unfolding step
-record-law n line = refl
+module _ (R : Rules) (n : ℕ) (line : Text) where
+  record-law : step R (Due.Record n) line ≡ afterRecord n (recordRule R line)
+  unfolding step
+  record-law = refl
 
-told-law : (line : Text) → recordOf line ≡ recordTold (recordRule base line)
-unfolding recordOf
-told-law line = refl
+  told-law : recordOn R line ≡ toldBy (contactAt R line 0) (recordRule R line)
+  unfolding recordOn
+  told-law = refl
 
-told-kept : (r : RecordRule) → recordTold r ≡ RecordRead.Kept → r ≡ keeps
-unfolding recordTold
-told-kept keeps e = refl
-told-kept (breaks f) e = let z : _≡_ {A = ℕ} 0 1 = cc in absurd (omega arith)
-
-told-broken : (r : RecordRule) (f : ℕ) → recordTold r ≡ RecordRead.Broken f → r ≡ breaks f
-unfolding recordTold
-told-broken keeps f e = let z : _≡_ {A = ℕ} 0 1 = cc in absurd (omega arith)
-told-broken (breaks g) f e = let h : g ≡ f = cc in ap breaks h
-
-module _ (n : ℕ) (line : Text) where
-  after-law : (r : RecordRule) → r ≡ keeps → afterRecord n r ≡ Next.Goes (recordsDue (n - 1))
+  kept-goes : {c : Contact} → recordOn R line ≡ RecordRead.Kept c → step R (Due.Record n) line ≡ Next.Goes (recordsDue (n - 1))
   unfolding afterRecord
-  after-law r e = rw e
+  kept-goes e =
+      record-law ∙ ap (afterRecord n) (kept-told (contactAt R line 0) (recordRule R line) (sym told-law ∙ e))
 
-  pub record-last : recordOf line ≡ RecordRead.Kept → n ≡ 0 → Next.Goes Due.End ≡ step base (Due.Record n) line
+  pub record-last : {c : Contact} → recordOn R line ≡ RecordRead.Kept c → n ≡ 0 → Next.Goes Due.End ≡ step R (Due.Record n) line
   unfolding recordsDue
-  record-last e z = sym (record-law n line ∙ after-law (recordRule base line) (told-kept (recordRule base line) (sym (told-law line) ∙ e)) ∙ ap (λ (m : ℕ). Next.Goes (recordsDue (m - 1))) z)
+  record-last e z = sym (kept-goes e ∙ ap (λ (m : ℕ). Next.Goes (recordsDue (m - 1))) z)
 
-  pub record-next : {d : Due} → recordOf line ≡ RecordRead.Kept → d ≡ recordsDue (n - 1) → Next.Goes d ≡ step base (Due.Record n) line
-  record-next e q = ap Next.Goes q ∙ sym (record-law n line ∙ after-law (recordRule base line) (told-kept (recordRule base line) (sym (told-law line) ∙ e)))
+  pub record-next : {c : Contact} {d : Due} → recordOn R line ≡ RecordRead.Kept c → d ≡ recordsDue (n - 1) → Next.Goes d ≡ step R (Due.Record n) line
+  record-next e q = ap Next.Goes q ∙ sym (kept-goes e)
 
-  pub record-bad : {f : ℕ} → recordOf line ≡ RecordRead.Broken f → Next.Stops 5 f ≡ step base (Due.Record n) line
+  pub record-bad : {number field : ℕ} → recordOn R line ≡ RecordRead.Stops number field → Next.Stops number field ≡ step R (Due.Record n) line
   unfolding afterRecord
-  record-bad {f} e = sym (record-law n line ∙ ap (afterRecord n) (told-broken (recordRule base line) f (sym (told-law line) ∙ e)))
+  record-bad {number} {field} e =
+      let q = stops-told (contactAt R line 0) (recordRule R line) (sym told-law ∙ e) in
+      ap (λ (k : ℕ). Next.Stops k field) (q .0) ∙ sym (record-law ∙ ap (afterRecord n) (q .1))
 
 -- The step goes by what is due.
 module _ (due : Due) (line : Text) {r : Next} where

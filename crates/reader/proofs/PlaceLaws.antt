@@ -8,10 +8,11 @@ use mathlib.Core.List.{List, [], _∷_}
 use mathlib.Core.Path.{_≡_, refl, sym, ap, _∙_}
 use mathlib.Core.Bool.{Bool, false, and-true}
 use lib.Dec.{eqb}
-use lib.ListN.{length, take, drop, getD, length-drop}
-use Rattle.rules.specs.Text.{Text, span, same}
+use lib.ListN.{length, take, drop, getD, drop-of-length-le, length-drop}
+use borrow.Author.Tests.{eq-eqb, ne-eqb}
+use Rattle.rules.specs.Text.{Text, begins, span, same}
 use Rattle.rules.specs.Rules.{Rules}
-use Rattle.rules.specs.Fields.{Qso, errorCall, newMark}
+use Rattle.rules.specs.Fields.{Qso, duplicateMark, errorCall, newMark}
 use Rattle.rules.proofs.TextLaws.{span-short, same-apart}
 use Rattle.fields.specs.Field.{inField, textAt, endOf}
 use Rattle.fields.proofs.FieldLaws.{next}
@@ -120,3 +121,22 @@ module _ (s : Text) where
   pub held-within : (R : Rules) (qs : List Qso) (at : ℕ) → Holds R s at qs → at ≤ length s
   held-within R [] at h = omega arith
   held-within R (q ∷ qs) at h = omega (arith, ends-behind-start R at, held-within R qs (behind (contactAt R s at)) (h .1))
+
+-- The last field, of which a `D` is told by its one character.
+module _ (s : Text) (a : ℕ) where
+  pub last-behind : a ≤ lastEnd s a
+  unfolding lastEnd
+  last-behind = omega arith
+
+  pub last-beyond : length s ≤ a → a ≡ lastEnd s a
+  unfolding lastEnd begins duplicateMark
+  last-beyond h = rw (drop-of-length-le s h) (omega arith)
+
+  module _ (h : a < length s) where
+    pub last-none : (getD s a 0 ≡ 68 → ⊥) → a ≡ lastEnd s a
+    unfolding lastEnd begins duplicateMark
+    last-none e = rw (next s a h, ne-eqb 68 (getD s a 0) (λ k. e (sym k))) (omega arith)
+
+    pub last-marked : getD s a 0 ≡ 68 → a + 1 ≡ lastEnd s a
+    unfolding lastEnd begins duplicateMark
+    last-marked e = rw (next s a h, eq-eqb 68 (getD s a 0) (sym e))

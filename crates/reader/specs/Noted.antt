@@ -1,6 +1,6 @@
 -- What is noted of the records while a log is read, and what a lent list of places holds afterwards.
 -- Assumes nothing.
-use Prim.Native.Nat.{ℕ, _+_}
+use Prim.Native.Nat.{ℕ, zero, suc, _+_}
 use mathlib.Core.Bool.{cond}
 use mathlib.Core.List.{List, [], _∷_, map}
 use lib.Dec.{ltb}
@@ -14,7 +14,10 @@ use Rattle.rules.specs.Rules.{Rules}
 use Rattle.rules.specs.Reading.{lines, step}
 use Rattle.rules.specs.Answers.{over}
 use Rattle.reader.specs.declared.Contact.{Contact}
-use Rattle.reader.specs.Contact.{contactAt}
+use Rattle.reader.specs.declared.RecordRead.{RecordRead}
+use Rattle.reader.specs.declared.RecordRead.the-variants as RecordRead
+use Rattle.reader.specs.Contact.{behind, contactAt}
+use Rattle.reader.specs.Record.{recordAt}
 
 -- A line that is taken is noted where it is a record.
 unfoldable pub notedLine : Due → Contact → List Contact → List Contact
@@ -44,6 +47,16 @@ unfolding notedFrom lines
 contactsRead R s =
     let noted = notedFrom R s Identifier 0 ((lines R s) .whole) in
     cond (ltb (R .longestLog) (length s)) [] noted
+
+-- The same of so many records, the first of which is due at a place: those in front of the first that is refused.
+unfoldable pub contactNext : (Contact → List Contact) → RecordRead → List Contact
+contactNext more (RecordRead.Kept c) = c ∷ more c
+contactNext more (RecordRead.Stops number field) = []
+
+unfoldable pub contactsFrom : Rules → Text → ℕ → ℕ → List Contact
+unfolding contactNext recordAt
+contactsFrom R s zero at = []
+contactsFrom R s (suc left) at = contactNext (λ c. contactsFrom R s left (behind c)) (recordAt R s at)
 
 -- What a lent list holds afterwards: a place of each of these records, as far as the list goes, and behind them what it held.
 abbrev pub listed : (Contact → ℕ) → List Contact → List ℕ → List ℕ

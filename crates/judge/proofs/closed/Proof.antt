@@ -1,3 +1,4 @@
+-- The bonuses and the total are made of the sums, and none runs over.
 use Rattle.judge.proofs.CountLaws.{Closes, closes}
 use Rattle.judge.specs.Count.{closing}
 use native.Mathlib.Omega.{arith}

@@ -1,49 +1,64 @@
-use Rattle.judge.proofs.CountLaws.{counted-all}
+-- What a record adds is told by its class.
+use Rattle.judge.proofs.CountLaws.{countable-small, void-sums, duplicate-sums, error-sums}
+use native.Mathlib.Omega.{arith}
+use mathlib.Core.Path.{_≡_, refl, sym, ap, _∙_}
+use mathlib.Core.Bool.{true, false}
+use Prim.Native.Nat.{ℕ, _+_, _-_, _*_, _≤_, _<_}
+use lib.ListN.{length, drop, take, getD, set}
+use denote.Ref.{now}
 use borrow.Author.Needs.{needs}
 use Rattle.judge.proofs.counted.Statement.{statement}
 use Rattle.judge.proofs.counted.Tie as tie
 
-class-number-requires : tie.Need-class-number-requires
-class-number-requires c κs = search needs
+enum-told : tie.Need-enum-told
+enum-told c = search needs
 
-raised-requires : tie.Need-raised-requires
-raised-requires c κs = search needs
+credited-more-requires : tie.Need-credited-more-requires
+credited-more-requires c κs = search needs
 
-raised-requires-2 : tie.Need-raised-requires-2
-raised-requires-2 c κs = search needs
+enum-told-2 : tie.Need-enum-told-2
+enum-told-2 c = search needs
 
-raised-requires-3 : tie.Need-raised-requires-3
-raised-requires-3 c κs = search needs
+add-sums : tie.Need-add-sums
+add-sums c = omega (arith, countable-small (c .before .before .before .pre))
 
-raised-requires-4 : tie.Need-raised-requires-4
-raised-requires-4 c κs = search needs
+enum-told-3 : tie.Need-enum-told-3
+enum-told-3 c = search needs
 
-raised-requires-5 : tie.Need-raised-requires-5
-raised-requires-5 c κs = search needs
+add-sums-2 : tie.Need-add-sums-2
+add-sums-2 c = omega (arith, countable-small (c .before .before .before .pre))
 
-raised-requires-6 : tie.Need-raised-requires-6
-raised-requires-6 c κs = search needs
+enum-told-4 : tie.Need-enum-told-4
+enum-told-4 c = search needs
 
-raised-requires-7 : tie.Need-raised-requires-7
-raised-requires-7 c κs = search needs
-
-raised-requires-8 : tie.Need-raised-requires-8
-raised-requires-8 c κs = search needs
+add-sums-3 : tie.Need-add-sums-3
+add-sums-3 c = omega (arith, countable-small (c .before .before .before .pre))
 
 returns : tie.Need-returns
-returns c = counted-all _ _ _ _ (c .before .before .before .before .before .before .before .before .class-number .ensures) (c .before .before .before .before .before .before .before .raised .ensures) (c .before .before .before .before .before .before .raised2 .ensures) (c .before .before .before .before .before .raised3 .ensures) (c .before .before .before .before .raised4 .ensures) (c .before .before .before .raised5 .ensures) (c .before .before .raised6 .ensures) (c .before .raised7 .ensures) (c .raised8 .ensures)
+returns c = search needs
+
+returns-2 : tie.Need-returns-2
+returns-2 c = let start = c .before .before .before in void-sums (start .args .t) (start .args .worth) (start .args .v) (start .pre) (c .before .enum-told2 .given .1)
+
+returns-3 : tie.Need-returns-3
+returns-3 c = let start = c .before .before .before in duplicate-sums (start .args .t) (start .args .worth) (start .args .v) (start .pre) (c .before .enum-told3 .given .1)
+
+returns-4 : tie.Need-returns-4
+returns-4 c = let start = c .before .before .before in error-sums (start .args .t) (start .args .worth) (start .args .v) (start .pre) (c .before .enum-told4 .given .1)
 
 pub counted-spec : {M : Type 1} → statement M
 counted-spec =
     tie.close
     (tie.spec
-    class-number-requires
-    raised-requires
-    raised-requires-2
-    raised-requires-3
-    raised-requires-4
-    raised-requires-5
-    raised-requires-6
-    raised-requires-7
-    raised-requires-8
-    returns)
+    enum-told
+    credited-more-requires
+    enum-told-2
+    add-sums
+    enum-told-3
+    add-sums-2
+    enum-told-4
+    add-sums-3
+    returns
+    returns-2
+    returns-3
+    returns-4)

@@ -1,3 +1,4 @@
+-- Something is found exactly where the part is among those that are kept.
 use Rattle.judge.proofs.PartLaws.{kept-found, kept-none}
 use mathlib.Core.Path.{sym, _∙_}
 use borrow.Author.Needs.{needs}

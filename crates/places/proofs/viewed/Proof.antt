@@ -30,7 +30,7 @@ enum-known-seen c = search needs
 
 -- The part that the view tells of.
 shown : (c : tie.After-known-told) → (c .before .seen .given .0 .0 + c .before .seen .given .0 .1 .0 ≤ length (now (c .before .before .before .before .before .args .log))) × (take (c .before .seen .given .0 .1 .0) (drop (c .before .seen .given .0 .0) (now (c .before .before .before .before .before .args .log))) ≡ viewed (view base (c .before .before .before .before .before .args .k) (now (c .before .before .before .before .before .args .log))))
-shown c = view-shows _ _ (sym (c .before .before .before .view .ensures) ∙ c .before .seen .given .1)
+shown c = view-shows base _ _ (sym (c .before .before .before .view .ensures) ∙ c .before .seen .given .1)
 
 add-end : tie.Need-add-end
 add-end c = omega (arith, (shown c) .0, c .before .before .before .before .before .good .0 .1)
@@ -45,7 +45,7 @@ part-result-end-2 : tie.Need-part-result-end-2
 part-result-end-2 c = (shown c) .0
 
 returns : tie.Need-returns
-returns c = view-hides _ _ (sym (c .before .before .before .view .ensures) ∙ c .before .enum-told .given .1)
+returns c = view-hides base _ _ (sym (c .before .before .before .view .ensures) ∙ c .before .enum-told .given .1)
 
 returns-2 : tie.Need-returns-2
 returns-2 c =
