@@ -43,7 +43,7 @@ use Rattle.judge.proofs.CountLaws.{closed-totals}
 -- # What is declared
 
 -- What is declared keeps its rules, whatever the log.
-declared-small : (s : Text) (claims : ℕ) → Small base (declaredAt s claims)
+declared-small : (s : Text) (claims : ℕ) → Small base (declaredAt base s claims)
 unfolding base
 declared-small s claims =
     let d = declared-below s claims in
@@ -56,7 +56,7 @@ declared-small s claims =
       countrymultiplier = d .countrymultiplier;
     }
 
-pub closable : {s : Text} (claims : ℕ) {slice slice' : List ℕ} {t : Totals} {d : Declared} → Weighs base s slice t slice' → d ≡ declaredAt s claims → Closable base t d
+pub closable : {s : Text} (claims : ℕ) {slice slice' : List ℕ} {t : Totals} {d : Declared} → Weighs base s slice t slice' → d ≡ declaredAt base s claims → Closable base t d
 closable {s = s} claims w e = record { few = w .few; small = rw e (declared-small s claims) }
 
 -- # The lists
@@ -139,16 +139,16 @@ module _ {R : Rules} {s : Text} {records first claims : ℕ} (a : Accepts R s re
     unfolding judge judgeReading judgeLog numbersOfJudgement verdictsOfLog
     written-done w = w .written ∙ rw (a .isRead, enough) (ap (λ (qs : List Qso). over (numbersOf R qs) slice) records-are)
 
--- By the rules of document 01, by which the declared bonuses and multipliers are found.
-module _ {s : Text} {records first claims : ℕ} (a : Accepts base s records first claims) (slice : List ℕ) (h : records ≤ length slice) where
-  claims-are : declaredAt s claims ≡ declaredAt s (claimsStart (a .log))
+-- The totals are closed with what is declared.
+module _ {R : Rules} {s : Text} {records first claims : ℕ} (a : Accepts R s records first claims) (slice : List ℕ) (h : records ≤ length slice) where
+  claims-are : declaredAt R s claims ≡ declaredAt R s (claimsStart (a .log))
   unfolding claimsOf
-  claims-are = ap (declaredAt s) (a .claiming)
+  claims-are = ap (declaredAt R s) (a .claiming)
 
-  declared-are : asDeclared (declaredAt s (claimsStart (a .log))) ≡ declared (a .log)
+  declared-are : asDeclared (declaredAt R s (claimsStart (a .log))) ≡ declared (a .log)
   unfolding asDeclared
   declared-are =
-      let d = declared-held s (a .log) (a .isRead) in
+      let d = declared-held R s (a .log) (a .isRead) in
       λ i.
       record {
         squareBonus = d .squarebonus i;
@@ -159,15 +159,15 @@ module _ {s : Text} {records first claims : ℕ} (a : Accepts base s records fir
         countryMultiplier = d .countrymultiplier i;
       }
 
-  totals-are : {t u : Totals} {d : Declared} {slice' : List ℕ} → Weighs base s slice t slice' → d ≡ declaredAt s claims → u ≡ closing t d → u ≡ totalsOfLog base (a .log)
+  totals-are : {t u : Totals} {d : Declared} {slice' : List ℕ} → Weighs R s slice t slice' → d ≡ declaredAt R s claims → u ≡ closing t d → u ≡ totalsOfLog R (a .log)
   unfolding totalsOfLog totals
   totals-are w e f =
       f
       ∙ (λ i. closing (w .totals i) ((e ∙ claims-are) i))
-      ∙ closed-totals (declaredAt s (claimsStart (a .log))) (recordsOf base s) (verdicts base (recordsOf base s)) (length-verdicts base (recordsOf base s))
-      ∙ (λ i. totalsOf (declared-are i) (records-are a i) (verdicts base (records-are a i)))
+      ∙ closed-totals (declaredAt R s (claimsStart (a .log))) (recordsOf R s) (verdicts R (recordsOf R s)) (length-verdicts R (recordsOf R s))
+      ∙ (λ i. totalsOf (declared-are i) (records-are a i) (verdicts R (records-are a i)))
 
-  pub done : {t u : Totals} {d : Declared} {slice' : List ℕ} → Weighs base s slice t slice' → d ≡ declaredAt s claims → u ≡ closing t d → Weighed.Done u records first claims ≡ weighedOf base (length slice) s
+  pub done : {t u : Totals} {d : Declared} {slice' : List ℕ} → Weighs R s slice t slice' → d ≡ declaredAt R s claims → u ≡ closing t d → Weighed.Done u records first claims ≡ weighedOf R (length slice) s
   unfolding weighedOf weighedBy judge judgeReading judgeLog recordsOfReading
   done w e f =
       rw (a .isRead, enough a slice h) (λ i. Weighed.Done (totals-are w e f i) (a .count i) (a .place i) (a .claiming i))
