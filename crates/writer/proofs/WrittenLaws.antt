@@ -1,17 +1,17 @@
 -- Laws of texts that are laid over a list: one behind the other, and one place at a time.
 -- Assumes nothing.
 use Prim.Native.Nat.{ℕ, suc, _+_, _-_, _/_, _%_, _^_, _≤_, _<_}
-use mathlib.Core.Path.{_≡_, sym, ap, _∙_}
-use mathlib.Core.Logic.{⊎-elim}
-use mathlib.Core.List.{List, [], _∷_, _++_, append-assoc, append-nil}
-use native.Mathlib.Numerals.{add-one}
 use native.Mathlib.Nat.{add-zero}
+use native.Mathlib.Numerals.{add-one}
 use native.Mathlib.Omega.{arith}
+use mathlib.Core.List.{List, [], _∷_, _++_, append-assoc, append-nil}
+use mathlib.Core.Logic.{⊎-elim}
+use mathlib.Core.Path.{_≡_, sym, ap, subst, _∙_}
 use lib.ListN.{length, take, drop, getD, set, length-append, length-drop, take-append-drop}
 use lib.Seq.{length-take-le, take-at, drop-at, drop-drop, set-split, take-set-le, take-suc, getD-drop}
-use Rattle.rules.specs.Text.{Text, digits}
+use Rattle.reader.specs.Contact.{between}
 use Rattle.rules.proofs.NumberLaws.{Small, Large, size, digits-small, digits-large, digits-length}
-use Rattle.places.specs.Places.{between}
+use Rattle.rules.specs.Text.{Text, digits}
 use Rattle.writer.specs.Written.{written, Puts}
 
 -- Nothing laid over a list leaves it as it was.
@@ -92,6 +92,15 @@ module _ {d e : List ℕ} {at r : ℕ} {t : Text} (p : Puts d at t e r) where
         list = n .list ∙ rw (p .list, k) (written-then d at t (p .fits) u);
         place = rw length-append (omega arith);
       }
+
+-- What was written may be said otherwise.
+pub puts-as : {d e : List ℕ} {at r : ℕ} {t u : Text} → Puts d at t e r → t ≡ u → Puts d at u e r
+puts-as {d} {e} {at} {r} p h = subst (λ (x : Text). Puts d at x e r) h p
+
+-- Nothing was written.
+pub puts-nothing : {d : List ℕ} {at : ℕ} {t : Text} → t ≡ [] → at ≤ length d → Puts d at t d at
+puts-nothing {d} {at} e h =
+    puts-as (record { fits = omega arith; list = sym (written-nothing d at); place = sym (add-zero at) }) (sym e)
 
 -- # Digits
 
