@@ -18,7 +18,7 @@ use Rattle.rules.proofs.Passing.{same→equal}
 use Rattle.rules.proofs.TextLaws.{same-apart}
 use Rattle.fields.specs.Field.{inField, endOf}
 use Rattle.fields.proofs.FieldLaws.{Within}
-use Rattle.header.proofs.PartLaws.{end-by-span}
+use Rattle.fields.proofs.PartLaws.{end-by-span}
 use Rattle.reader.specs.Contact.{between}
 use Rattle.judge.specs.declared.Found.{Found}
 use Rattle.judge.specs.declared.Found.the-variants.{At, Nothing}

@@ -19,7 +19,7 @@ use Rattle.rules.specs.Judging.{classNumber, is, classOf, square, isNew, claims
 use Rattle.rules.proofs.Tests.{holds}
 use Rattle.rules.proofs.Classes.{is→equal}
 use Rattle.fields.specs.Field.{endOf}
-use Rattle.header.proofs.PartLaws.{end-by-span}
+use Rattle.fields.proofs.PartLaws.{end-by-span}
 use Rattle.reader.specs.Contact.{between}
 use Rattle.judge.specs.declared.Kept.{Kept}
 use Rattle.judge.specs.declared.Noted.{Noted}

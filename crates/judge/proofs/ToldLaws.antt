@@ -17,7 +17,7 @@ use Rattle.rules.proofs.Passing.{same→equal}
 use Rattle.rules.proofs.NumberLaws.{number-below}
 use Rattle.rules.proofs.ValidLogs.{rule-at, points-ruled}
 use Rattle.fields.specs.Field.{textAt, endOf}
-use Rattle.header.proofs.PartLaws.{end-by-span}
+use Rattle.fields.proofs.PartLaws.{end-by-span}
 use Rattle.reader.specs.declared.Contact.{Contact}
 use Rattle.reader.specs.Contact.{fieldStart, valueBy, lastEnd, contactAt, behind, between}
 use Rattle.reader.proofs.PlaceLaws.{start-more, start-next, starts-rise, held-within}

@@ -7,7 +7,7 @@ use denote.Ref.{now}
 use Rattle.rules.specs.Text.{same}
 use Rattle.rules.specs.Fields.{newMark}
 use Rattle.fields.specs.Field.{textAt, endOf}
-use Rattle.header.proofs.PartLaws.{end-by-span}
+use Rattle.fields.proofs.PartLaws.{end-by-span}
 use Rattle.reader.specs.Contact.{fieldStart}
 use Rattle.reader.proofs.PlaceLaws.{no-new, new-by-byte}
 use Rattle.judge.proofs.ToldLaws.{three-inside, two-on}

@@ -5,7 +5,7 @@ use lib.ListN.{length}
 use borrow.Author.Needs.{needs}
 use denote.Ref.{now}
 use Rattle.fields.specs.Field.{endOf}
-use Rattle.header.proofs.PartLaws.{end-by-span}
+use Rattle.fields.proofs.PartLaws.{end-by-span}
 use Rattle.judge.specs.Parts.{keptTexts}
 use Rattle.judge.proofs.PartLaws.{part-by, part-keyed}
 use Rattle.judge.proofs.StepLaws.{noted-error, noted-other}

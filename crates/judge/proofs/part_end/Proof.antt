@@ -8,7 +8,7 @@ use borrow.Author.Tests.{eq-eqb, ne-eqb}
 use denote.Ref.{now}
 use Rattle.fields.specs.Field.{inField}
 use Rattle.fields.proofs.FieldLaws.{Within, run-starts, run-more, run-stops}
-use Rattle.header.proofs.PartLaws.{end-by-span}
+use Rattle.fields.proofs.PartLaws.{end-by-span}
 use Rattle.judge.proofs.PartLaws.{run-inside}
 use Rattle.judge.proofs.part_end.Statement.{statement}
 use Rattle.judge.proofs.part_end.Tie as tie
