@@ -74,7 +74,7 @@ all-listed R s first n place list {list' = list'} e f h =
     let size : length places ≡ n = length-map (contactsAt R s first n) place ∙ length-contacts R s first n in
     let whole : take (length list) places ≡ places = take-all (length list) places (omega arith) in
     let is : list' ≡ places ++ drop (length places) list =
-        f ∙ ap (λ (x : List Contact). over (take (length list) (map place x)) list) e ∙ ap (λ (x : List ℕ). over x list) whole in
+    f ∙ ap (λ (x : List Contact). over (take (length list) (map place x)) list) e ∙ ap (λ (x : List ℕ). over x list) whole in
     record {
       long = omega (arith, ap length is, length-append places (drop (length places) list), length-drop (length places) list);
       places = ap (take n) is ∙ ap (λ (k : ℕ). take k (places ++ drop (length places) list)) (sym size) ∙ take-append-seam places (drop (length places) list);

@@ -155,7 +155,6 @@ module _ (s : Text) (places keys : List ℕ) (t : Text) where
   pub kept-none : (m : ℕ) → seek s places keys t m 0 ≡ Nothing → false ≡ among (keptTexts s places keys m) t
   kept-none m e = sym (ap isAt e) ∙ seek-among m
 
-
   -- Indexes at which another key stands are passed over.
   pub seek-over : (a m : ℕ) (i j : ℕ) → Lying s places keys m → Keyed s a (getD keys m 0) → t ≡ partBy s a (getD keys m 0) → i ≤ j → j ≤ m → ((x : ℕ) → i ≤ x → x < j → getD keys x 0 ≡ getD keys m 0 → ⊥) → seek s places keys t (m - i) i ≡ seek s places keys t (m - j) j
   seek-over a m i j l q e h k none = by (j - i) i (omega arith) none

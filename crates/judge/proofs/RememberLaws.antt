@@ -99,7 +99,7 @@ module _ (R : Rules) (s : Text) (p : Noted) (q : Qso) (told : Told R s p q) (m :
   class-is home =
       let error : same (callNoted s p) errorCall ≡ isError q = ap (λ (t : Text). same t errorCall) (call-is told) in
       let repeats : among (m .calls) (callNoted s p) ≡ some (λ e. sameCall R (e .call) (q .call)) credited =
-          ap (among (m .calls)) (call-is told ∙ sym (home (q .call))) ∙ r .calls (R .home (q .call)) in
+      ap (among (m .calls)) (call-is told ∙ sym (home (q .call))) ∙ r .calls (R .home (q .call)) in
       (λ i. classBy (error i) (repeats i) (claims-is told i)) ∙ class-said R credited q
 
   -- What is new.

@@ -98,10 +98,10 @@ number-tells t u h k e =
     let p = square-codes t h in
     let q = square-codes u k in
     let z =
-        digits-tell (getD t 0 0 - 65) (getD t 1 0 - 65) (getD t 2 0 - 48) (getD t 3 0 - 48) (getD u 0 0 - 65) (getD u 1 0 - 65) (getD u 2 0 - 48) (getD u 3 0 - 48)
-        (above 65 82 (getD t 1 0) (p .b-high)) (above 65 82 (getD u 1 0) (q .b-high))
-        (above 48 57 (getD t 2 0) (p .c-high)) (above 48 57 (getD u 2 0) (q .c-high))
-        (above 48 57 (getD t 3 0) (p .d-high)) (above 48 57 (getD u 3 0) (q .d-high)) e in
+    digits-tell (getD t 0 0 - 65) (getD t 1 0 - 65) (getD t 2 0 - 48) (getD t 3 0 - 48) (getD u 0 0 - 65) (getD u 1 0 - 65) (getD u 2 0 - 48) (getD u 3 0 - 48)
+    (above 65 82 (getD t 1 0) (p .b-high)) (above 65 82 (getD u 1 0) (q .b-high))
+    (above 48 57 (getD t 2 0) (p .c-high)) (above 48 57 (getD u 2 0) (q .c-high))
+    (above 48 57 (getD t 3 0) (p .d-high)) (above 48 57 (getD u 3 0) (q .d-high)) e in
     let ea = back 65 (getD t 0 0) (getD u 0 0) (p .a-low) (q .a-low) (z .0) in
     let eb = back 65 (getD t 1 0) (getD u 1 0) (p .b-low) (q .b-low) (z .1) in
     let ec = back 48 (getD t 2 0) (getD u 2 0) (p .c-low) (q .c-low) (z .2) in

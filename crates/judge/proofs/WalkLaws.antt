@@ -66,11 +66,11 @@ noting-kept : (R : Rules) (s : Text) (place : Contact → ℕ) (at k m i : ℕ) 
 noting-kept R s place at k m i list list' h e n =
     let there : m + 1 + (i - m) ≡ i + 1 = omega arith in
     let same : drop (i + 1) list' ≡ drop (i + 1) list =
-        ap (λ (x : ℕ). drop x list') (sym there)
-        ∙ sym (drop-drop (i - m) (m + 1) list')
-        ∙ ap (drop (i - m)) e
-        ∙ drop-drop (i - m) (m + 1) list
-        ∙ ap (λ (x : ℕ). drop x list) there in
+    ap (λ (x : ℕ). drop x list') (sym there)
+    ∙ sym (drop-drop (i - m) (m + 1) list')
+    ∙ ap (drop (i - m)) e
+    ∙ drop-drop (i - m) (m + 1) list
+    ∙ ap (λ (x : ℕ). drop x list) there in
     ap (take k) same ∙ n
 
 -- # The slice

@@ -251,13 +251,7 @@ fn wide(x: u16) -> usize
 
 // The first of the m parts kept that is the same as the part at a place, whose key stands behind the m keys. Parts whose keys differ are passed
 // over.
-fn find(
-    s: &[u8],
-    places: &[u16],
-    keys: &[u16],
-    m: usize,
-    place: usize,
-) -> Found
+fn find(s: &[u8], places: &[u16], keys: &[u16], m: usize, place: usize) -> Found
     requires { ⌜ Lying (now s) (now places) (now keys) m × Keyed (now s) place (getD (now keys) m 0) ⌝ }
     ensures { λ r. ⌜ r ≡ seek (now (s .entry)) (now (places .entry)) (now (keys .entry)) (partBy (now (s .entry)) place (getD (now (keys .entry)) m 0)) m 0 ⌝ }
 {
@@ -281,13 +275,7 @@ fn find(
 }
 
 // The part at a place is the same as one of the m parts kept; its key stands behind the m keys.
-fn is_kept(
-    s: &[u8],
-    places: &[u16],
-    keys: &[u16],
-    m: usize,
-    place: usize,
-) -> bool
+fn is_kept(s: &[u8], places: &[u16], keys: &[u16], m: usize, place: usize) -> bool
     requires { ⌜ Lying (now s) (now places) (now keys) m × Keyed (now s) place (getD (now keys) m 0) ⌝ }
     ensures { λ r. ⌜ r ≡ among (keptTexts (now (s .entry)) (now (places .entry)) (now (keys .entry)) m) (partBy (now (s .entry)) place (getD (now (keys .entry)) m 0)) ⌝ }
 {
@@ -308,14 +296,7 @@ fn one_if(yes: bool) -> usize
 }
 
 // A part is looked for among the m that are kept, and kept behind them if it is there and new.
-fn new_part(
-    s: &[u8],
-    places: &mut [u16],
-    keys: &mut [u16],
-    m: usize,
-    a: usize,
-    e: usize,
-) -> bool
+fn new_part(s: &[u8], places: &mut [u16], keys: &mut [u16], m: usize, a: usize, e: usize) -> bool
     requires { ⌜ Lying (now s) (now places) (now keys) m × (m < length (now places)) × (m + 1 < length (now keys)) ⌝ }
     requires { ⌜ (a ≤ e) × (e ≤ length (now s)) × (e ≤ a + 15) × (a < 65_536) ⌝ }
     ensures { λ r. ⌜ NewPart (now (s .entry)) (now (places .entry)) (now (keys .entry)) m a e r (now (places .exit)) (now (keys .exit)) ⌝ }
@@ -369,14 +350,7 @@ struct Step {
 }
 
 // The class of a record, after those whose calls are kept. Where its call ends is known, and the call's key stands behind the others.
-fn class_of(
-    s: &[u8],
-    p: Noted,
-    end: usize,
-    calls: &[u16],
-    keys: &[u16],
-    m: usize,
-) -> Class
+fn class_of(s: &[u8], p: Noted, end: usize, calls: &[u16], keys: &[u16], m: usize) -> Class
     requires { ⌜ Classed (now s) p end (now calls) (now keys) m ⌝ }
     ensures { λ r. ⌜ r ≡ classNoted (keptTexts (now (s .entry)) (now (calls .entry)) (now (keys .entry)) m) (now (s .entry)) p ⌝ }
 {

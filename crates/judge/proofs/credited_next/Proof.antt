@@ -42,9 +42,10 @@ new-part-requires c κs =
     let ended = c .before .before in
     let start = begun ended in
     let told = start .pre .told in
-    let end = ended .part-end .ensures in
-    ((start .pre .exchangesLie, start .pre .exchangeRoom, start .pre .exchangeKeyRoom),
-    (omega (arith, end, exchange-from told), omega (arith, end, exchange-inside told), omega (arith, end, exchange-size told, exchange-short), start .pre .exchangeShort))
+    let end = ended .part-end .ensures in (
+      (start .pre .exchangesLie, start .pre .exchangeRoom, start .pre .exchangeKeyRoom),
+      (omega (arith, end, exchange-from told), omega (arith, end, exchange-inside told), omega (arith, end, exchange-size told, exchange-short), start .pre .exchangeShort),
+    )
 
 add-new-square : tie.Need-add-new-square
 add-new-square c = let ended = parted (lent c) in omega (arith, ended .part-end .ensures, exchange-inside (begun ended .pre .told))
@@ -57,11 +58,12 @@ new-square-requires c κs =
     let ended = parted (lent (c .before)) in
     let first = begun ended in
     let told = first .pre .told in
-    let end = ended .part-end .ensures in
-    (omega (arith, first .pre .squareRoom),
-    omega (arith, end, locator-inside told),
-    locator-inside told .1,
-    ap (λ (n : ℕ). emptyOr locator (between (now (first .args .s)) (n + 1) (first .args .p .points - 1))) end ∙ ap (emptyOr locator) (locator-is told) ∙ locator-ruled told)
+    let end = ended .part-end .ensures in (
+      omega (arith, first .pre .squareRoom),
+      omega (arith, end, locator-inside told),
+      locator-inside told .1,
+      ap (λ (n : ℕ). emptyOr locator (between (now (first .args .s)) (n + 1) (first .args .p .points - 1))) end ∙ ap (emptyOr locator) (locator-is told) ∙ locator-ruled told,
+    )
 
 claims-country-requires : tie.Need-claims-country-requires
 claims-country-requires c κs = country-inside (begun (parted (squared (c .before .before))) .pre .told)

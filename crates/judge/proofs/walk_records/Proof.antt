@@ -97,7 +97,7 @@ unfolding base
 slice-aggregate-judge-next-3 c = sym (looped (wides (lent c)) .loop .inv .0 .squaresLong)
 
 judge-next-requires : tie.Need-judge-next-requires Inv-loop μ-loop
-judge-next-requires c κs = 
+judge-next-requires c κs =
     let four = lent c in
     let one = wides four in
     let at = looped one in
@@ -106,7 +106,7 @@ judge-next-requires c κs =
     ready (start at .pre) (at .loop .inv .0) (one .before .before .loop-test .taken) (one .wide .ensures .0) (two .wide2 .ensures .0) (three .wide3 .ensures .0) (four .wide4 .ensures .0) (one .wide .ensures .1) (two .wide2 .ensures .1)
 
 counted-requires : tie.Need-counted-requires Inv-loop μ-loop
-counted-requires c κs = 
+counted-requires c κs =
     let back = c .before .before .before in
     let step = back .before .before .before .before .before .before in
     let four = lent (step .before) in
@@ -120,7 +120,7 @@ verdict-number-requires : tie.Need-verdict-number-requires Inv-loop μ-loop
 verdict-number-requires c κs = search needs
 
 slice-write-verdicts : tie.Need-slice-write-verdicts Inv-loop μ-loop
-slice-write-verdicts c = 
+slice-write-verdicts c =
     let back = c .before .before .before .before .before in
     let step = back .before .before .before .before .before .before in
     let one = wides (lent (step .before)) in
@@ -128,21 +128,21 @@ slice-write-verdicts c =
 
 add-i : tie.Need-add-i Inv-loop μ-loop
 unfolding base
-add-i c = 
+add-i c =
     let back = c .before .before .before .before .before in
     let step = back .before .before .before .before .before .before in
     let one = wides (lent (step .before)) in
     omega (arith, start (looped one) .pre .few, one .before .before .loop-test .taken)
 
 loop-less : tie.Need-loop-less Inv-loop μ-loop
-loop-less c = 
+loop-less c =
     let back = c .before .before .before .before .before in
     let step = back .before .before .before .before .before .before in
     let one = wides (lent (step .before)) in
     omega (arith, one .before .before .loop-test .taken)
 
 loop-again : tie.Need-loop-again Inv-loop μ-loop
-loop-again c = 
+loop-again c =
     let back = c .before .before .before .before .before in
     let step = back .before .before .before .before .before .before in
     let four = lent (step .before) in
@@ -151,10 +151,11 @@ loop-again c =
     let two = four .before .before .before .before in
     let three = four .before .before in
     let kept = step .judge-next .kept .1 .1 .1 in
-    let inv = at .loop .inv in
-    (walks-on (start at .pre) (at .loop .inv .0) (one .before .before .loop-test .taken) (one .wide .ensures .0) (two .wide2 .ensures .0) (three .wide3 .ensures .0) (four .wide4 .ensures .0) (step .judge-next .ensures) (c .before .counted .ensures) (c .verdict-number .ensures) (kept .0) (kept .1 .0) (kept .1 .1 .0) (kept .1 .1 .1 .0) (kept .1 .1 .1 .1 .0),
-    kept .0 ∙ inv .1,
-    kept .1 .1 .0 ∙ inv .2)
+    let inv = at .loop .inv in (
+      walks-on (start at .pre) (at .loop .inv .0) (one .before .before .loop-test .taken) (one .wide .ensures .0) (two .wide2 .ensures .0) (three .wide3 .ensures .0) (four .wide4 .ensures .0) (step .judge-next .ensures) (c .before .counted .ensures) (c .verdict-number .ensures) (kept .0) (kept .1 .0) (kept .1 .1 .0) (kept .1 .1 .1 .0) (kept .1 .1 .1 .1 .0),
+      kept .0 ∙ inv .1,
+      kept .1 .1 .0 ∙ inv .2,
+    )
 
 same-length : tie.Need-same-length Inv-loop μ-loop
 same-length c = c .before .loop .inv .0 .size

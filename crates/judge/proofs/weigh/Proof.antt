@@ -50,14 +50,15 @@ weigh-accepted-requires c κs =
     let survey = surveyed .survey .ensures in
     let accept : Accepts base s (answer .records .given .0 .0) (answer .records .given .0 .1 .0) (answer .records .given .0 .1 .1 .0) = accepts base s (sym (survey .0) ∙ answer .records .given .1) in
     let contacts = contacts-are accept (contacts-accepted base s (accept .log) (accept .isRead)) in
-    let few = few-records accept in
-    (accept,
-    record {
-      callsListed = all-listed base s _ _ (λ c. c .call) (replicate (base .mostRecords) 0) contacts (survey .1 .0) few;
-      exchangesListed = all-listed base s _ _ (λ c. c .exchange) (replicate (base .mostRecords) 0) contacts (survey .1 .1 .0) few;
-      pointsListed = all-listed base s _ _ (λ c. c .points) (now (start .args .points)) contacts (survey .1 .1 .1 .0) (omega arith);
-      endsListed = all-listed base s _ _ (λ c. c .pointsend) (now (start .args .pointsends)) contacts (survey .1 .1 .1 .1 .0) (omega arith);
-    })
+    let few = few-records accept in (
+      accept,
+      record {
+        callsListed = all-listed base s _ _ (λ c. c .call) (replicate (base .mostRecords) 0) contacts (survey .1 .0) few;
+        exchangesListed = all-listed base s _ _ (λ c. c .exchange) (replicate (base .mostRecords) 0) contacts (survey .1 .1 .0) few;
+        pointsListed = all-listed base s _ _ (λ c. c .points) (now (start .args .points)) contacts (survey .1 .1 .1 .0) (omega arith);
+        endsListed = all-listed base s _ _ (λ c. c .pointsend) (now (start .args .pointsends)) contacts (survey .1 .1 .1 .1 .0) (omega arith);
+      },
+    )
 
 enum-known-r : tie.Need-enum-known-r
 enum-known-r c = search needs
