@@ -43,10 +43,9 @@ use Rattle.judge.proofs.CountLaws.{closed-totals}
 -- # What is declared
 
 -- What is declared keeps its rules, whatever the log.
-declared-small : (s : Text) (claims : ℕ) → Small base (declaredAt base s claims)
-unfolding base
-declared-small s claims =
-    let d = declared-below s claims in
+declared-small : (R : Rules) (s : Text) (claims : ℕ) → Small R (declaredAt R s claims)
+declared-small R s claims =
+    let d = declared-below R s claims in
     record {
       squarebonus = d .squarebonus;
       squaremultiplier = d .squaremultiplier;
@@ -57,7 +56,7 @@ declared-small s claims =
     }
 
 pub closable : {s : Text} (claims : ℕ) {slice slice' : List ℕ} {t : Totals} {d : Declared} → Weighs base s slice t slice' → d ≡ declaredAt base s claims → Closable base t d
-closable {s = s} claims w e = record { few = w .few; small = rw e (declared-small s claims) }
+closable {s = s} claims w e = record { few = w .few; small = rw e (declared-small base s claims) }
 
 -- # The lists
 

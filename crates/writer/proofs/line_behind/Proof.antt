@@ -5,7 +5,7 @@ use native.Mathlib.Omega.{arith}
 use mathlib.Core.Path.{ap}
 use borrow.Author.Needs.{needs}
 use denote.Ref.{now}
-use Rattle.places.proofs.PlaceLaws.{run-within}
+use Rattle.reader.proofs.PlaceLaws.{run-within}
 use Rattle.rules.specs.Text.{allowed}
 use Rattle.writer.specs.ClaimsText.{lineBehind}
 use Rattle.writer.proofs.line_behind.Statement.{statement}
