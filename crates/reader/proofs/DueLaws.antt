@@ -173,25 +173,25 @@ start-length : length countStart ≡ 12
 unfolding countStart
 start-length = refl
 
-remark-law : (line : Text) → step base Due.Remark line ≡ cond (begins countStart line) (countRule base (drop (length countStart) line)) (Next.Goes Due.Remark)
+remark-law : (R : Rules) (line : Text) → step R Due.Remark line ≡ cond (begins countStart line) (countRule R (drop (length countStart) line)) (Next.Goes Due.Remark)
 unfolding step
-remark-law line = refl
+remark-law R line = refl
 
-module _ (line : Text) where
+module _ (R : Rules) (line : Text) where
   pub count-long : begins countStart line ≡ true → 12 ≤ length line
   count-long e = omega (arith, start-length, begins-long countStart line e)
 
-  pub count-line : {r : Next} → begins countStart line ≡ true → r ≡ countRule base (take (length line - 12) (drop 12 line)) → r ≡ step base Due.Remark line
+  pub count-line : {r : Next} → begins countStart line ≡ true → r ≡ countRule R (take (length line - 12) (drop 12 line)) → r ≡ step R Due.Remark line
   count-line e q =
       q
-      ∙ ap (countRule base) (behind 12 line)
-      ∙ ap (λ (n : ℕ). countRule base (drop n line)) (sym start-length)
-      ∙ ap (λ (b : Bool). cond b (countRule base (drop (length countStart) line)) (Next.Goes Due.Remark)) (sym e)
-      ∙ sym (remark-law line)
+      ∙ ap (countRule R) (behind 12 line)
+      ∙ ap (λ (n : ℕ). countRule R (drop n line)) (sym start-length)
+      ∙ ap (λ (b : Bool). cond b (countRule R (drop (length countStart) line)) (Next.Goes Due.Remark)) (sym e)
+      ∙ sym (remark-law R line)
 
-  pub a-remark : begins countStart line ≡ false → Next.Goes Due.Remark ≡ step base Due.Remark line
+  pub a-remark : begins countStart line ≡ false → Next.Goes Due.Remark ≡ step R Due.Remark line
   a-remark e =
-      ap (λ (b : Bool). cond b (countRule base (drop (length countStart) line)) (Next.Goes Due.Remark)) (sym e) ∙ sym (remark-law line)
+      ap (λ (b : Bool). cond b (countRule R (drop (length countStart) line)) (Next.Goes Due.Remark)) (sym e) ∙ sym (remark-law R line)
 
 -- What is told of a record says whether it keeps its rules.
 pub kept-told : (c : Contact) (r : RecordRule) {d : Contact} → toldBy c r ≡ RecordRead.Kept d → r ≡ keeps
@@ -233,22 +233,22 @@ module _ (R : Rules) (n : ℕ) (line : Text) where
       ap (λ (k : ℕ). Next.Stops k field) (q .0) ∙ sym (record-law ∙ ap (afterRecord n) (q .1))
 
 -- The step goes by what is due.
-module _ (due : Due) (line : Text) {r : Next} where
-  pub at-identifier : due ≡ Due.Identifier → r ≡ whole identifier line (Due.Keyword 0) → r ≡ step base due line
+module _ (R : Rules) (due : Due) (line : Text) {r : Next} where
+  pub at-identifier : due ≡ Due.Identifier → r ≡ whole identifier line (Due.Keyword 0) → r ≡ step R due line
   unfolding step
-  at-identifier e q = q ∙ ap (λ (d : Due). step base d line) (sym e)
+  at-identifier e q = q ∙ ap (λ (d : Due). step R d line) (sym e)
 
-  pub at-keyword : {k : ℕ} → due ≡ Due.Keyword k → r ≡ keywordDue base (drop k entries) k line → r ≡ step base due line
+  pub at-keyword : {k : ℕ} → due ≡ Due.Keyword k → r ≡ keywordDue R (drop k entries) k line → r ≡ step R due line
   unfolding step
-  at-keyword e q = q ∙ ap (λ (d : Due). step base d line) (sym e)
+  at-keyword e q = q ∙ ap (λ (d : Due). step R d line) (sym e)
 
-  pub at-remarks : due ≡ Due.Remarks → r ≡ whole remarksLine line Due.Remark → r ≡ step base due line
+  pub at-remarks : due ≡ Due.Remarks → r ≡ whole remarksLine line Due.Remark → r ≡ step R due line
   unfolding step
-  at-remarks e q = q ∙ ap (λ (d : Due). step base d line) (sym e)
+  at-remarks e q = q ∙ ap (λ (d : Due). step R d line) (sym e)
 
-  pub at-due : {d : Due} → due ≡ d → r ≡ step base d line → r ≡ step base due line
-  at-due e q = q ∙ ap (λ (x : Due). step base x line) (sym e)
+  pub at-due : {d : Due} → due ≡ d → r ≡ step R d line → r ≡ step R due line
+  at-due e q = q ∙ ap (λ (x : Due). step R x line) (sym e)
 
-pub at-end : (due : Due) (line : Text) → due ≡ Due.End → Next.Stops 6 0 ≡ step base due line
+pub at-end : (R : Rules) (due : Due) (line : Text) → due ≡ Due.End → Next.Stops 6 0 ≡ step R due line
 unfolding step
-at-end due line e = ap (λ (d : Due). step base d line) (sym e)
+at-end R due line e = ap (λ (d : Due). step R d line) (sym e)

@@ -15,7 +15,7 @@ use Rattle.rules.proofs.NumberLaws.{digits-value}
 use Rattle.fields.specs.declared.CallRead.{CallRead}
 use Rattle.fields.specs.declared.CallRead.the-variants as CallRead
 use Rattle.fields.specs.Field.{callAt, endOf, inField, textAt}
-use Rattle.fields.proofs.Picked.{Kept, call-picked, call-refused}
+use Rattle.fields.proofs.Picked.{call-picked, call-refused}
 use Rattle.figures.specs.declared.DateRead.{DateRead}
 use Rattle.figures.specs.declared.DateRead.the-variants as DateRead
 use Rattle.figures.specs.declared.NumberRead.{NumberRead}

@@ -1,6 +1,6 @@
 -- Laws of the walk over what stands in front of the records: from each place on it tells what is told of the head.
 -- Assumes nothing.
-use Prim.Native.Nat.{ℕ, zero, suc, _+_, _-_, _≤_, _<_}
+use Prim.Native.Nat.{ℕ, _+_, _-_, _≤_, _<_}
 use native.Mathlib.Omega.{arith}
 use mathlib.Core.Path.{_≡_, refl, sym, ap, _∙_}
 use mathlib.Core.Bool.{Bool, true, false, cond}
@@ -24,7 +24,7 @@ use Rattle.reader.specs.declared.LineRead.{LineRead}
 use Rattle.reader.specs.declared.LineRead.the-variants as LineRead
 use Rattle.reader.specs.Line.{lineAt}
 use Rattle.reader.specs.Read.{claimsBy, countedBy, early, headFrom, headOf}
-use Rattle.reader.proofs.LineLaws.{Stood, missed, stood}
+use Rattle.reader.proofs.LineLaws.{missed, stood}
 use Rattle.reader.proofs.ReadLaws.{Lie, first-lies, lines-by}
 use Rattle.reader.proofs.WholeLaws.{head-counts, head-further, head-of-law, head-stops}
 

@@ -2,18 +2,18 @@
 -- Assumes nothing.
 use Prim.Native.Nat.{ℕ, suc, _+_, _-_, _≤_, _<_}
 use native.Mathlib.Omega.{arith}
-use mathlib.Core.Path.{_≡_, refl, sym, ap, ap₂, subst, _∙_}
-use mathlib.Core.Bool.{Bool, true, false, cond, _&&_, and-true, true≢false}
+use mathlib.Core.Path.{_≡_, refl, sym, ap, ap₂, _∙_}
+use mathlib.Core.Bool.{Bool, true, false, cond, _&&_, true≢false}
 use mathlib.Core.List.{List, [], _∷_, _++_, append-assoc, append-nil}
-use lib.Dec.{T, eqb, ltb}
+use lib.Dec.{eqb, ltb}
 use lib.ListN.{length, take, drop, drop-of-length-le}
 use lib.Seq.{drop-append-seam, drop-drop}
 use borrow.Author.Tests.{eq-eqb, eqb-true, le-ltb, lt-ltb, ne-eqb}
-use Rattle.rules.specs.Text.{Text, all, begins, empty, joined, parts, same}
+use Rattle.rules.specs.Text.{Text, all, begins, joined, parts, same}
 use Rattle.rules.specs.Rules.{Rules, base}
 use Rattle.rules.specs.Fields.{Qso, duplicateMark, emptyOr, fieldRules, fieldsOf, qsoOf}
 use Rattle.rules.specs.Arguments.{every}
-use Rattle.rules.specs.Log.{conjunction, crlf, lineRule, recordLine}
+use Rattle.rules.specs.Log.{conjunction, crlf, recordLine}
 use Rattle.rules.specs.Reading.{FirstLine, RecordRule, aLine, breaks, firstBroken, firstLine, keeps, noLine, recordRule}
 use Rattle.rules.proofs.Tests.{and-i, and-l, and-r, holds, picked, so}
 use Rattle.rules.proofs.TextLaws.{begins-front, begins-split, joined-parts, parts-plain, plain}
@@ -31,7 +31,7 @@ use Rattle.reader.specs.declared.RecordRead.{RecordRead}
 use Rattle.reader.specs.declared.RecordRead.the-variants as RecordRead
 use Rattle.reader.specs.Record.{brokenAt, brokenFrom, dueAt, fieldsFrom, lineless, parsedAt, parsedBy, qsoAt, recordAt, recordOn, rulesAt, toldBy}
 use Rattle.reader.proofs.DueLaws.{kept-told}
-use Rattle.reader.proofs.LineLaws.{Stood, ends-within, missed, stood}
+use Rattle.reader.proofs.LineLaws.{ends-within, missed, stood}
 use Rattle.reader.proofs.PlaceLaws.{last-behind}
 use Rattle.reader.proofs.FieldsHeld.{fields-held, fields-joined, starts-held, starts-measured}
 

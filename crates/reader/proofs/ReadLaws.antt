@@ -3,7 +3,7 @@
 use Prim.Native.Nat.{ℕ, zero, suc, _+_, _-_, _≤_, _<_}
 use native.Mathlib.Omega.{arith}
 use mathlib.Core.Path.{_≡_, refl, sym, ap, ap₂, _∙_}
-use mathlib.Core.Bool.{Bool, true, false, cond}
+use mathlib.Core.Bool.{Bool, cond}
 use mathlib.Core.List.{List, [], _∷_, _++_, head-eq-of-cons-eq, tail-eq-of-cons-eq}
 use lib.Dec.{ltb}
 use lib.ListN.{length, drop, length-append, length-drop}
@@ -17,7 +17,7 @@ use Rattle.rules.specs.Text.{Text}
 use Rattle.rules.specs.Rules.{Rules}
 use Rattle.rules.specs.Log.{crlf}
 use Rattle.rules.specs.Reading.{FirstLine, Lines, Reading, RecordRule, aLine, accepted, afterRecord, atRest, breaks, firstLine, keeps, lines, noLine, onFirstLine, onNext, put, recordRule, recordsDue, refusal, refused, step, walk}
-use Rattle.rules.proofs.LineLaws.{first-is, lines-law}
+use Rattle.rules.proofs.LineLaws.{lines-law}
 use Rattle.reader.specs.declared.Contact.{Contact}
 use Rattle.reader.specs.declared.ReadAnswer.{ReadAnswer}
 use Rattle.reader.specs.declared.ReadAnswer.the-variants as ReadAnswer
@@ -132,10 +132,6 @@ module _ (R : Rules) (s : Text) (due : Due) (at : ℕ) (l : Text) (ls : List Tex
   pub noted-stops : {number field : ℕ} → step R due l ≡ Next.Stops number field → notedFrom R s due at (l ∷ ls) ≡ []
   unfolding notedNext
   noted-stops e = noted-law ∙ ap (notedNext (λ next. notedFrom R s next (at + length l + 2) ls) due (contactAt R s at)) e
-
-pub noted-none : (R : Rules) (s : Text) (due : Due) (at : ℕ) → notedFrom R s due at [] ≡ []
-unfolding notedFrom
-noted-none R s due at = refl
 
 step-kept : (R : Rules) (j : ℕ) (l : Text) → recordRule R l ≡ keeps → step R (Due.Record (suc j)) l ≡ Next.Goes (recordsDue j)
 unfolding step afterRecord

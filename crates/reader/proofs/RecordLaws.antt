@@ -10,7 +10,7 @@ use lib.ListN.{length, drop, getD}
 use Rattle.rules.specs.Text.{Text, bytes, empty, numberOf, same, value}
 use Rattle.rules.specs.Rules.{Rules}
 use Rattle.rules.specs.Fields.{call, dateRule, emptyOr, errorCall, exchange, fieldRules, isError, locator, mode, newMark, pointsRule, qsoOf, report, serial, timeOfDay}
-use Rattle.rules.specs.Reading.{breaks, firstBroken, keeps}
+use Rattle.rules.specs.Reading.{breaks, firstBroken}
 use Rattle.rules.proofs.Tests.{and-l}
 use Rattle.rules.proofs.TextLaws.{same-eq, same-of-eq}
 use Rattle.fields.specs.Field.{endOf, textAt}

@@ -1,7 +1,7 @@
 -- What stands in front of the records and then the records, told one after the other, are what reading says of the log as a whole, with where
 -- its records and its claims begin.
 -- Assumes nothing.
-use Prim.Native.Nat.{ℕ, zero, suc, _+_, _-_, _≤_, _<_}
+use Prim.Native.Nat.{ℕ, zero, suc, _+_, _-_, _≤_}
 use native.Mathlib.Omega.{arith}
 use mathlib.Core.Path.{_≡_, refl, sym, ap, ap₂, _∙_}
 use mathlib.Core.Logic.{_⊎_, inl, inr}
@@ -39,7 +39,7 @@ use Rattle.reader.specs.Noted.{contactsFrom, contactsRead, notedFrom, no
 use Rattle.reader.proofs.DueLaws.{entries-length}
 use Rattle.reader.proofs.StepLaws.{counted-due, goes-to}
 use Rattle.reader.proofs.ParseLaws.{took}
-use Rattle.reader.proofs.ReadLaws.{Late, Lie, first-lies, late, lateTold, next-kept, next-stops, noted-goes, noted-kept, noted-none, noted-stops, walk-goes, walk-stops}
+use Rattle.reader.proofs.ReadLaws.{Lie, first-lies, late, lateTold, next-kept, next-stops, noted-goes, noted-kept, noted-stops, walk-goes, walk-stops}
 use Rattle.reader.proofs.RecordsHeld.{recordsStart}
 
 -- What the head leads to: the answer, and the records that are noted.

@@ -1,11 +1,7 @@
 -- The count line behind its front, by its digits and what stands behind them.
 use borrow.Author.Needs.{needs}
 use native.Mathlib.Omega.{arith}
-use Prim.Native.Nat.{ℕ, _+_}
-use mathlib.Core.Path.{_≡_, sym, _∙_}
-use lib.ListN.{drop}
-use denote.Ref.{now}
-use Rattle.rules.specs.Text.{digit, span}
+use mathlib.Core.Path.{sym, _∙_}
 use Rattle.rules.specs.Rules.{base}
 use Rattle.reader.proofs.StepLaws.{count-cut, count-known, count-longer, count-no-number, count-unclosed, front-length}
 use Rattle.reader.proofs.count_step.Statement.{statement}

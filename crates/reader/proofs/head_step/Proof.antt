@@ -4,6 +4,7 @@ use mathlib.Core.Bool.{true≢false}
 use mathlib.Core.Path.{sym, ap, _∙_}
 use Rattle.reader.specs.Read.{early}
 use Rattle.rules.specs.Log.{identifier, remarksLine}
+use Rattle.rules.specs.Rules.{base}
 use Rattle.reader.proofs.DueLaws.{at-due, at-end, at-identifier, at-keyword, at-remarks}
 use Rattle.reader.proofs.head_step.Statement.{statement}
 use Rattle.reader.proofs.head_step.Tie as tie
@@ -46,23 +47,23 @@ enum-told-5 c = search needs
 
 returns : tie.Need-returns
 unfolding identifier
-returns c = at-identifier _ _ (c .before .before .enum-told .given .1) (c .whole-step .ensures)
+returns c = at-identifier base _ _ (c .before .before .enum-told .given .1) (c .whole-step .ensures)
 
 returns-2 : tie.Need-returns-2
-returns-2 c = at-keyword _ _ (c .before .before .due .given .1) (c .keyword-step .ensures)
+returns-2 c = at-keyword base _ _ (c .before .before .due .given .1) (c .keyword-step .ensures)
 
 returns-3 : tie.Need-returns-3
 unfolding remarksLine
-returns-3 c = at-remarks _ _ (c .before .before .enum-told2 .given .1) (c .whole-step2 .ensures)
+returns-3 c = at-remarks base _ _ (c .before .before .enum-told2 .given .1) (c .whole-step2 .ensures)
 
 returns-4 : tie.Need-returns-4
-returns-4 c = at-due _ _ (c .before .enum-told3 .given .1) (c .remark-step .ensures)
+returns-4 c = at-due base _ _ (c .before .enum-told3 .given .1) (c .remark-step .ensures)
 
 returns-5 : tie.Need-returns-5
 returns-5 c = absurd (true≢false (sym (c .before .before .before .pre) ∙ ap early (c .enum-told4 .given .1)))
 
 returns-6 : tie.Need-returns-6
-returns-6 c = at-end _ _ (c .enum-told5 .given .1)
+returns-6 c = at-end base _ _ (c .enum-told5 .given .1)
 
 pub head-step-spec : {M : Type 1} → statement M
 head-step-spec =

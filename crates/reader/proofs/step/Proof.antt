@@ -2,6 +2,7 @@
 use borrow.Author.Needs.{needs}
 use mathlib.Core.Path.{ap}
 use Rattle.reader.specs.Read.{early}
+use Rattle.rules.specs.Rules.{base}
 use Rattle.reader.proofs.DueLaws.{at-due, at-end}
 use Rattle.reader.proofs.step.Statement.{statement}
 use Rattle.reader.proofs.step.Tie as tie
@@ -40,10 +41,10 @@ head-step-requires-4 : tie.Need-head-step-requires-4
 head-step-requires-4 c κs = ap early (c .enum-told5 .given .1)
 
 returns : tie.Need-returns
-returns c = at-due _ _ (c .before .before .due .given .1) (c .record-step .ensures)
+returns c = at-due base _ _ (c .before .before .due .given .1) (c .record-step .ensures)
 
 returns-2 : tie.Need-returns-2
-returns-2 c = at-end _ _ (c .enum-told .given .1)
+returns-2 c = at-end base _ _ (c .enum-told .given .1)
 
 returns-3 : tie.Need-returns-3
 returns-3 c = c .head-step .ensures

@@ -1,6 +1,5 @@
 -- What the head leads to is told of the log: its refusal, or its records.
 use borrow.Author.Needs.{needs}
-use native.Mathlib.Omega.{arith}
 use mathlib.Core.Path.{_≡_, sym, _∙_}
 use denote.Ref.{now}
 use Rattle.reader.specs.Read.{headOf}
