@@ -15,7 +15,7 @@ use Rattle.rules.specs.Rules.{Rules}
 use Rattle.rules.specs.Arguments.{Entry, entries, anything}
 use Rattle.rules.specs.Log.{Log, argument}
 use Rattle.rules.specs.Reading.{Reading, accepted, refused, refusal, read}
-use Rattle.rules.specs.Answers.{Viewing, seen, unseen, viewOfReading, argumentStart, view, viewed}
+use Rattle.rules.specs.Answers.{Viewing, seen, unseen, viewOfReading, argumentStart, startOfView, view, viewed}
 use Rattle.rules.proofs.TextLaws.{span-short, take-its-length}
 use Rattle.reader.proofs.DueLaws.{entries-length}
 use Rattle.reader.specs.declared.ReadAnswer.{ReadAnswer}
@@ -203,3 +203,20 @@ module _ (R : Rules) (k : ℕ) (s : Text) where
 
   pub view-hides : {r : Refusal} → viewOf R k s ≡ ViewRead.Refused r → [] ≡ viewed (view R k s)
   view-hides q = hidden-by (view R k s) refl (sym told-law ∙ q)
+
+  -- Where it begins.
+  starts-by : (v : Viewing) {a n : ℕ} → view R k s ≡ v → viewTold v ≡ ViewRead.Seen a n → a ≡ startOfView (view R k s)
+  unfolding viewTold startOfView
+  starts-by (unseen r) e q = let z : _≡_ {A = ℕ} 0 1 = cc in absurd (omega arith)
+  starts-by (seen b t) {a} e q = let x : b ≡ a = cc in sym (ap startOfView e ∙ x)
+
+  none-starts-by : (v : Viewing) {r : Refusal} → view R k s ≡ v → viewTold v ≡ ViewRead.Refused r → 0 ≡ startOfView (view R k s)
+  unfolding viewTold startOfView
+  none-starts-by (unseen r) e q = sym (ap startOfView e)
+  none-starts-by (seen b t) e q = let z : _≡_ {A = ℕ} 0 1 = cc in absurd (omega arith)
+
+  pub view-starts : {a n : ℕ} → viewOf R k s ≡ ViewRead.Seen a n → a ≡ startOfView (view R k s)
+  view-starts q = starts-by (view R k s) refl (sym told-law ∙ q)
+
+  pub view-starts-nowhere : {r : Refusal} → viewOf R k s ≡ ViewRead.Refused r → 0 ≡ startOfView (view R k s)
+  view-starts-nowhere q = none-starts-by (view R k s) refl (sym told-law ∙ q)

@@ -9,7 +9,8 @@ ghost use Rattle.rules.specs.Fields.{errorCall, newMark};
 ghost use Rattle.rules.specs.Arguments.{part, bonus, multiplier};
 ghost use Rattle.fields.specs.Field.{textAt, endOf};
 ghost use Rattle.rules.specs.Rules.{base};
-ghost use Rattle.rules.specs.Answers.{view, viewed};
+ghost use Rattle.rules.specs.Answers.{startOfView, view, viewed};
+ghost use denote.Ref.{ptr};
 ghost use Rattle.places.specs.Places.{partSeen, viewOf};
 use reader::ReadAnswer;
 use rules::Refusal;
@@ -324,7 +325,9 @@ pub fn view(log: &[u8], k: usize) -> ViewRead
 
 // The part of the log that a view shows: nothing where there is none.
 pub fn viewed(log: &[u8], k: usize) -> &[u8]
-    ensures { λ r. ⌜ now r ≡ viewed (view base k (now (log .entry))) ⌝ }
+    ensures text { λ r. ⌜ now r ≡ viewed (view base k (now (log .entry))) ⌝ }
+    ensures block { λ r. ⌜ ptr r .0 ≡ ptr (log .entry) .0 ⌝ }
+    ensures place { λ r. ⌜ ptr r .1 ≡ ptr (log .entry) .1 + startOfView (view base k (now (log .entry))) ⌝ }
 {
     let seen = view(log, k);
     match seen {

@@ -1,3 +1,4 @@
+-- The laws of the reader, from lines to a log as a whole.
 pub mod LineLaws
 pub mod CountLaws
 pub mod StepLaws

@@ -19,10 +19,10 @@ abbrev μ-loop : tie.MeasureT-loop
 
 -- The text, its first place and the present one, behind each of the four characters.
 abbrev text2 : tie.Else2 Inv-loop μ-loop → Text
-text2 c = now (c .before .before .before .before .before .before .before .args .s)
+text2 c = let l = c .before .before .before .before in now (l .before .before .before .args .s)
 
 abbrev first2 : tie.Else2 Inv-loop μ-loop → ℕ
-first2 c = c .before .before .before .before .before .before .before .args .at
+first2 c = let l = c .before .before .before .before in l .before .before .before .args .at
 
 abbrev here2 : tie.Else2 Inv-loop μ-loop → ℕ
 here2 c = c .before .before .before .before .loop .i

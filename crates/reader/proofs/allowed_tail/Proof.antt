@@ -1,3 +1,4 @@
+-- The run of allowed characters goes on as long as they are.
 use borrow.Author.Needs.{needs}
 use Prim.Native.Nat.{_-_}
 use lib.ListN.{length}

@@ -1,6 +1,7 @@
+-- A keyword's line leads to the next keyword, or behind the last to the remarks.
+use borrow.Author.Needs.{needs}
 use mathlib.Core.Path.{sym, _∙_}
 use Rattle.reader.proofs.DueLaws.{keyword-differs, keyword-long, argument-broken, keyword-follows, remarks-follow}
-use borrow.Author.Needs.{needs}
 use Rattle.reader.proofs.keyword_step.Statement.{statement}
 use Rattle.reader.proofs.keyword_step.Tie as tie
 
@@ -43,11 +44,13 @@ add-t10 c = search needs
 
 returns-3 : tie.Need-returns-3
 returns-3 c =
-    keyword-follows _ _ (sym (c .before .before .before .before .before .before .before .keyword .ensures) ∙ c .before .before .before .before .before .enum-told .given .1) (sym (c .before .before .before .argument .ensures) ∙ c .before .enum-told3 .given .1) (c .if1 .taken)
+    let d = c .before .before .before .before .before in
+    keyword-follows _ _ (sym (d .before .before .keyword .ensures) ∙ d .enum-told .given .1) (sym (c .before .before .before .argument .ensures) ∙ c .before .enum-told3 .given .1) (c .if1 .taken)
 
 returns-4 : tie.Need-returns-4
 returns-4 c =
-    remarks-follow _ _ (sym (c .before .before .before .before .before .before .before .keyword .ensures) ∙ c .before .before .before .before .before .enum-told .given .1) (sym (c .before .before .before .argument .ensures) ∙ c .before .enum-told3 .given .1) (c .if1 .left)
+    let d = c .before .before .before .before .before in
+    remarks-follow _ _ (sym (d .before .before .keyword .ensures) ∙ d .enum-told .given .1) (sym (c .before .before .before .argument .ensures) ∙ c .before .enum-told3 .given .1) (c .if1 .left)
 
 pub keyword-step-spec : {M : Type 1} → statement M
 keyword-step-spec =

@@ -1,7 +1,8 @@
+-- A remark goes on, and the count line is read behind its front.
+use borrow.Author.Needs.{needs}
 use mathlib.Core.Path.{sym, _∙_}
 use Rattle.rules.specs.Log.{countStart}
 use Rattle.reader.proofs.DueLaws.{count-long, count-line, a-remark}
-use borrow.Author.Needs.{needs}
 use Rattle.reader.proofs.remark_step.Statement.{statement}
 use Rattle.reader.proofs.remark_step.Tie as tie
 

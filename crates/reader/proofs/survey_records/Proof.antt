@@ -1,7 +1,7 @@
 -- The records are read one after the other, and a place of each is noted in each list.
 use borrow.Author.Needs.{needs}
 use native.Mathlib.Omega.{arith}
-use Prim.Native.Nat.{_-_, _<_}
+use Prim.Native.Nat.{ℕ, _-_, _<_}
 use mathlib.Core.Path.{_≡_, sym, _∙_}
 use denote.Ref.{now}
 use Rattle.reader.specs.Record.{recordAt}
@@ -31,7 +31,10 @@ abbrev turn-of : tie.After-known-told2 Inv-loop μ-loop → tie.At-loop Inv-loop
 turn-of d = d .before .before .before .before .before
 
 abbrev text : tie.At-loop Inv-loop μ-loop → Text
-text l = now ((l .before) .before .before .before .before .before .before .args .log)
+text l = let m = l .before .before .before in now (m .before .before .before .before .args .log)
+
+abbrev count : tie.At-loop Inv-loop μ-loop → ℕ
+count l = let m = l .before .before .before in m .before .before .before .before .args .records
 
 abbrev arg2 : tie.After-note-arg2 Inv-loop μ-loop → tie.After-note-arg Inv-loop μ-loop
 arg2 c = c .before .before .before .before
@@ -67,7 +70,7 @@ took-it d = sym (d .before .before .before .record-at .ensures) ∙ d .before .t
 lies : (d : tie.After-known-told2 Inv-loop μ-loop) → Placed (text (turn-of d)) ((turn-of d) .loop .at) (d .before .told2 .given .0 .0)
 lies d = placed base _ _ (took-it d)
 
-room : (d : tie.After-known-told2 Inv-loop μ-loop) → (turn-of d) .loop .i < (turn-of d) .before .before .before .before .before .before .before .args .records
+room : (d : tie.After-known-told2 Inv-loop μ-loop) → (turn-of d) .loop .i < count (turn-of d)
 room d = d .before .before .before .before .loop-test .taken
 
 loop-holds : tie.Need-loop-holds Inv-loop μ-loop
