@@ -185,7 +185,7 @@ module _ (t : Totals) (worth : ℕ) (v : Verdict) where
       (ap (λ (n : ℕ). n + t .exchanges) ex)
       (ap (λ (n : ℕ). n + t .countries) ey)
 
-  module _ (h : Countable base t worth v) where
+  module _ {R : Rules} (h : Countable R t worth v) where
     -- A record that is not credited bears no mark.
     other-sums : {b c d : ℕ} → is Credited (v .class) ≡ false →
         b ≡ worthIf (is Void (v .class)) 1 + t .voids →

@@ -12,7 +12,7 @@ use Rattle.rules.specs.declared.Class.{Class}
 use Rattle.rules.specs.declared.Class.the-variants.{Credited}
 use Rattle.rules.specs.declared.Verdict.{Verdict}
 use Rattle.rules.specs.Text.{Text, same, value}
-use Rattle.rules.specs.Rules.{base}
+use Rattle.rules.specs.Rules.{Rules}
 use Rattle.rules.specs.Fields.{Qso, errorCall}
 use Rattle.rules.specs.Arguments.{among}
 use Rattle.rules.specs.Judging.{classNumber, is, classOf, square, isNew, claimsCountry, verdictOf, creditedAfter}
@@ -33,7 +33,7 @@ use Rattle.judge.proofs.SaidLaws.{verdict-said}
 use Rattle.judge.proofs.CountLaws.{worth-most}
 use Rattle.judge.proofs.PartLaws.{part-size, part-by, part-keyed, texts-key, texts-more, lying-key, lying-more}
 use Rattle.judge.proofs.ToldLaws.{call-inside, points-inside, worth-is, country-is}
-use Rattle.judge.proofs.RememberLaws.{home-base, class-is, exchange-new, square-new, remembers-credited}
+use Rattle.judge.proofs.RememberLaws.{class-is, exchange-new, square-new, remembers-credited}
 
 -- # A part that is looked for
 
@@ -131,20 +131,20 @@ credited-marks v e = λ i. record { class = e i; exchange = v .exchange; square 
 
 -- # A credited record
 
-pub credits : (s : Text) (p : Noted) (kept : Kept) (calls exchanges exchangeKeys squares : List ℕ) {v : Verdict} {x y z : Bool} {end w b d : ℕ} {exchanges' exchangeKeys' squares' : List ℕ} →
+pub credits : (R : Rules) (s : Text) (p : Noted) (kept : Kept) (calls exchanges exchangeKeys squares : List ℕ) {v : Verdict} {x y z : Bool} {end w b d : ℕ} {exchanges' exchangeKeys' squares' : List ℕ} →
     v ≡ verdictBy Credited x y z →
     end ≡ endOf s (p .exchange) →
     NewPart s exchanges exchangeKeys (kept .exchanges) (p .exchange) end x exchanges' exchangeKeys' →
     NewSquare squares (kept .squares) (take 4 (between s (end + 1) (p .points - 1))) y squares' →
     z ≡ countryNoted s p →
-    w ≡ worthNoted base s p →
+    w ≡ worthNoted R s p →
     b ≡ worthIf y 1 →
     d ≡ worthIf x 1 →
-    Credits base s p kept calls exchanges exchangeKeys squares
+    Credits R s p kept calls exchanges exchangeKeys squares
     (record { verdict = v; worth = w; kept = record { calls = kept .calls + 1; squares = b + kept .squares; exchanges = d + kept .exchanges } })
     (set calls (kept .calls) (p .call)) exchanges' exchangeKeys' squares'
 unfolding verdictBy is classNumber
-credits s p kept calls exchanges exchangeKeys squares ev ends part square ec ew eb ed =
+credits R s p kept calls exchanges exchangeKeys squares ev ends part square ec ew eb ed =
     let ex = ap (λ (u : Verdict). u .exchange) ev in
     let ey = ap (λ (u : Verdict). u .square) ev in
     record {
@@ -159,9 +159,9 @@ credits s p kept calls exchanges exchangeKeys squares ev ends part square ec ew 
       keptSquares = rw (eb, ey);
     }
 
--- # One record
+-- # One record, where the home part of a call is the call: then what is kept of a call is the call itself
 
-module _ (s : Text) (p : Noted) (kept : Kept) (calls callKeys exchanges exchangeKeys squares : List ℕ) (ready : Ready base s p kept calls callKeys exchanges exchangeKeys squares) {key : ℕ} (z : key ≡ keyOf (callNoted s p)) where
+module _ (R : Rules) (home : (t : Text) → R .home t ≡ t) (s : Text) (p : Noted) (kept : Kept) (calls callKeys exchanges exchangeKeys squares : List ℕ) (ready : Ready R s p kept calls callKeys exchanges exchangeKeys squares) {key : ℕ} (z : key ≡ keyOf (callNoted s p)) where
   abbrev m : ℕ
   m = kept .calls
 
@@ -197,29 +197,29 @@ module _ (s : Text) (p : Noted) (kept : Kept) (calls callKeys exchanges exchange
   before = memory s kept calls callKeys exchanges exchangeKeys squares
 
   module _ {class : Class} {n : ℕ} (e : class ≡ classNoted (keptTexts s calls keys m) s p) (k : n ≡ classNumber class) where
-    class-there : (q : Qso) (credited : List Qso) → Told base s p q → Remembers base before credited → class ≡ classOf base credited q
+    class-there : (q : Qso) (credited : List Qso) → Told R s p q → Remembers R before credited → class ≡ classOf R credited q
     unfolding memory
     class-there q credited told r =
-        e ∙ ap (λ (ts : List Text). classNoted ts s p) texts-same ∙ class-is base s p q told before credited r home-base
+        e ∙ ap (λ (ts : List Text). classNoted ts s p) texts-same ∙ class-is R s p q told before credited r home
 
     -- A record that is not credited.
     module _ (f : n ≡ 0 → ⊥) {v : Verdict} (w : v ≡ verdictBy class false false false) where
-      other-judged : (q : Qso) (credited : List Qso) → Told base s p q → Remembers base before credited → Judges base q credited (record { verdict = v; worth = 0; kept = kept }) (memory s kept calls keys exchanges exchangeKeys squares)
+      other-judged : (q : Qso) (credited : List Qso) → Told R s p q → Remembers R before credited → Judges R q credited (record { verdict = v; worth = 0; kept = kept }) (memory s kept calls keys exchanges exchangeKeys squares)
       unfolding memory verdictOf creditedAfter is
       other-judged q credited told r =
           let class' = class-there q credited told r in
-          let not-credited : is Credited (classOf base credited q) ≡ false = ne-eqb 0 (classNumber (classOf base credited q)) (λ x. f (k ∙ ap classNumber class' ∙ sym x)) in
+          let not-credited : is Credited (classOf R credited q) ≡ false = ne-eqb 0 (classNumber (classOf R credited q)) (λ x. f (k ∙ ap classNumber class' ∙ sym x)) in
           record {
             verdict =
                 w
                 ∙ ap (λ (x : Class). verdictBy x false false false) class'
-                ∙ no-marks (classOf base credited q) (isNew (λ x. x .exchange) credited q) (isNew square credited q) (claimsCountry q) not-credited
-                ∙ verdict-said base credited q;
+                ∙ no-marks (classOf R credited q) (isNew (λ x. x .exchange) credited q) (isNew square credited q) (claimsCountry q) not-credited
+                ∙ verdict-said R credited q;
             worth = rw not-credited;
             remembers = rw (not-credited, texts-same) r;
           }
 
-      pub steps-other : Steps base s p kept calls callKeys exchanges exchangeKeys squares (record { verdict = v; worth = 0; kept = kept }) calls keys exchanges exchangeKeys squares
+      pub steps-other : Steps R s p kept calls callKeys exchanges exchangeKeys squares (record { verdict = v; worth = 0; kept = kept }) calls keys exchanges exchangeKeys squares
       steps-other =
           record {
             judges = other-judged;
@@ -232,7 +232,7 @@ module _ (s : Text) (p : Noted) (kept : Kept) (calls callKeys exchanges exchange
           }
 
     -- A record that is credited.
-    module _ (f : n ≡ 0) {r : Step} {calls' exchanges' exchangeKeys' squares' : List ℕ} (c : Credits base s p kept calls exchanges exchangeKeys squares r calls' exchanges' exchangeKeys' squares') where
+    module _ (f : n ≡ 0) {r : Step} {calls' exchanges' exchangeKeys' squares' : List ℕ} (c : Credits R s p kept calls exchanges exchangeKeys squares r calls' exchanges' exchangeKeys' squares') where
       still : Lying s calls keys m
       still = lying-key s calls callKeys m lies key
 
@@ -245,23 +245,23 @@ module _ (s : Text) (p : Noted) (kept : Kept) (calls callKeys exchanges exchange
           ∙ texts-more s calls keys m still (p .call) (ready .callRoom)
           ∙ (λ i. part-by s (p .call) (endOf s (p .call)) from to there i ∷ texts-same i)
 
-      credited-judged : (q : Qso) (credited : List Qso) → Told base s p q → Remembers base before credited → Judges base q credited r (memory s (r .kept) calls' keys exchanges' exchangeKeys' squares')
+      credited-judged : (q : Qso) (credited : List Qso) → Told R s p q → Remembers R before credited → Judges R q credited r (memory s (r .kept) calls' keys exchanges' exchangeKeys' squares')
       unfolding memory verdictOf creditedAfter is
       credited-judged q credited told rem =
           let class' = class-there q credited told rem in
-          let is-credited : is Credited (classOf base credited q) ≡ true = eq-eqb 0 (classNumber (classOf base credited q)) (sym f ∙ k ∙ ap classNumber class') in
-          let credit : classOf base credited q ≡ Credited = is→equal Credited (classOf base credited q) (holds is-credited) in
-          let new : (r .verdict) .exchange ≡ isNew (λ x. x .exchange) credited q = c .exchange .isNew ∙ exchange-new base s p q told before credited rem in
-          let other : (r .verdict) .square ≡ isNew square credited q = c .square .isNew ∙ square-new base s p q told before credited rem in
+          let is-credited : is Credited (classOf R credited q) ≡ true = eq-eqb 0 (classNumber (classOf R credited q)) (sym f ∙ k ∙ ap classNumber class') in
+          let credit : classOf R credited q ≡ Credited = is→equal Credited (classOf R credited q) (holds is-credited) in
+          let new : (r .verdict) .exchange ≡ isNew (λ x. x .exchange) credited q = c .exchange .isNew ∙ exchange-new R s p q told before credited rem in
+          let other : (r .verdict) .square ≡ isNew square credited q = c .square .isNew ∙ square-new R s p q told before credited rem in
           record {
             verdict =
                 credited-marks (r .verdict) (c .class)
                 ∙ (λ i. verdictBy (sym credit i) (new i) (other i) ((c .country ∙ country-is told) i))
-                ∙ verdict-said base credited q;
+                ∙ verdict-said R credited q;
             worth = c .worth ∙ worth-is told ∙ ap (λ (b : Bool). worthIf b (value (q .points))) (sym is-credited);
             remembers =
                 rw is-credited
-                (remembers-credited base s p q told before credited rem home-base (memory s (r .kept) calls' keys exchanges' exchangeKeys' squares')
+                (remembers-credited R s p q told before credited rem home (memory s (r .kept) calls' keys exchanges' exchangeKeys' squares')
                 calls-kept
                 (ap (keptTexts s exchanges' exchangeKeys') (c .keptExchanges) ∙ c .exchange .texts)
                 (ap (keptNumbers squares') (c .keptSquares) ∙ c .square .numbers)
@@ -269,7 +269,7 @@ module _ (s : Text) (p : Noted) (kept : Kept) (calls callKeys exchanges exchange
                 other);
           }
 
-      pub steps-credited : Steps base s p kept calls callKeys exchanges exchangeKeys squares r calls' keys exchanges' exchangeKeys' squares'
+      pub steps-credited : Steps R s p kept calls callKeys exchanges exchangeKeys squares r calls' keys exchanges' exchangeKeys' squares'
       steps-credited =
           record {
             judges = credited-judged;

@@ -80,7 +80,7 @@ pub fn verdict_by(class: Class, exchange: bool, square: bool, country: bool) -> 
 }
 
 // What a mark adds to the number of a verdict.
-fn mark(set: bool, worth: u8) -> u8
+fn mark_number(set: bool, worth: u8) -> u8
     ensures { λ r. ⌜ r ≡ worthIf set worth ⌝ }
 {
     if set {
@@ -93,7 +93,10 @@ pub fn verdict_number(v: Verdict) -> u8
     ensures { λ r. ⌜ r ≡ verdictNumber v ⌝ }
 {
     let class = v.class;
-    class_number(class) + mark(v.exchange, 16) + mark(v.square, 32) + mark(v.country, 64)
+    class_number(class)
+        + mark_number(v.exchange, 16)
+        + mark_number(v.square, 32)
+        + mark_number(v.country, 64)
 }
 
 fn class_from(n: u8) -> Class
@@ -171,6 +174,7 @@ fn claims_country(s: &[u8], pointsend: usize) -> bool
     s[third] == 78
 }
 
+// The key that a length and two characters make.
 fn key_with(n: usize, last: u8, other: u8) -> u16
     requires { ⌜ n ≤ 15 ⌝ }
     ensures { λ r. ⌜ r ≡ n * 4096 + last % 64 * 64 + other % 64 ⌝ }
@@ -189,6 +193,7 @@ fn key_of(s: &[u8], a: usize, e: usize) -> u16
     key_with(e - a, s[e - 1], s[e - 2])
 }
 
+// The number that two letters and two digits make.
 fn square_with(a: u8, b: u8, c: u8, d: u8) -> u16
     requires { ⌜ (65 ≤ a) × (a ≤ 82) × (65 ≤ b) × (b ≤ 82) ⌝ }
     requires { ⌜ (48 ≤ c) × (c ≤ 57) × (48 ≤ d) × (d ≤ 57) ⌝ }
@@ -243,6 +248,7 @@ enum Found {
     Nothing,
 }
 
+// A place that is kept, as an index.
 fn wide(x: u16) -> usize
     ensures { λ r. ⌜ (r ≡ x) × (r < 65_536) ⌝ }
 {
@@ -442,7 +448,7 @@ fn credited_more(t: Totals, worth: u64, v: Verdict) -> Totals
 }
 
 // The totals after one more record: what it is worth, and what is said of it. The bonuses and the total wait for the last record.
-fn counted(t: Totals, worth: u64, v: Verdict) -> Totals
+fn add_record(t: Totals, worth: u64, v: Verdict) -> Totals
     requires { ⌜ Countable base t worth v ⌝ }
     ensures { λ r. ⌜ r ≡ addRecord t worth v ⌝ }
 {
@@ -554,7 +560,7 @@ fn walk_records(
         );
         let v = step.verdict;
         kept = step.kept;
-        totals = counted(totals, step.worth, v);
+        totals = add_record(totals, step.worth, v);
         verdicts[i] = verdict_number(v);
         i += 1;
     }

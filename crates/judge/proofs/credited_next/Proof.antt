@@ -4,6 +4,7 @@ use native.Mathlib.Omega.{arith}
 use mathlib.Core.Path.{ap, _∙_}
 use borrow.Author.Needs.{needs}
 use denote.Ref.{now}
+use Rattle.rules.specs.Rules.{base}
 use Rattle.rules.specs.Fields.{emptyOr, locator}
 use Rattle.reader.specs.Contact.{between}
 use Rattle.judge.proofs.CountLaws.{worth-most}
@@ -118,7 +119,7 @@ returns c =
     let square = claimed country in
     let part = squared square in
     let a = start country .args in
-    credits (now (a .s)) (a .p) (a .kept) (now (a .calls)) (now (a .exchanges)) (now (a .exchangekeys)) (now (a .squares)) (said .verdict-by .ensures) (parted part .part-end .ensures) (part .new-part .ensures) (square .new-square .ensures) (country .claims-country .ensures) (c .worth-at .ensures) (c .before .before .before .before .one-if .ensures) (c .before .before .one-if2 .ensures)
+    credits base (now (a .s)) (a .p) (a .kept) (now (a .calls)) (now (a .exchanges)) (now (a .exchangekeys)) (now (a .squares)) (said .verdict-by .ensures) (parted part .part-end .ensures) (part .new-part .ensures) (square .new-square .ensures) (country .claims-country .ensures) (c .worth-at .ensures) (c .before .before .before .before .one-if .ensures) (c .before .before .one-if2 .ensures)
 
 pub credited-next-spec : {M : Type 1} → statement M
 credited-next-spec =

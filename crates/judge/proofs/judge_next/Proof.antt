@@ -4,10 +4,12 @@ use native.Mathlib.Omega.{arith}
 use mathlib.Core.Path.{_≡_, ap, _∙_}
 use borrow.Author.Needs.{needs}
 use denote.Ref.{now}
+use Rattle.rules.specs.Rules.{base}
 use Rattle.reader.specs.Contact.{between}
 use Rattle.judge.specs.Parts.{keyOf}
 use Rattle.judge.specs.Step.{callNoted}
 use Rattle.judge.proofs.ToldLaws.{call-inside, call-size}
+use Rattle.judge.proofs.RememberLaws.{home-base}
 use Rattle.judge.proofs.StepLaws.{classed, steps-credited, steps-other}
 use Rattle.judge.proofs.judge_next.Statement.{statement}
 use Rattle.judge.proofs.judge_next.Tie as tie
@@ -46,7 +48,7 @@ class-of-requires : tie.Need-class-of-requires
 class-of-requires c κs =
     let key = c .before .before in
     let a = begun key .args in
-    classed (now (a .s)) (a .p) (a .kept) (now (a .calls)) (now (a .callkeys)) (now (a .exchanges)) (now (a .exchangekeys)) (now (a .squares)) (begun key .pre) (key-is key) (key .before .part-end .ensures)
+    classed base home-base (now (a .s)) (a .p) (a .kept) (now (a .calls)) (now (a .callkeys)) (now (a .exchanges)) (now (a .exchangekeys)) (now (a .squares)) (begun key .pre) (key-is key) (key .before .part-end .ensures)
 
 class-number-requires : tie.Need-class-number-requires
 class-number-requires c κs = search needs
@@ -89,7 +91,7 @@ returns c =
     let number = taken .before in
     let key = keyed number in
     let a = begun key .args in
-    steps-credited (now (a .s)) (a .p) (a .kept) (now (a .calls)) (now (a .callkeys)) (now (a .exchanges)) (now (a .exchangekeys)) (now (a .squares)) (begun key .pre) (key-is key) (number .before .class-of .ensures) (number .class-number .ensures) (taken .if1 .taken) (credited .credited-next .ensures)
+    steps-credited base home-base (now (a .s)) (a .p) (a .kept) (now (a .calls)) (now (a .callkeys)) (now (a .exchanges)) (now (a .exchangekeys)) (now (a .squares)) (begun key .pre) (key-is key) (number .before .class-of .ensures) (number .class-number .ensures) (taken .if1 .taken) (credited .credited-next .ensures)
 
 verdict-by-requires : tie.Need-verdict-by-requires
 verdict-by-requires c κs = search needs
@@ -105,7 +107,7 @@ returns-2 c =
     let number = c .before .before in
     let key = keyed number in
     let a = begun key .args in
-    steps-other (now (a .s)) (a .p) (a .kept) (now (a .calls)) (now (a .callkeys)) (now (a .exchanges)) (now (a .exchangekeys)) (now (a .squares)) (begun key .pre) (key-is key) (number .before .class-of .ensures) (number .class-number .ensures) (c .before .if1 .left) (c .verdict-by .ensures)
+    steps-other base home-base (now (a .s)) (a .p) (a .kept) (now (a .calls)) (now (a .callkeys)) (now (a .exchanges)) (now (a .exchangekeys)) (now (a .squares)) (begun key .pre) (key-is key) (number .before .class-of .ensures) (number .class-number .ensures) (c .before .if1 .left) (c .verdict-by .ensures)
 
 pub judge-next-spec : {M : Type 1} → statement M
 judge-next-spec =

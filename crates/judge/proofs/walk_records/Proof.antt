@@ -103,8 +103,8 @@ judge-next-requires c κs =
     let three = four .before .before in
     ready (start at .pre) (at .loop .inv .0) (one .before .before .loop-test .taken) (one .wide .ensures .0) (two .wide2 .ensures .0) (three .wide3 .ensures .0) (four .wide4 .ensures .0) (one .wide .ensures .1) (two .wide2 .ensures .1)
 
-counted-requires : tie.Need-counted-requires Inv-loop μ-loop
-counted-requires c κs =
+add-record-requires : tie.Need-add-record-requires Inv-loop μ-loop
+add-record-requires c κs =
     let back = c .before .before .before in
     let step = back .before .before .before .before .before .before in
     let four = lent (step .before) in
@@ -150,7 +150,7 @@ loop-again c =
     let three = four .before .before in
     let kept = step .judge-next .kept .1 .1 .1 in
     let inv = at .loop .inv in (
-      walks-on (start at .pre) (at .loop .inv .0) (one .before .before .loop-test .taken) (one .wide .ensures .0) (two .wide2 .ensures .0) (three .wide3 .ensures .0) (four .wide4 .ensures .0) (step .judge-next .ensures) (c .before .counted .ensures) (c .verdict-number .ensures) (kept .0) (kept .1 .0) (kept .1 .1 .0) (kept .1 .1 .1 .0) (kept .1 .1 .1 .1 .0),
+      walks-on (start at .pre) (at .loop .inv .0) (one .before .before .loop-test .taken) (one .wide .ensures .0) (two .wide2 .ensures .0) (three .wide3 .ensures .0) (four .wide4 .ensures .0) (step .judge-next .ensures) (c .before .add-record .ensures) (c .verdict-number .ensures) (kept .0) (kept .1 .0) (kept .1 .1 .0) (kept .1 .1 .1 .0) (kept .1 .1 .1 .1 .0),
       kept .0 ∙ inv .1,
       kept .1 .1 .0 ∙ inv .2,
     )
@@ -191,7 +191,7 @@ walk-records-spec =
     slice-aggregate-judge-next-2
     slice-aggregate-judge-next-3
     judge-next-requires
-    counted-requires
+    add-record-requires
     verdict-number-requires
     slice-write-verdicts
     add-i

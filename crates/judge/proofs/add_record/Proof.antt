@@ -2,8 +2,8 @@
 use native.Mathlib.Omega.{arith}
 use borrow.Author.Needs.{needs}
 use Rattle.judge.proofs.CountLaws.{countable-small, void-sums, duplicate-sums, error-sums}
-use Rattle.judge.proofs.counted.Statement.{statement}
-use Rattle.judge.proofs.counted.Tie as tie
+use Rattle.judge.proofs.add_record.Statement.{statement}
+use Rattle.judge.proofs.add_record.Tie as tie
 
 enum-told : tie.Need-enum-told
 enum-told c = search needs
@@ -41,8 +41,8 @@ returns-3 c = let start = c .before .before .before in duplicate-sums (start .ar
 returns-4 : tie.Need-returns-4
 returns-4 c = let start = c .before .before .before in error-sums (start .args .t) (start .args .worth) (start .args .v) (start .pre) (c .before .enum-told4 .given .1)
 
-pub counted-spec : {M : Type 1} → statement M
-counted-spec =
+pub add-record-spec : {M : Type 1} → statement M
+add-record-spec =
     tie.close
     (tie.spec
     enum-told
