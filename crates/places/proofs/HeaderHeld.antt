@@ -19,9 +19,10 @@ use Rattle.rules.proofs.Tests.{so, holds, never, and-l, and-r, not-true, eq-of-
 use Rattle.rules.proofs.TextLaws.{same-refl}
 use Rattle.rules.proofs.Bounds.{each-at}
 use Rattle.rules.proofs.Format.{accepted-when-written, of-valid}
+use Rattle.reader.specs.Contact.{valueBy}
 use Rattle.reader.specs.Read.{claimsStart}
 use Rattle.places.specs.declared.Declared.{Declared}
-use Rattle.places.specs.Places.{lineTextAt, lineOn, lineStart, argumentOn, argumentAt, valueBy, declaredAt}
+use Rattle.places.specs.Places.{lineTextAt, lineOn, lineStart, argumentOn, argumentAt, declaredAt}
 use Rattle.places.proofs.LineStarts.{line-more}
 use Rattle.places.proofs.LinesHeld.{start-of-line, text-of-line, line-inside}
 

@@ -13,8 +13,9 @@ use Rattle.rules.specs.Rules.{Rules}
 use Rattle.rules.specs.Arguments.{part, bonus, multiplier}
 use Rattle.fields.specs.Field.{inField, textAt, endOf}
 use Rattle.header.proofs.PartLaws.{end-by-span, reach-first, reach-next, text-of}
+use Rattle.reader.specs.Contact.{valueBy}
 use Rattle.places.specs.declared.Declared.{Declared}
-use Rattle.places.specs.Places.{lineTextAt, lineOn, lineStart, argumentOn, valueBy, declaredAt}
+use Rattle.places.specs.Places.{lineTextAt, lineOn, lineStart, argumentOn, declaredAt}
 
 rates : {ab am bb bm cb cm ab′ am′ bb′ bm′ cb′ cm′ : ℕ} → ab ≡ ab′ → am ≡ am′ → bb ≡ bb′ → bm ≡ bm′ → cb ≡ cb′ → cm ≡ cm′
     → _≡_ {A = Declared}

@@ -17,7 +17,7 @@ use Rattle.rules.proofs.TextLaws.{span-run}
 use Rattle.rules.proofs.LogLaws.{length-ended-more, length-ended-append}
 use Rattle.rules.proofs.Format.{of-valid, render-law}
 use Rattle.places.specs.Places.{lineTextAt, lineOn, lineStart}
-use Rattle.places.proofs.FieldsHeld.{every-at}
+use Rattle.reader.proofs.FieldsHeld.{every-at}
 
 -- Lines that keep the rule of lines, put together to a text.
 module _ (R : Rules) (s : Text) (ls : List Text) (r : every (lineRule R) ls ≡ true) (e : s ≡ ended ls) where

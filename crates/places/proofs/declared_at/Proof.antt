@@ -1,8 +1,9 @@
+-- The three lines that declare bonuses and multipliers are found two lines apart.
+use borrow.Author.Needs.{needs}
 use mathlib.Core.Path.{_∙_}
 use denote.Ref.{now}
 use Rattle.rules.specs.Rules.{base}
 use Rattle.places.proofs.LineStarts.{line-next, line-on, declared-told}
-use borrow.Author.Needs.{needs}
 use Rattle.places.proofs.declared_at.Statement.{statement}
 use Rattle.places.proofs.declared_at.Tie as tie
 

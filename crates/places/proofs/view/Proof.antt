@@ -1,7 +1,8 @@
+-- A view goes by the keyword's number and what reading answers.
+use borrow.Author.Needs.{needs}
 use mathlib.Core.Path.{sym, _∙_}
 use Rattle.rules.specs.Rules.{base}
 use Rattle.places.proofs.ViewLaws.{view-none, view-beyond, view-refused, view-seen}
-use borrow.Author.Needs.{needs}
 use Rattle.places.proofs.view.Statement.{statement}
 use Rattle.places.proofs.view.Tie as tie
 

@@ -1,16 +1,16 @@
 -- A view is the part of the log that it tells of, at its place there.
+use borrow.Author.Needs.{needs}
 use native.Mathlib.Omega.{arith}
-use mathlib.Core.Path.{_≡_, refl, sym, ap, _∙_}
 use Prim.Native.Nat.{ℕ, _+_, _-_, _≤_}
+use mathlib.Core.Path.{_≡_, refl, sym, ap, _∙_}
 use lib.ListN.{length, drop, take}
 use denote.Ref.{now}
-use Rattle.rules.specs.Text.{Text}
-use Rattle.rules.specs.Rules.{base}
 use Rattle.rules.specs.Answers.{view, viewed}
-use Rattle.places.specs.declared.ViewRead.the-variants as ViewRead
+use Rattle.rules.specs.Rules.{base}
+use Rattle.rules.specs.Text.{Text}
 use Rattle.places.specs.Places.{viewOf}
+use Rattle.places.specs.declared.ViewRead.the-variants as ViewRead
 use Rattle.places.proofs.ViewLaws.{view-hides, view-shows, view-starts, view-starts-nowhere}
-use borrow.Author.Needs.{needs}
 use Rattle.places.proofs.viewed.Statement.{statement}
 use Rattle.places.proofs.viewed.Tie as tie
 
