@@ -12,7 +12,7 @@ use Rattle.rules.specs.Text.{Text, allowed, span}
 use Rattle.rules.specs.Rules.{Rules}
 use Rattle.rules.specs.Arguments.{part, bonus, multiplier}
 use Rattle.fields.specs.Field.{inField, textAt, endOf}
-use Rattle.header.proofs.PartLaws.{end-by-span, reach-first, reach-next, text-of}
+use Rattle.fields.proofs.PartLaws.{end-by-span, reach-first, reach-next, text-of}
 use Rattle.reader.specs.Contact.{valueBy}
 use Rattle.places.specs.declared.Declared.{Declared}
 use Rattle.places.specs.Places.{lineTextAt, lineOn, lineStart, argumentOn, declaredAt}

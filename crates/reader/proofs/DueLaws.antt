@@ -9,7 +9,7 @@ use mathlib.Core.List.{[], _∷_}
 use lib.ListN.{length, take, drop, getD, length-drop, List·getD-map, drop-of-length-le}
 use lib.Seq.{drop-cons, take-all}
 use Rattle.rules.specs.Text.{Text, same, begins}
-use Rattle.rules.specs.Rules.{Rules, base}
+use Rattle.rules.specs.Rules.{Rules}
 use Rattle.rules.specs.declared.Due.{Due}
 use Rattle.rules.specs.declared.Due.the-variants as Due
 use Rattle.rules.specs.declared.Next.{Next}
@@ -82,10 +82,6 @@ keyword-by : (k : ℕ) (line : Text) → k < 36 → keywordAt k line ≡ cond (b
 unfolding keywordAt firstKeyword
 keyword-by k line h = rw (entry-due k h)
 
-argument-by : (k : ℕ) (t : Text) → k < 36 → argumentOf base k t ≡ cond (meets base ((entryAt k) .rule) t) ArgumentRead.Kept ArgumentRead.Broken
-unfolding argumentOf firstArgument
-argument-by k t h = rw (entry-due k h)
-
 listed-within : (k : ℕ) (line : Text) → keywordAt k line ≡ KeywordRead.Listed → k < 36
 listed-within k line e = by (decLt k 36)
   where
@@ -93,80 +89,85 @@ listed-within k line e = by (decLt k 36)
     by (yes h) = h
     by (no h) = absurd (differs-not (keyword-beyond k line (omega arith) ∙ e))
 
-due-one : (k : ℕ) (line : Text) → 35 ≤ k → k < 36 → keywordDue base (drop k entries) k line ≡ keywordLine base (entryAt k) line Due.Remarks
-unfolding keywordDue
-due-one k line l h = rw (entry-due k h, drop-of-length-le entries {i = suc k} (omega (arith, entries-length)))
+module _ (R : Rules) where
+  argument-by : (k : ℕ) (t : Text) → k < 36 → argumentOf R k t ≡ cond (meets R ((entryAt k) .rule) t) ArgumentRead.Kept ArgumentRead.Broken
+  unfolding argumentOf firstArgument
+  argument-by k t h = rw (entry-due k h)
 
-due-more : (k : ℕ) (line : Text) → k < 35 → keywordDue base (drop k entries) k line ≡ keywordLine base (entryAt k) line (Due.Keyword (k + 1))
-unfolding keywordDue
-due-more k line h = rw (entry-due k (omega arith), entry-due (suc k) (omega arith))
-
--- A keyword's line by its two tests.
-line-law : (e : Entry) (line : Text) (next : Due) →
-    keywordLine base e line next
-    ≡ cond (begins (keywordStart e) line) (cond (meets base (e .rule) (drop (length (keywordStart e)) line)) (Next.Goes next) (Next.Stops 4 0)) (Next.Stops 3 0)
-unfolding keywordLine argumentOn
-line-law e line next = refl
-
-module _ (k : ℕ) (line : Text) where
-  no-line : keywordAt k line ≡ KeywordRead.Differs → (next : Due) → k < 36 → keywordLine base (entryAt k) line next ≡ Next.Stops 3 0
-  no-line e next h =
-      line-law (entryAt k) line next
-      ∙ ap (λ (b : Bool). cond b (cond (meets base ((entryAt k) .rule) (drop (length (keywordStart (entryAt k))) line)) (Next.Goes next) (Next.Stops 4 0)) (Next.Stops 3 0))
-      (passed (begins (keywordStart (entryAt k)) line) (sym (keyword-by k line h) ∙ e) (λ q. differs-not (sym q)) .0)
-
-  none-left : 36 ≤ k → Next.Stops 3 0 ≡ keywordDue base (drop k entries) k line
+  due-one : (k : ℕ) (line : Text) → 35 ≤ k → k < 36 → keywordDue R (drop k entries) k line ≡ keywordLine R (entryAt k) line Due.Remarks
   unfolding keywordDue
-  none-left h = rw (drop-of-length-le entries {i = k} (omega (arith, entries-length)))
+  due-one k line l h = rw (entry-due k h, drop-of-length-le entries {i = suc k} (omega (arith, entries-length)))
 
-  pub keyword-differs : keywordAt k line ≡ KeywordRead.Differs → Next.Stops 3 0 ≡ keywordDue base (drop k entries) k line
-  keyword-differs e = by (decLt k 36) (decLt k 35)
-    where
-      by : Dec (k < 36) → Dec (k < 35) → Next.Stops 3 0 ≡ keywordDue base (drop k entries) k line
-      by (yes h) (yes l) = sym (due-more k line l ∙ no-line e (Due.Keyword (k + 1)) h)
-      by (yes h) (no l) = sym (due-one k line (omega arith) h ∙ no-line e Due.Remarks h)
-      by (no h) l = none-left (omega arith)
+  due-more : (k : ℕ) (line : Text) → k < 35 → keywordDue R (drop k entries) k line ≡ keywordLine R (entryAt k) line (Due.Keyword (k + 1))
+  unfolding keywordDue
+  due-more k line h = rw (entry-due k (omega arith), entry-due (suc k) (omega arith))
 
-  module _ (e : keywordAt k line ≡ KeywordRead.Listed) where
-    within : k < 36
-    within = listed-within k line e
+  -- A keyword's line by its two tests.
+  line-law : (e : Entry) (line : Text) (next : Due) →
+      keywordLine R e line next
+      ≡ cond (begins (keywordStart e) line) (cond (meets R (e .rule) (drop (length (keywordStart e)) line)) (Next.Goes next) (Next.Stops 4 0)) (Next.Stops 3 0)
+  unfolding keywordLine argumentOn
+  line-law e line next = refl
 
-    begun : begins (keywordStart (entryAt k)) line ≡ true
-    begun = picked (begins (keywordStart (entryAt k)) line) (sym (keyword-by k line within) ∙ e) differs-not .0
-
-    pub keyword-long : 6 ≤ length line
-    keyword-long = omega (arith, start-six k within, begins-long (keywordStart (entryAt k)) line begun)
-
-    line-by : (next : Due) (b : Bool) → meets base ((entryAt k) .rule) (drop 6 line) ≡ b → keywordLine base (entryAt k) line next ≡ cond b (Next.Goes next) (Next.Stops 4 0)
-    line-by next b m =
+  module _ (k : ℕ) (line : Text) where
+    no-line : keywordAt k line ≡ KeywordRead.Differs → (next : Due) → k < 36 → keywordLine R (entryAt k) line next ≡ Next.Stops 3 0
+    no-line e next h =
         line-law (entryAt k) line next
-        ∙ ap (λ (t : Bool). cond t (cond (meets base ((entryAt k) .rule) (drop (length (keywordStart (entryAt k))) line)) (Next.Goes next) (Next.Stops 4 0)) (Next.Stops 3 0)) begun
-        ∙ ap (λ (n : ℕ). cond (meets base ((entryAt k) .rule) (drop n line)) (Next.Goes next) (Next.Stops 4 0)) (start-six k within)
-        ∙ ap (λ (t : Bool). cond t (Next.Goes next) (Next.Stops 4 0)) m
+        ∙ ap (λ (b : Bool). cond b (cond (meets R ((entryAt k) .rule) (drop (length (keywordStart (entryAt k))) line)) (Next.Goes next) (Next.Stops 4 0)) (Next.Stops 3 0))
+        (passed (begins (keywordStart (entryAt k)) line) (sym (keyword-by k line h) ∙ e) (λ q. differs-not (sym q)) .0)
 
-    ruled : {r : ArgumentRead} → argumentOf base k (take (length line - 6) (drop 6 line)) ≡ r
-        → cond (meets base ((entryAt k) .rule) (drop 6 line)) ArgumentRead.Kept ArgumentRead.Broken ≡ r
-    ruled q = sym (argument-by k (drop 6 line) within) ∙ ap (argumentOf base k) (sym (behind 6 line)) ∙ q
+    none-left : 36 ≤ k → Next.Stops 3 0 ≡ keywordDue R (drop k entries) k line
+    unfolding keywordDue
+    none-left h = rw (drop-of-length-le entries {i = k} (omega (arith, entries-length)))
 
-    pub argument-broken : argumentOf base k (take (length line - 6) (drop 6 line)) ≡ ArgumentRead.Broken → Next.Stops 4 0 ≡ keywordDue base (drop k entries) k line
-    argument-broken q = by (decLt k 35)
+    pub keyword-differs : keywordAt k line ≡ KeywordRead.Differs → Next.Stops 3 0 ≡ keywordDue R (drop k entries) k line
+    keyword-differs e = by (decLt k 36) (decLt k 35)
       where
-        m : meets base ((entryAt k) .rule) (drop 6 line) ≡ false
-        m = passed (meets base ((entryAt k) .rule) (drop 6 line)) (ruled q) (λ p. broken-not (sym p)) .0
+        by : Dec (k < 36) → Dec (k < 35) → Next.Stops 3 0 ≡ keywordDue R (drop k entries) k line
+        by (yes h) (yes l) = sym (due-more k line l ∙ no-line e (Due.Keyword (k + 1)) h)
+        by (yes h) (no l) = sym (due-one k line (omega arith) h ∙ no-line e Due.Remarks h)
+        by (no h) l = none-left (omega arith)
 
-        by : Dec (k < 35) → Next.Stops 4 0 ≡ keywordDue base (drop k entries) k line
-        by (yes l) = sym (due-more k line l ∙ line-by (Due.Keyword (k + 1)) false m)
-        by (no l) = sym (due-one k line (omega arith) within ∙ line-by Due.Remarks false m)
+    module _ (e : keywordAt k line ≡ KeywordRead.Listed) where
+      within : k < 36
+      within = listed-within k line e
 
-    module _ (q : argumentOf base k (take (length line - 6) (drop 6 line)) ≡ ArgumentRead.Kept) where
-      kept : meets base ((entryAt k) .rule) (drop 6 line) ≡ true
-      kept = picked (meets base ((entryAt k) .rule) (drop 6 line)) (ruled q) broken-not .0
+      begun : begins (keywordStart (entryAt k)) line ≡ true
+      begun = picked (begins (keywordStart (entryAt k)) line) (sym (keyword-by k line within) ∙ e) differs-not .0
 
-      pub keyword-follows : k < 35 → Next.Goes (Due.Keyword (k + 1)) ≡ keywordDue base (drop k entries) k line
-      keyword-follows l = sym (due-more k line l ∙ line-by (Due.Keyword (k + 1)) true kept)
+      pub keyword-long : 6 ≤ length line
+      keyword-long = omega (arith, start-six k within, begins-long (keywordStart (entryAt k)) line begun)
 
-      pub remarks-follow : 35 ≤ k → Next.Goes Due.Remarks ≡ keywordDue base (drop k entries) k line
-      remarks-follow l = sym (due-one k line l within ∙ line-by Due.Remarks true kept)
+      line-by : (next : Due) (b : Bool) → meets R ((entryAt k) .rule) (drop 6 line) ≡ b → keywordLine R (entryAt k) line next ≡ cond b (Next.Goes next) (Next.Stops 4 0)
+      line-by next b m =
+          line-law (entryAt k) line next
+          ∙ ap (λ (t : Bool). cond t (cond (meets R ((entryAt k) .rule) (drop (length (keywordStart (entryAt k))) line)) (Next.Goes next) (Next.Stops 4 0)) (Next.Stops 3 0)) begun
+          ∙ ap (λ (n : ℕ). cond (meets R ((entryAt k) .rule) (drop n line)) (Next.Goes next) (Next.Stops 4 0)) (start-six k within)
+          ∙ ap (λ (t : Bool). cond t (Next.Goes next) (Next.Stops 4 0)) m
+
+      ruled : {r : ArgumentRead} → argumentOf R k (take (length line - 6) (drop 6 line)) ≡ r
+          → cond (meets R ((entryAt k) .rule) (drop 6 line)) ArgumentRead.Kept ArgumentRead.Broken ≡ r
+      ruled q = sym (argument-by k (drop 6 line) within) ∙ ap (argumentOf R k) (sym (behind 6 line)) ∙ q
+
+      pub argument-broken : argumentOf R k (take (length line - 6) (drop 6 line)) ≡ ArgumentRead.Broken → Next.Stops 4 0 ≡ keywordDue R (drop k entries) k line
+      argument-broken q = by (decLt k 35)
+        where
+          m : meets R ((entryAt k) .rule) (drop 6 line) ≡ false
+          m = passed (meets R ((entryAt k) .rule) (drop 6 line)) (ruled q) (λ p. broken-not (sym p)) .0
+
+          by : Dec (k < 35) → Next.Stops 4 0 ≡ keywordDue R (drop k entries) k line
+          by (yes l) = sym (due-more k line l ∙ line-by (Due.Keyword (k + 1)) false m)
+          by (no l) = sym (due-one k line (omega arith) within ∙ line-by Due.Remarks false m)
+
+      module _ (q : argumentOf R k (take (length line - 6) (drop 6 line)) ≡ ArgumentRead.Kept) where
+        kept : meets R ((entryAt k) .rule) (drop 6 line) ≡ true
+        kept = picked (meets R ((entryAt k) .rule) (drop 6 line)) (ruled q) broken-not .0
+
+        pub keyword-follows : k < 35 → Next.Goes (Due.Keyword (k + 1)) ≡ keywordDue R (drop k entries) k line
+        keyword-follows l = sym (due-more k line l ∙ line-by (Due.Keyword (k + 1)) true kept)
+
+        pub remarks-follow : 35 ≤ k → Next.Goes Due.Remarks ≡ keywordDue R (drop k entries) k line
+        remarks-follow l = sym (due-one k line l within ∙ line-by Due.Remarks true kept)
 
 -- Among the remarks.
 start-length : length countStart ≡ 12
