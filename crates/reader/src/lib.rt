@@ -382,16 +382,20 @@ fn broken_at(s: &[u8], at: usize, field: u32) -> RecordRead
 pub fn record_at(s: &[u8], at: usize) -> RecordRead
     ensures { λ r. ⌜ r ≡ recordAt base (now (s .entry)) at ⌝ }
 {
+    let mut field = 15;
     let read = parse(s, at);
     match read {
-        Parsed::Bad(field) => broken_at(s, at, field),
+        Parsed::Bad(bad) => {
+            field = bad;
+        }
         Parsed::Fields(c) => {
             if line_ends(s, c.end) {
                 return RecordRead::Kept(c);
             }
-            broken_at(s, at, 15)
         }
     }
+    // asked in one place, since it is the longest way and the rarest
+    broken_at(s, at, field)
 }
 
 // # The steps
