@@ -1,5 +1,4 @@
 pub mod SaidLaws
-pub mod NumberLaws
 pub mod CountLaws
 pub mod PartLaws
 pub mod SquareLaws

@@ -16,7 +16,6 @@ ghost use Rattle.reader.specs.Noted.{contactsRead, listed};
 ghost use Rattle.judge.specs.Bounds.{Closable, Countable};
 ghost use Rattle.judge.specs.Count.{addRecord, closing, worthIf};
 ghost use Rattle.judge.specs.Judge.{judgedOf, verdictsAfterwards, weighedOf};
-ghost use Rattle.judge.specs.Numbers.{classFrom, verdictFrom};
 ghost use Rattle.judge.specs.Parts.{Ahead, First, Keyed, Lying, keyOf, keptTexts, numberOfSquare, partBy, seek, squareThere};
 ghost use Rattle.judge.specs.Said.{classBy, verdictBy};
 ghost use Rattle.judge.specs.Weigh.{Accepts, Listings, Weighable, Weighs};
@@ -97,33 +96,6 @@ pub fn verdict_number(v: Verdict) -> u8
         + mark_number(v.exchange, 16)
         + mark_number(v.square, 32)
         + mark_number(v.country, 64)
-}
-
-fn class_from(n: u8) -> Class
-    ensures { λ r. ⌜ r ≡ classFrom n ⌝ }
-{
-    if n == 0 {
-        return Class::Credited;
-    }
-    if n == 1 {
-        return Class::Void;
-    }
-    if n == 2 {
-        return Class::Duplicate;
-    }
-    Class::Error
-}
-
-// The verdict that a number tells.
-pub fn verdict_from(n: u8) -> Verdict
-    ensures { λ r. ⌜ r ≡ verdictFrom n ⌝ }
-{
-    Verdict {
-        class: class_from(n % 16),
-        exchange: n / 16 % 2 == 1,
-        square: n / 32 % 2 == 1,
-        country: n / 64 % 2 == 1,
-    }
 }
 
 // # Fields and their keys
