@@ -19,7 +19,7 @@ use Rattle.rules.specs.Demands.{WritingBackIsStable}
 use Rattle.rules.proofs.Tests.{and-l}
 use Rattle.rules.proofs.Format.{accepted-when-written}
 use Rattle.rules.proofs.WrittenValid.{HaveRoom, written-valid}
-use Rattle.rules.proofs.Bounds.{base-within}
+use Rattle.rules.proofs.Bounds.{log-within}
 use Rattle.rules.proofs.WritingAnswer.{fitting, write-law}
 use Rattle.rules.proofs.WrittenVerdicts.{written-verdicts}
 use Rattle.rules.proofs.WrittenClaims.{totals-kept, written-twice}
@@ -72,20 +72,20 @@ module _ (R : Rules) (room-for-claims : ClaimsHaveRoom R) where
 
 -- What a valid log comes to has room in the places of its claims.
 claims-have-room : (log : Log) → T (valid base log) → HaveRoom (totalsOfLog base log)
+unfolding base
 claims-have-room log v =
-    let w = base-within log v in
+    let w = log-within base log v in
     record {
       credited = omega (arith, w .credited);
       points = omega (arith, w .points);
-      squares = omega (arith, w .squares);
+      squares = omega (arith, w .squares, w .credited);
       squarebonus = omega (arith, w .squarebonus);
-      exchanges = omega (arith, w .exchanges);
+      exchanges = omega (arith, w .exchanges, w .credited);
       exchangebonus = omega (arith, w .exchangebonus);
-      countries = omega (arith, w .countries);
+      countries = omega (arith, w .countries, w .credited);
       countrybonus = omega (arith, w .countrybonus);
       total = omega (arith, w .total);
     }
 
 pub base-has-room : ClaimsHaveRoom base
-unfolding base
 base-has-room log v h = written-valid log (claims-have-room log v) v h
