@@ -1,13 +1,10 @@
-// The desk program: a log on standard input, its six lines or its refusal on standard output. All that matters is the library's. Where the log
-// cannot be read, or the answer not written, that is said on standard error.
+// The desk program: a log on standard input, its six lines or its refusal on standard output. What is written is what the library laid, byte for
+// byte. Where the log cannot be read, or the answer not written, that is said on standard error.
 
 ghost use Rattle.io.specs.Counts.{Counts};
-use judge::Judged;
 use libc::STDERR_FILENO;
 use libc::STDIN_FILENO;
 use libc::STDOUT_FILENO;
-use rules::Refusal;
-use rules::Totals;
 
 // How many bytes were read, and whether a read failed behind them.
 struct Taken {
@@ -37,32 +34,6 @@ fn take(log: &mut [u8]) -> Taken
     }
 }
 
-// Writes a text and a number, and answers whether both were written.
-fn show(word: &[u8], n: u64) -> bool {
-    io::write_all(STDOUT_FILENO, word) && io::print_decimal(STDOUT_FILENO, n)
-}
-
-fn show_totals(t: Totals) -> bool {
-    show(b"QSOS ", t.credited)
-        && show(b"\nPOINTS ", t.points)
-        && show(b"\nWWLS ", t.squares)
-        && show(b"\nEXCHANGES ", t.exchanges)
-        && show(b"\nDXCCS ", t.countries)
-        && show(b"\nTOTAL ", t.total)
-}
-
-fn show_refusal(r: Refusal) -> bool {
-    show(b"REFUSED ", r.number as u64) && show(b" ", r.line as u64) && show(b" ", r.field as u64)
-}
-
-fn show_answer(answer: Judged) -> bool {
-    let shown = match answer {
-        Judged::Totals(t) => show_totals(t),
-        Judged::Refused(r) => show_refusal(r),
-    };
-    shown && io::write_all(STDOUT_FILENO, b"\n")
-}
-
 // A log has at most 65,535 bytes: one byte more tells that there are too many.
 fn main() {
     let mut log = [0u8; rules::LONGEST_LOG + 1];
@@ -75,8 +46,9 @@ fn main() {
         return;
     }
     let n = taken.bytes;
-    let mut verdicts = [0u8; rules::MOST_RECORDS];
-    if !show_answer(judge::judge(&log[..n], &mut verdicts)) {
+    let mut answer = [0u8; writer::SHOWN];
+    let end = writer::show(&log[..n], &mut answer);
+    if !io::write_all(STDOUT_FILENO, &answer[..end]) {
         io::write_all(STDERR_FILENO, b"desk: cannot write the answer\n");
     }
 }

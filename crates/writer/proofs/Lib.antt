@@ -10,3 +10,4 @@ pub mod ClaimLines
 pub mod ClaimsWritten
 pub mod WriteLaws
 pub mod WeighedLaws
+pub mod ShownLaws

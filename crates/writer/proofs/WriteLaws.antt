@@ -1,13 +1,12 @@
 -- From what was judged to what is answered: the result's text by its places is the log written back, and where it does not fit nothing is written.
 -- Assumes nothing.
 use Prim.Native.Nat.{ℕ, _+_, _≤_}
-use native.Mathlib.Nat.{zero-add}
 use native.Mathlib.Omega.{arith}
 use mathlib.Core.Bool.{Bool, true, false, cond, _&&_}
 use mathlib.Core.List.{List, [], _∷_, _++_, map}
 use mathlib.Core.Path.{_≡_, refl, sym, ap, ap₂, subst, _∙_}
 use lib.Dec.{leb}
-use lib.ListN.{length, drop, length-append, length-map}
+use lib.ListN.{length, length-append, length-map}
 use Rattle.reader.proofs.RecordsHeld.{recordsStart, header, records, rendered}
 use Rattle.reader.specs.Contact.{contactsAt}
 use Rattle.reader.specs.declared.Contact.{Contact}
@@ -29,13 +28,12 @@ use Rattle.writer.specs.Given.{ClaimsBegin, ClaimsLie, RecordsLie, Writa
 use Rattle.writer.specs.LogText.{wroteBy, wroteOf, writtenAfterwards}
 use Rattle.writer.specs.RecordText.{recordsText}
 use Rattle.writer.specs.Written.{Puts}
-use Rattle.writer.specs.Written as Over
 use Rattle.writer.specs.declared.Wrote.the-variants as Wrote
 use Rattle.writer.proofs.ClaimLines.{nine}
 use Rattle.writer.proofs.ClaimsWritten.{rightly, claims-lie, head-written}
 use Rattle.writer.proofs.RecordsWritten.{pointsOf, pointsendsOf, endsOf, contacts, records-written, records-lie}
 use Rattle.writer.proofs.TextsLaws.{row-at}
-use Rattle.writer.proofs.WrittenLaws.{puts-as}
+use Rattle.writer.proofs.WrittenLaws.{puts-as, front-end, front-laid}
 
 -- There are as many verdicts as records.
 pub as-many : (R : Rules) (log : Log) → length (map verdictNumber (verdictsOfLog R log)) ≡ length (log .records)
@@ -189,12 +187,8 @@ module _ {R : Rules} {s : Text} {t : Totals} {first line : ℕ} {points pointsen
 
     pub written-answer : Wrote.Length end ≡ wroteOf R (length slice) s
     unfolding wroteOf wroteBy
-    written-answer = rw writes (ap Wrote.Length (put-result .place ∙ zero-add (length result)))
-
-    laid-over : Over.written slice 0 result ≡ over result slice
-    unfolding Over.written over
-    laid-over = ap (λ (n : ℕ). result ++ drop n slice) (zero-add (length result))
+    written-answer = rw writes (ap Wrote.Length (front-end put-result))
 
     pub written-slice : slice' ≡ writtenAfterwards R s slice
     unfolding bytesOfWriting
-    written-slice = rw writes (put-result .list ∙ laid-over)
+    written-slice = rw writes (front-laid put-result)

@@ -8,6 +8,8 @@ ghost use mathlib.Core.Bool.{cond, _&&_};
 ghost use mathlib.Core.List.{[], _∷_, _++_};
 ghost use mathlib.Core.Path.{_≡_};
 ghost use Rattle.reader.specs.Contact.{between};
+ghost use Rattle.rules.specs.Answers.{over};
+ghost use Rattle.rules.specs.Desk.{shownTotals, shownRefusal, desk};
 ghost use Rattle.rules.specs.Fields.{newMark, duplicateMark};
 ghost use Rattle.rules.specs.Log.{crlf};
 ghost use Rattle.rules.specs.Rules.{base};
@@ -17,6 +19,7 @@ ghost use Rattle.writer.specs.Given.{ClaimsBegin, ClaimsLie, RecordLies,
 ghost use Rattle.writer.specs.LogText.{wroteOf, writtenAfterwards};
 ghost use Rattle.writer.specs.RecordText.{saysDuplicate, markText, marksText, zeroText, recordText, recordsText};
 ghost use Rattle.writer.specs.Written.{Puts};
+use judge::Judged;
 use judge::Weighed;
 use rules::Refusal;
 use rules::Totals;
@@ -446,5 +449,54 @@ pub fn write(log: &[u8], out: &mut [u8]) -> Wrote
             out,
         ),
         Weighed::Refused(r) => Wrote::Refused(r),
+    }
+}
+
+// # What the desk program shows
+
+// Room for what is shown of any log: six words of ten bytes at most, and behind each a number of twenty digits at most and the line's end.
+pub const SHOWN: usize = 256;
+
+// A word, a number and one byte more.
+fn put_word(out: &mut [u8], at: usize, word: &[u8], n: u64, last: u8) -> usize
+    requires { ⌜ at + length (now word) + 21 ≤ length (now out) ⌝ }
+    ensures text { λ r. ⌜ Puts (now (out .entry)) at (now (word .entry) ++ digits n ++ (last ∷ [])) (now (out .exit)) r ⌝ }
+    ensures end { λ r. ⌜ r ≤ at + length (now (word .entry)) + 21 ⌝ }
+{
+    let number = put_part(out, at, word, 0, word.len());
+    let end = put_number(out, number, n);
+    put_byte(out, end, last)
+}
+
+// The six lines of a judged log.
+fn show_totals(t: Totals, out: &mut [u8; SHOWN]) -> usize
+    ensures { λ r. ⌜ Puts (now (out .entry)) 0 (shownTotals t) (now (out .exit)) r ⌝ }
+{
+    let second = put_word(out, 0, b"QSOS ", t.credited, 10);
+    let third = put_word(out, second, b"POINTS ", t.points, 10);
+    let fourth = put_word(out, third, b"WWLS ", t.squares, 10);
+    let fifth = put_word(out, fourth, b"EXCHANGES ", t.exchanges, 10);
+    let sixth = put_word(out, fifth, b"DXCCS ", t.countries, 10);
+    put_word(out, sixth, b"TOTAL ", t.total, 10)
+}
+
+// The one line of a refusal.
+fn show_refusal(r: Refusal, out: &mut [u8; SHOWN]) -> usize
+    ensures { λ n. ⌜ Puts (now (out .entry)) 0 (shownRefusal r) (now (out .exit)) n ⌝ }
+{
+    let line = put_word(out, 0, b"REFUSED ", r.number as u64, 32);
+    let field = put_word(out, line, b"", r.line as u64, 32);
+    put_word(out, field, b"", r.field as u64, 10)
+}
+
+// A log is judged, and what the desk program shows of it is laid over the front of the slice.
+pub fn show(log: &[u8], out: &mut [u8; SHOWN]) -> usize
+    ensures answer { λ r. ⌜ r ≡ length (desk base (now (log .entry))) ⌝ }
+    ensures slice { λ r. ⌜ now (out .exit) ≡ over (desk base (now (log .entry))) (now (out .entry)) ⌝ }
+{
+    let mut verdicts = [0u8; rules::MOST_RECORDS];
+    match judge::judge(log, &mut verdicts) {
+        Judged::Totals(t) => show_totals(t, out),
+        Judged::Refused(r) => show_refusal(r, out),
     }
 }
