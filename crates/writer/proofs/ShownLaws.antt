@@ -62,6 +62,6 @@ pub all-shown : {d e : List ℕ} {n : ℕ} {t u : Text} → Puts d 0 t e n → t
 all-shown p h = let q = puts-as p h in (front-end q, front-laid q)
 
 -- For the caller: what was laid over a list is no longer than the list is afterwards.
-pub shown-within : {d e : List ℕ} {n : ℕ} (u : Text) → n ≡ length u → e ≡ over u d → n ≤ length e
+pub shown-within : (u : Text) (d : List ℕ) {e : List ℕ} {n : ℕ} → n ≡ length u → e ≡ over u d → n ≤ length e
 unfolding over
-shown-within {d} u h p = omega (arith, h, ap length p, length-append u (drop (length u) d))
+shown-within u d h p = omega (arith, h, ap length p, length-append u (drop (length u) d))

@@ -1,5 +1,5 @@
 // Writing a log back: texts and numbers laid over a lent slice, one behind the other. The places of all that changes are known; the result is measured
-// by them first, and the log is walked over only to copy it.
+// by them first, and the log is walked over only to copy it. What the desk program shows of a log is laid in the same way.
 
 ghost use Prim.Native.Nat.{_+_, _-_, _*_, _<_, _≤_};
 ghost use lib.Dec.{leb};
