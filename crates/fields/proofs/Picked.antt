@@ -64,7 +64,8 @@ module _ (s : Text) (at : ℕ) where
   unfolding callOrEmptyAt
   call-or-empty-refused h = call-denies (emptyOr call) s at h
 
--- The readers that answer the end alone: their answer by its constructor, which tells two ends apart and none is bad.
+-- Readers that answer only where the field ends: `good` makes the answer of an end, and `bad` is the other answer. Good answers that are equal have
+-- one end, and no good answer is the bad one.
 module _ {A : Type 0} (good : ℕ → A) (bad : A) (same-end : (x y : ℕ) → good x ≡ good y → y ≡ x) (apart : (x : ℕ) → bad ≡ good x → ⊥) (rule : Text → Bool) (s : Text) (at : ℕ) where
   end-says : (e : ℕ) → cond (rule (textAt s at)) (good (endOf s at)) bad ≡ good e → Kept rule s at e
   end-says e h =
