@@ -57,7 +57,7 @@ module _ (R : Rules) (s : Text) {a : Judged} (told : a ≡ judgedOf R (R .mostRe
   unfolding shownBy
   desk-refusal r e = sym (desk-by ∙ ap shownBy e)
 
--- A text that was laid over the front is what is to be laid.
+-- What is answered, and what the slice holds, where the text that was written is the one to be shown.
 pub all-shown : {d e : List ℕ} {n : ℕ} {t u : Text} → Puts d 0 t e n → t ≡ u → (n ≡ length u) × (e ≡ over u d)
 all-shown p h = let q = puts-as p h in (front-end q, front-laid q)
 

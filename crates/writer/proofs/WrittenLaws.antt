@@ -103,7 +103,7 @@ pub puts-nothing : {d : List ℕ} {at : ℕ} {t : Text} → t ≡ [] → at ≤ 
 puts-nothing {d} {at} e h =
     puts-as (record { fits = omega arith; list = sym (written-nothing d at); place = sym (add-zero at) }) (sym e)
 
--- What was written at the front ends where it is long, and is laid over the list.
+-- A text that was written at the front ends at its length, and the rest of the list is as it was.
 module _ {d e : List ℕ} {r : ℕ} {t : Text} (p : Puts d 0 t e r) where
   pub front-end : r ≡ length t
   front-end = p .place ∙ zero-add (length t)
@@ -161,7 +161,7 @@ module _ (s : Text) (from i : ℕ) (order : from ≤ i) where
       let room : i - from < length (drop from s) = rw length-drop (omega arith) in
       rw (e, take-suc (drop from s) (i - from) 0 room, getD-drop, there)
 
--- From its begin to its end it is the whole text.
+-- The part from the first character to the last is the whole text.
 pub part-whole : (s : Text) → between s 0 (length s) ≡ s
 part-whole s = take-all (length s - 0) s (omega arith)
 
