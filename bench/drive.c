@@ -3,28 +3,17 @@
  *     drive read|view|judge|write LOG TIMES
  *
  * Prints the last answer in short, so that whoever counts sees that two libraries did the same work. */
+#include "log.h"
 #include "sumpquince.h"
 
 #include <stdio.h>
 #include <stdlib.h>
 #include <string.h>
 
-enum { LONGEST_LOG = 65535, MOST_RECORDS = 999, CTOSC = 35 };
+enum { MOST_RECORDS = 999, CTOSC = 35 };
 
-static uint8_t log_bytes[LONGEST_LOG + 1]; /* one byte more, to know a log that is too long */
 static uint8_t verdicts[MOST_RECORDS];
 static uint8_t written[LONGEST_LOG];
-
-static size_t load(const char *path) {
-    FILE *file = fopen(path, "rb");
-    if (file == NULL) {
-        fprintf(stderr, "drive: cannot open %s\n", path);
-        exit(2);
-    }
-    size_t length = fread(log_bytes, 1, sizeof log_bytes, file);
-    fclose(file);
-    return length;
-}
 
 static void show(SumpquinceRefusal refusal, const char *what, uint64_t value) {
     printf("refusal %u %u %u, %s %llu\n", refusal.number, refusal.line, refusal.field, what, (unsigned long long)value);

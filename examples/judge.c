@@ -10,16 +10,16 @@
 
 enum { LONGEST_LOG = 65535, MOST_RECORDS = 999 };
 
+/* Judging is refused by 1 to 7 alone. The words are those of tools/refusals.md. */
 static const char *refusal_in_words(uint32_t number) {
     switch (number) {
-    case 1: return "the log is longer than 65535 bytes";
-    case 2: return "the line does not end with CR LF after at most 75 allowed characters";
+    case 1: return "the log is longer than 65,535 bytes";
+    case 2: return "the line does not end with CR LF after at most 75 characters of code 32 to 127";
     case 3: return "another line is due here";
-    case 4: return "the argument breaks its rule";
+    case 4: return "what stands behind the keyword breaks its rule";
     case 5: return "the record breaks a rule";
-    case 6: return "there are too few records, or something follows the last";
-    case 7: return "there is no room for the verdicts";
-    default: return "refused";
+    case 6: return "the log ends where a record is due, or goes on after the last";
+    default: return "the verdicts do not fit the slice that was lent for them";
     }
 }
 

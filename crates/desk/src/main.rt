@@ -1,43 +1,54 @@
-// The desk program: a log on standard input, its six lines or its refusal on standard output. All that matters is the library's.
+// The desk program: a log on standard input, its six lines or its refusal on standard output. What is written is what the library laid, byte for
+// byte. Where the log cannot be read, or the answer not written, that is said on standard error.
 
-use judge::Judged;
+ghost use Rattle.io.specs.Counts.{Counts};
+use libc::STDERR_FILENO;
 use libc::STDIN_FILENO;
 use libc::STDOUT_FILENO;
-use rules::Refusal;
-use rules::Totals;
 
-// A word and a number on a line.
-fn show(word: &[u8], n: u64) {
-    io::write_all(STDOUT_FILENO, word);
-    io::print_decimal(STDOUT_FILENO, n);
-    io::write_all(STDOUT_FILENO, b"\n");
+// How many bytes were read, and whether a read failed behind them.
+struct Taken {
+    bytes: usize,
+    failed: bool,
 }
 
-fn show_totals(t: Totals) {
-    show(b"QSOS ", t.credited);
-    show(b"POINTS ", t.points);
-    show(b"WWLS ", t.squares);
-    show(b"EXCHANGES ", t.exchanges);
-    show(b"DXCCS ", t.countries);
-    show(b"TOTAL ", t.total);
-}
-
-fn show_refusal(r: Refusal) {
-    io::write_all(STDOUT_FILENO, b"REFUSED ");
-    io::print_decimal(STDOUT_FILENO, r.number as u64);
-    io::write_all(STDOUT_FILENO, b" ");
-    io::print_decimal(STDOUT_FILENO, r.line as u64);
-    show(b" ", r.field as u64);
+// Reads until the list is full, the input ends or a read fails.
+fn take(log: &mut [u8]) -> Taken
+    ensures { λ r. ⌜ Counts (r .bytes) (now (log .exit)) ⌝ }
+{
+    let mut n = 0;
+    while n < log.len() {
+        let got = libc::read(STDIN_FILENO, &mut log[n..]);
+        let more = io::count(got, &log[n..]);
+        if more == 0 {
+            return Taken {
+                bytes: n,
+                failed: got < 0,
+            };
+        }
+        n += more;
+    }
+    Taken {
+        bytes: n,
+        failed: false,
+    }
 }
 
 // A log has at most 65,535 bytes: one byte more tells that there are too many.
 fn main() {
-    let mut log = io::large_buffer();
-    let n = io::read_full(STDIN_FILENO, &mut log);
-    let mut verdicts = [0u8; 999];
-    let answer = judge::judge(&log[..n], &mut verdicts);
-    match answer {
-        Judged::Totals(t) => show_totals(t),
-        Judged::Refused(r) => show_refusal(r),
+    let mut log = [0u8; rules::LONGEST_LOG + 1];
+    let taken = take(&mut log);
+    if taken.failed {
+        io::write_all(
+            STDERR_FILENO,
+            b"desk: cannot read the log: the system tells of an error\n",
+        );
+        return;
+    }
+    let n = taken.bytes;
+    let mut answer = [0u8; writer::SHOWN];
+    let end = writer::show(&log[..n], &mut answer);
+    if !io::write_all(STDOUT_FILENO, &answer[..end]) {
+        io::write_all(STDERR_FILENO, b"desk: cannot write the answer\n");
     }
 }

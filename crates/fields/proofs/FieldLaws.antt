@@ -1,11 +1,11 @@
 -- Laws of a field: a run of characters of one kind is the whole field exactly when the field ends behind it.
 -- Assumes nothing.
-use Prim.Native.Nat.{ℕ, suc, _+_, _≤_, _<_}
-use native.Mathlib.Omega.{arith}
+use Prim.Native.Nat.{ℕ, zero, suc, _+_, _≤_, _<_}
 use native.Mathlib.Numerals.{add-one}
-use mathlib.Core.Path.{_≡_, refl, sym, ap, _∙_}
+use native.Mathlib.Omega.{arith}
 use mathlib.Core.Bool.{Bool, true, false, cond, not, _&&_, true≢false}
 use mathlib.Core.List.{[], _∷_}
+use mathlib.Core.Path.{_≡_, refl, sym, ap, _∙_}
 use lib.Dec.{leb, eqb}
 use lib.ListN.{length, take, drop, getD, drop-of-length-le}
 use lib.Seq.{drop-cons, drop-drop}
@@ -25,6 +25,26 @@ next s i h = rw (add-one, drop-cons s i 0)
 
 pub next-at : (s : Text) (i j : ℕ) → i < length s → i + 1 ≡ j → drop i s ≡ getD s i 0 ∷ drop j s
 next-at s i j h e = next s i h ∙ ap (λ (k : ℕ). getD s i 0 ∷ drop k s) e
+
+-- So many characters from a place on, one by one.
+abbrev behind : Text → ℕ → ℕ → ℕ → Text
+behind s at k zero = []
+behind s at k (suc n) = getD s (at + k) 0 ∷ behind s at (k + 1) n
+
+abbrev pub characters : Text → ℕ → ℕ → Text
+characters s at zero = []
+characters s at (suc n) = getD s at 0 ∷ behind s at 1 n
+
+take-behind : (s : Text) (at k n : ℕ) → at + k + n ≤ length s → take n (drop (at + k) s) ≡ behind s at k n
+take-behind s at k zero h = refl
+take-behind s at k (suc n) h =
+    rw (next-at s (at + k) (at + (k + 1)) (omega arith) (omega arith))
+    (ap (λ (t : Text). getD s (at + k) 0 ∷ t) (take-behind s at (k + 1) n (omega arith)))
+
+pub take-characters : (s : Text) (at n : ℕ) → at + n ≤ length s → take n (drop at s) ≡ characters s at n
+take-characters s at zero h = refl
+take-characters s at (suc n) h =
+    rw (next s at (omega arith)) (ap (λ (t : Text). getD s at 0 ∷ t) (take-behind s at 1 n (omega arith)))
 
 -- A loop over a run: the run from the first place on ends where the run from the present place on does.
 pub record Within (f : ℕ → Bool) (s : Text) (at i : ℕ) : Type 0 where

@@ -3,27 +3,27 @@
 -- Assumes nothing.
 use Prim.Native.Nat.{ℕ}
 use native.Mathlib.Omega.{arith}
-use mathlib.Core.Path.{_≡_, sym}
 use mathlib.Core.Bool.{Bool, true, false, cond, not}
 use mathlib.Core.List.{[], _∷_}
-use Rattle.rules.specs.Text.{Text, same, empty}
-use Rattle.rules.specs.Rules.{base}
+use mathlib.Core.Path.{_≡_, sym}
 use Rattle.rules.specs.Fields.{call, errorCall, mode, report, serial, exchange, locator, emptyOr}
+use Rattle.rules.specs.Rules.{Rules}
+use Rattle.rules.specs.Text.{Text, same, empty}
 use Rattle.rules.proofs.Tests.{picked, passed}
 use Rattle.fields.specs.declared.CallRead.{CallRead}
 use Rattle.fields.specs.declared.CallRead.the-variants as CallRead
-use Rattle.fields.specs.declared.ModeRead.{ModeRead}
-use Rattle.fields.specs.declared.ModeRead.the-variants as ModeRead
-use Rattle.fields.specs.declared.ReportRead.{ReportRead}
-use Rattle.fields.specs.declared.ReportRead.the-variants as ReportRead
-use Rattle.fields.specs.declared.SerialRead.{SerialRead}
-use Rattle.fields.specs.declared.SerialRead.the-variants as SerialRead
 use Rattle.fields.specs.declared.ExchangeRead.{ExchangeRead}
 use Rattle.fields.specs.declared.ExchangeRead.the-variants as ExchangeRead
 use Rattle.fields.specs.declared.LocatorRead.{LocatorRead}
 use Rattle.fields.specs.declared.LocatorRead.the-variants as LocatorRead
 use Rattle.fields.specs.declared.MarkRead.{MarkRead}
 use Rattle.fields.specs.declared.MarkRead.the-variants as MarkRead
+use Rattle.fields.specs.declared.ModeRead.{ModeRead}
+use Rattle.fields.specs.declared.ModeRead.the-variants as ModeRead
+use Rattle.fields.specs.declared.ReportRead.{ReportRead}
+use Rattle.fields.specs.declared.ReportRead.the-variants as ReportRead
+use Rattle.fields.specs.declared.SerialRead.{SerialRead}
+use Rattle.fields.specs.declared.SerialRead.the-variants as SerialRead
 use Rattle.fields.specs.Field.{textAt, endOf, callAt, callOrEmptyAt, modeAt, reportAt, serialAt, exchangeAt, locatorAt, locatorOrEmptyAt, markAt}
 
 -- A field keeps a rule and ends here.
@@ -64,7 +64,8 @@ module _ (s : Text) (at : ℕ) where
   unfolding callOrEmptyAt
   call-or-empty-refused h = call-denies (emptyOr call) s at h
 
--- The readers that answer the end alone: their answer by its constructor, which tells two ends apart and none is bad.
+-- Readers that answer only where the field ends: `good` makes the answer of an end, and `bad` is the other answer. Good answers that are equal have
+-- one end, and no good answer is the bad one.
 module _ {A : Type 0} (good : ℕ → A) (bad : A) (same-end : (x y : ℕ) → good x ≡ good y → y ≡ x) (apart : (x : ℕ) → bad ≡ good x → ⊥) (rule : Text → Bool) (s : Text) (at : ℕ) where
   end-says : (e : ℕ) → cond (rule (textAt s at)) (good (endOf s at)) bad ≡ good e → Kept rule s at e
   end-says e h =
@@ -129,14 +130,14 @@ exchange-same x y q = cc
 exchange-apart : (x : ℕ) → ExchangeRead.Bad ≡ ExchangeRead.Exchange x → ⊥
 exchange-apart x q = let z : _≡_ {A = ℕ} 0 1 = cc in omega arith
 
-module _ (s : Text) (at : ℕ) where
-  pub exchange-picked : {e : ℕ} → exchangeAt s at ≡ ExchangeRead.Exchange e → Kept (exchange base) s at e
+module _ (R : Rules) (s : Text) (at : ℕ) where
+  pub exchange-picked : {e : ℕ} → exchangeAt R s at ≡ ExchangeRead.Exchange e → Kept (exchange R) s at e
   unfolding exchangeAt
-  exchange-picked {e} h = end-says ExchangeRead.Exchange ExchangeRead.Bad exchange-same exchange-apart (exchange base) s at e h
+  exchange-picked {e} h = end-says ExchangeRead.Exchange ExchangeRead.Bad exchange-same exchange-apart (exchange R) s at e h
 
-  pub exchange-refused : exchangeAt s at ≡ ExchangeRead.Bad → exchange base (textAt s at) ≡ false
+  pub exchange-refused : exchangeAt R s at ≡ ExchangeRead.Bad → exchange R (textAt s at) ≡ false
   unfolding exchangeAt
-  exchange-refused h = end-denies ExchangeRead.Exchange ExchangeRead.Bad exchange-same exchange-apart (exchange base) s at h
+  exchange-refused h = end-denies ExchangeRead.Exchange ExchangeRead.Bad exchange-same exchange-apart (exchange R) s at h
 
 -- A locator, and one that may be empty.
 locator-same : (x y : ℕ) → LocatorRead.Locator x ≡ LocatorRead.Locator y → y ≡ x

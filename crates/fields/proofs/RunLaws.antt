@@ -1,26 +1,23 @@
 -- Laws of the fields that are a run of one kind of characters: how long the field is, and what its rule says of that.
 -- Assumes nothing.
-use Prim.Native.Nat.{ℕ, suc, _+_, _-_, _≤_, _<_}
+use Prim.Native.Nat.{ℕ, _+_, _-_, _≤_, _<_}
 use native.Mathlib.Omega.{arith}
-use native.Mathlib.Nat.{not-suc-le-zero}
+use mathlib.Core.Bool.{Bool, true, false, not, _&&_, and-false}
+use mathlib.Core.List.{_∷_}
 use mathlib.Core.Path.{_≡_, refl, sym, ap, _∙_}
-use mathlib.Core.Bool.{Bool, true, false, not, _&&_, and-true, and-false, true≢false}
-use mathlib.Core.List.{[], _∷_}
-use lib.Dec.{leb, ltb, eqb}
-use lib.ListN.{length, take, drop, getD, length-take, length-drop}
-use borrow.Author.Tests.{le-leb, lt-leb, le-ltb, lt-ltb, leb-true, leb-false, ne-eqb, not-true, not-false}
-use Rattle.rules.specs.Text.{digit, Text, span, all, same}
-use Rattle.rules.specs.Rules.{base}
-use Rattle.rules.specs.Fields.{exchange, exchangeCharacter, call, serial, callCharacter, errorCall}
+use lib.Dec.{leb, ltb}
+use lib.ListN.{length, take, drop, length-take, length-drop}
+use borrow.Author.Tests.{le-leb, lt-leb, le-ltb, lt-ltb, leb-true, leb-false, eq-eqb, ne-eqb, not-true, not-false}
+use Rattle.rules.specs.Fields.{exchange, exchangeCharacter, call, callCharacter, errorCall}
+use Rattle.rules.specs.Rules.{Rules}
+use Rattle.rules.specs.Text.{Text, span, all, same}
 use Rattle.rules.proofs.TextLaws.{same-apart, take-its-length}
 use Rattle.fields.specs.declared.CallRead.{CallRead}
 use Rattle.fields.specs.declared.CallRead.the-variants as CallRead
 use Rattle.fields.specs.declared.ExchangeRead.{ExchangeRead}
 use Rattle.fields.specs.declared.ExchangeRead.the-variants as ExchangeRead
-use Rattle.fields.specs.declared.SerialRead.{SerialRead}
-use Rattle.fields.specs.declared.SerialRead.the-variants as SerialRead
-use Rattle.fields.specs.Field.{exchangeAt, serialAt, inField, textAt, endsAt, endOf, callAt}
-use Rattle.fields.proofs.FieldLaws.{next-at, run-is-field, run-is-as-long}
+use Rattle.fields.specs.Field.{exchangeAt, inField, textAt, endsAt, endOf, callAt}
+use Rattle.fields.proofs.FieldLaws.{characters, take-characters, run-is-field, run-is-as-long}
 
 -- The run from a place on ended: the field is no run of the kind, or it is, and ends there.
 pub record Run (f : ℕ → Bool) (s : Text) (at end : ℕ) : Type 0 where
@@ -58,24 +55,18 @@ other-length : (t : Text) → (length t ≡ 5 → ⊥) → false ≡ same t erro
 unfolding errorCall
 other-length t h = same-apart t errorCall h
 
-pub five : (s : Text) (i : ℕ) → i + 5 ≤ length s
-    → take 5 (drop i s)
-    ≡ getD s i 0 ∷ getD s (i + 1) 0 ∷ getD s (i + 2) 0 ∷ getD s (i + 3) 0 ∷ getD s (i + 4) 0 ∷ []
-five s i h =
-    rw (
-      next-at s i (i + 1) (omega arith) refl,
-      next-at s (i + 1) (i + 2) (omega arith) (omega arith),
-      next-at s (i + 2) (i + 3) (omega arith) (omega arith),
-      next-at s (i + 3) (i + 4) (omega arith) (omega arith),
-      next-at s (i + 4) (i + 5) (omega arith) (omega arith),
-    )
+pub error-first : (s : Text) (i : ℕ) → i + 5 ≤ length s → same (take 5 (drop i s)) errorCall ≡ same (characters s i 5) errorCall
+error-first s i h = ap (λ (t : Text). same t errorCall) (take-characters s i 5 h)
 
-pub error-is : (s : Text) (i : ℕ) → i + 5 ≤ length s
-    → same (take 5 (drop i s)) errorCall
-    ≡ (eqb (getD s i 0) 69
-    && (eqb (getD s (i + 1) 0) 82 && (eqb (getD s (i + 2) 0) 82 && (eqb (getD s (i + 3) 0) 79 && eqb (getD s (i + 4) 0) 82))))
-unfolding same errorCall
-error-is s i h = rw (five s i h, and-true (eqb (getD s (i + 4) 0) 82))
+-- Two texts, compared one character after another.
+module _ {a b : ℕ} (t u : Text) where
+  pub same-on : a ≡ b → same (a ∷ t) (b ∷ u) ≡ same t u
+  unfolding same
+  same-on e = rw (eq-eqb a b e)
+
+  pub same-off : (a ≡ b → ⊥) → same (a ∷ t) (b ∷ u) ≡ false
+  unfolding same
+  same-off n = rw (ne-eqb a b n)
 
 -- A call.
 pub call-kind : (s : Text) (at : ℕ) → all callCharacter (textAt s at) ≡ false → CallRead.Bad ≡ callAt s at
@@ -113,70 +104,20 @@ module _ {s : Text} {at end : ℕ} (r : Run callCharacter s at end) where
   pub five-within : end - at ≡ 5 → at + 5 ≤ length s
   five-within e = omega (arith, text-within s at (omega arith))
 
--- A serial number.
-serial-other : (t : Text) → all digit t ≡ false → serial t ≡ false
-unfolding serial all
-serial-other [] e = absurd (true≢false e)
-serial-other (c ∷ t) e = rw (e, and-false (leb 3 (suc (length t)) && leb (suc (length t)) 4))
-
-pub serial-kind : (s : Text) (at : ℕ) → all digit (textAt s at) ≡ false → SerialRead.Bad ≡ serialAt s at
-unfolding serialAt
-serial-kind s at e = rw (serial-other (textAt s at) e)
-
-serial-not : (t : Text) → 0 < length t → (leb 3 (length t) && leb (length t) 4) ≡ false → serial t ≡ false
-unfolding serial
-serial-not [] h e = absurd (not-suc-le-zero h)
-serial-not (c ∷ t) h e = rw e
-
-serial-kept : (t : Text) → 3 ≤ length t → length t ≤ 4 → all digit t ≡ true → serial t ≡ true
-unfolding serial
-serial-kept [] h l e = refl
-serial-kept (c ∷ t) h l e = rw (le-leb 3 (suc (length t)) h, le-leb (suc (length t)) 4 l, e)
-
-serial-none : (t : Text) → length t ≡ 0 → serial t ≡ true
-unfolding serial
-serial-none [] e = refl
-serial-none (c ∷ t) e = absurd (omega arith)
-
-module _ {s : Text} {at end : ℕ} (r : Run digit s at end) where
-  serial-bad : serial (textAt s at) ≡ false → SerialRead.Bad ≡ serialAt s at
-  unfolding serialAt
-  serial-bad e = rw e
-
-  serial-read : serial (textAt s at) ≡ true → SerialRead.Serial end ≡ serialAt s at
-  unfolding serialAt
-  serial-read e = rw (e, r .ending)
-
-  pub serial-empty : end - at ≡ 0 → SerialRead.Serial end ≡ serialAt s at
-  serial-empty h = serial-read (serial-none (textAt s at) (r .count ∙ h))
-
-  pub serial-short : (end - at ≡ 0 → ⊥) → end - at < 3 → SerialRead.Bad ≡ serialAt s at
-  serial-short n h =
-      serial-bad
-      (serial-not (textAt s at) (omega arith) (rw (lt-leb 3 (length (textAt s at)) (omega arith))))
-
-  pub serial-long : 4 < end - at → SerialRead.Bad ≡ serialAt s at
-  serial-long h =
-      serial-bad
-      (serial-not (textAt s at) (omega arith)
-      (rw (lt-leb (length (textAt s at)) 4 (omega arith), and-false (leb 3 (length (textAt s at))))))
-
-  pub serial-digits : 3 ≤ end - at → end - at ≤ 4 → SerialRead.Serial end ≡ serialAt s at
-  serial-digits h l = serial-read (serial-kept (textAt s at) (omega arith) (omega arith) (r .kind))
-
 -- An exchange.
-pub exchange-kind : (s : Text) (at : ℕ) → all exchangeCharacter (textAt s at) ≡ false → ExchangeRead.Bad ≡ exchangeAt s at
-unfolding exchangeAt exchange base
-exchange-kind s at e = rw (e, and-false (leb (length (textAt s at)) 6))
+module _ (R : Rules) where
+  pub exchange-kind : (s : Text) (at : ℕ) → all exchangeCharacter (textAt s at) ≡ false → ExchangeRead.Bad ≡ exchangeAt R s at
+  unfolding exchangeAt exchange
+  exchange-kind s at e = rw (e, and-false (leb (length (textAt s at)) (R .longestExchange)))
 
-module _ {s : Text} {at end : ℕ} (r : Run exchangeCharacter s at end) where
-  pub exchange-long : 6 < end - at → ExchangeRead.Bad ≡ exchangeAt s at
-  unfolding exchangeAt exchange base
-  exchange-long h = rw (lt-leb (length (textAt s at)) 6 (omega arith))
+  module _ {s : Text} {at end most : ℕ} (r : Run exchangeCharacter s at end) (m : most ≡ R .longestExchange) where
+    pub exchange-long : most < end - at → ExchangeRead.Bad ≡ exchangeAt R s at
+    unfolding exchangeAt exchange
+    exchange-long h = rw (lt-leb (length (textAt s at)) (R .longestExchange) (omega arith))
 
-  pub exchange-read : end - at ≤ 6 → ExchangeRead.Exchange end ≡ exchangeAt s at
-  unfolding exchangeAt exchange base
-  exchange-read h = rw (le-leb (length (textAt s at)) 6 (omega arith), r .kind, r .ending)
+    pub exchange-read : end - at ≤ most → ExchangeRead.Exchange end ≡ exchangeAt R s at
+    unfolding exchangeAt exchange
+    exchange-read h = rw (le-leb (length (textAt s at)) (R .longestExchange) (omega arith), r .kind, r .ending)
 
 -- An exchange's characters: the allowed ones, but for the semicolon and the small letters.
 module _ (b : ℕ) where

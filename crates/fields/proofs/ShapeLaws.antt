@@ -1,29 +1,31 @@
 -- Laws of the fields that are read place by place: each place has its kind of character, and the field ends behind the last, or where it may.
 -- Assumes nothing.
 use Prim.Native.Nat.{ℕ, zero, suc, _+_, _≤_, _<_}
-use native.Mathlib.Omega.{arith}
 use native.Mathlib.Nat.{not-suc-le-zero, le-of-suc-le-suc}
-use mathlib.Core.Path.{_≡_, refl, sym, ap, _∙_}
+use native.Mathlib.Omega.{arith}
 use mathlib.Core.Bool.{Bool, true, false, not, _&&_, _||_, and-false, true≢false}
 use mathlib.Core.List.{[], _∷_}
+use mathlib.Core.Path.{_≡_, refl, sym, ap, _∙_}
 use lib.Dec.{leb, eqb}
 use lib.ListN.{length, getD, List·getD-eq-default}
-use borrow.Author.Tests.{eq-eqb, eqb-true, leb-true, leb-false, ne-eqb, not-true, not-false}
+use borrow.Author.Tests.{eq-eqb, eqb-true, lt-leb, leb-true, leb-false, ne-eqb, not-true, not-false}
+use Rattle.rules.specs.Fields.{mode, report, serial, locator, squareLetter, subLetter, emptyOr}
 use Rattle.rules.specs.Text.{Text, digit, capital, span, all, same, empty}
-use Rattle.rules.specs.Fields.{mode, report, locator, squareLetter, subLetter, emptyOr}
 use Rattle.fields.specs.declared.CallRead.{CallRead}
 use Rattle.fields.specs.declared.CallRead.the-variants as CallRead
-use Rattle.fields.specs.declared.ModeRead.{ModeRead}
-use Rattle.fields.specs.declared.ModeRead.the-variants as ModeRead
 use Rattle.fields.specs.declared.LocatorRead.{LocatorRead}
 use Rattle.fields.specs.declared.LocatorRead.the-variants as LocatorRead
 use Rattle.fields.specs.declared.MarkRead.{MarkRead}
 use Rattle.fields.specs.declared.MarkRead.the-variants as MarkRead
+use Rattle.fields.specs.declared.ModeRead.{ModeRead}
+use Rattle.fields.specs.declared.ModeRead.the-variants as ModeRead
 use Rattle.fields.specs.declared.ReportRead.{ReportRead}
 use Rattle.fields.specs.declared.ReportRead.the-variants as ReportRead
-use Rattle.fields.specs.Field.{textAt, endsAt, endOf, callAt, callOrEmptyAt, modeAt, reportAt, locatorAt, locatorOrEmptyAt, markAt}
-use Rattle.fields.proofs.Picked.{Kept}
+use Rattle.fields.specs.declared.SerialRead.{SerialRead}
+use Rattle.fields.specs.declared.SerialRead.the-variants as SerialRead
+use Rattle.fields.specs.Field.{textAt, endsAt, endOf, callAt, callOrEmptyAt, modeAt, reportAt, serialAt, locatorAt, locatorOrEmptyAt, markAt}
 use Rattle.fields.proofs.FieldLaws.{next, ends-with-line, ends-at-semicolon}
+use Rattle.fields.proofs.Picked.{Kept}
 
 -- The field ends; a character of a kind comes first; the field ends or goes on.
 pub data Shape : Type 0 where
@@ -182,7 +184,7 @@ pub mode-is : (t : Text) → mode t ≡ fits mode-0 t
 unfolding mode all fits
 mode-is [] = refl
 mode-is (a ∷ []) = refl
-mode-is (a ∷ b ∷ t) = rw (ne-eqb (suc (suc (length t))) 1 (omega arith), and-false (digit a))
+mode-is (a ∷ b ∷ t) = rw (ne-eqb (length (a ∷ b ∷ t)) 1 (omega arith), and-false (digit a))
 
 pub mode-bad : (s : Text) (at : ℕ) → mode (textAt s at) ≡ false → ModeRead.Bad ≡ modeAt s at
 unfolding modeAt
@@ -220,8 +222,8 @@ report-is (a ∷ b ∷ c ∷ []) = by (digit a) (digit b) (digitOrCapital c)
     by false y z = refl
 report-is (a ∷ b ∷ c ∷ d ∷ t) =
     rw (
-      ne-eqb (suc (suc (suc (suc (length t))))) 2 (omega arith),
-      ne-eqb (suc (suc (suc (suc (length t))))) 3 (omega arith),
+      ne-eqb (length (a ∷ b ∷ c ∷ d ∷ t)) 2 (omega arith),
+      ne-eqb (length (a ∷ b ∷ c ∷ d ∷ t)) 3 (omega arith),
       and-false (digitOrCapital c),
       and-false (digit b),
       and-false (digit a),
@@ -234,6 +236,38 @@ report-bad s at e = rw e
 pub report-kept : (s : Text) (at i : ℕ) → Kept report s at i → ReportRead.Report i ≡ reportAt s at
 unfolding reportAt
 report-kept s at i k = rw (k .holds, ← k .ending)
+
+-- A serial number: what may stand behind its three digits, and the whole.
+abbrev pub serial-3 : Shape
+serial-3 = endedOr (one digit ended)
+
+abbrev pub serial-0 : Shape
+serial-0 = endedOr (one digit (one digit (one digit serial-3)))
+
+pub serial-is : (t : Text) → serial t ≡ fits serial-0 t
+unfolding serial all fits
+serial-is [] = refl
+serial-is (a ∷ []) = rw (and-false (digit a))
+serial-is (a ∷ b ∷ []) = rw (and-false (digit b), and-false (digit a))
+serial-is (a ∷ b ∷ c ∷ []) = refl
+serial-is (a ∷ b ∷ c ∷ d ∷ []) = refl
+serial-is (a ∷ b ∷ c ∷ d ∷ e ∷ t) =
+    rw (
+      lt-leb (length (a ∷ b ∷ c ∷ d ∷ e ∷ t)) 4 (omega arith),
+      and-false (leb 3 (length (a ∷ b ∷ c ∷ d ∷ e ∷ t))),
+      and-false (digit d),
+      and-false (digit c),
+      and-false (digit b),
+      and-false (digit a),
+    )
+
+pub serial-bad : (s : Text) (at : ℕ) → serial (textAt s at) ≡ false → SerialRead.Bad ≡ serialAt s at
+unfolding serialAt
+serial-bad s at e = rw e
+
+pub serial-kept : (s : Text) (at i : ℕ) → Kept serial s at i → SerialRead.Serial i ≡ serialAt s at
+unfolding serialAt
+serial-kept s at i k = rw (k .holds, ← k .ending)
 
 -- A call, where there may be none.
 pub no-call : (s : Text) (at : ℕ) → endsAt s at ≡ true → CallRead.Call at false ≡ callOrEmptyAt s at
@@ -274,8 +308,8 @@ locator-is (a ∷ b ∷ c ∷ d ∷ e ∷ f ∷ []) =
     in-a-row (squareLetter a) (squareLetter b) (digit c) (digit d) (subLetter e && (subLetter f && true))
 locator-is (a ∷ b ∷ c ∷ d ∷ e ∷ f ∷ g ∷ t) =
     rw (
-      ne-eqb (suc (suc (suc (suc (suc (suc (suc (length t)))))))) 4 (omega arith),
-      ne-eqb (suc (suc (suc (suc (suc (suc (suc (length t)))))))) 6 (omega arith),
+      ne-eqb (length (a ∷ b ∷ c ∷ d ∷ e ∷ f ∷ g ∷ t)) 4 (omega arith),
+      ne-eqb (length (a ∷ b ∷ c ∷ d ∷ e ∷ f ∷ g ∷ t)) 6 (omega arith),
       and-false (subLetter f),
       and-false (subLetter e),
       and-false (digit d),

@@ -5,23 +5,23 @@ use mathlib.Core.Bool.{Bool, cond, not}
 use mathlib.Core.List.{[], _∷_}
 use lib.Dec.{eqb}
 use lib.ListN.{length, take, drop}
-use Rattle.rules.specs.Text.{Text, semicolon, span, same, empty}
-use Rattle.rules.specs.Rules.{base}
 use Rattle.rules.specs.Fields.{call, errorCall, mode, report, serial, exchange, locator, emptyOr}
+use Rattle.rules.specs.Rules.{Rules}
+use Rattle.rules.specs.Text.{Text, semicolon, span, same, empty}
 use Rattle.fields.specs.declared.CallRead.{CallRead}
 use Rattle.fields.specs.declared.CallRead.the-variants as CallRead
-use Rattle.fields.specs.declared.ModeRead.{ModeRead}
-use Rattle.fields.specs.declared.ModeRead.the-variants as ModeRead
-use Rattle.fields.specs.declared.ReportRead.{ReportRead}
-use Rattle.fields.specs.declared.ReportRead.the-variants as ReportRead
-use Rattle.fields.specs.declared.SerialRead.{SerialRead}
-use Rattle.fields.specs.declared.SerialRead.the-variants as SerialRead
 use Rattle.fields.specs.declared.ExchangeRead.{ExchangeRead}
 use Rattle.fields.specs.declared.ExchangeRead.the-variants as ExchangeRead
 use Rattle.fields.specs.declared.LocatorRead.{LocatorRead}
 use Rattle.fields.specs.declared.LocatorRead.the-variants as LocatorRead
 use Rattle.fields.specs.declared.MarkRead.{MarkRead}
 use Rattle.fields.specs.declared.MarkRead.the-variants as MarkRead
+use Rattle.fields.specs.declared.ModeRead.{ModeRead}
+use Rattle.fields.specs.declared.ModeRead.the-variants as ModeRead
+use Rattle.fields.specs.declared.ReportRead.{ReportRead}
+use Rattle.fields.specs.declared.ReportRead.the-variants as ReportRead
+use Rattle.fields.specs.declared.SerialRead.{SerialRead}
+use Rattle.fields.specs.declared.SerialRead.the-variants as SerialRead
 
 -- No semicolon.
 abbrev pub inField : ℕ → Bool
@@ -64,9 +64,9 @@ unfoldable pub serialAt : Text → ℕ → SerialRead
 unfolding textAt endOf serial
 serialAt s at = cond (serial (textAt s at)) (SerialRead.Serial (endOf s at)) SerialRead.Bad
 
-unfoldable pub exchangeAt : Text → ℕ → ExchangeRead
-unfolding textAt endOf exchange base
-exchangeAt s at = cond (exchange base (textAt s at)) (ExchangeRead.Exchange (endOf s at)) ExchangeRead.Bad
+unfoldable pub exchangeAt : Rules → Text → ℕ → ExchangeRead
+unfolding textAt endOf exchange
+exchangeAt R s at = cond (exchange R (textAt s at)) (ExchangeRead.Exchange (endOf s at)) ExchangeRead.Bad
 
 unfoldable pub locatorAt : Text → ℕ → LocatorRead
 unfolding textAt endOf locator

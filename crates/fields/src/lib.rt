@@ -1,12 +1,13 @@
 // The readers of single fields. Each takes a line and the place where its field begins, and answers where the field ends and what it holds,
 // or that it is bad. Each goes over its field once, and copies nothing; a call of five characters alone is looked at again, for `ERROR`.
 
-ghost use mathlib.Core.Path.{_≡_};
 ghost use Prim.Native.Nat.{_+_, _≤_};
 ghost use mathlib.Core.Bool.{_||_};
+ghost use mathlib.Core.Path.{_≡_};
 ghost use lib.ListN.{length, take, drop, getD};
-ghost use Rattle.rules.specs.Text.{digit, capital, span, same};
 ghost use Rattle.rules.specs.Fields.{callCharacter, exchangeCharacter, squareLetter, subLetter, errorCall};
+ghost use Rattle.rules.specs.Rules.{base};
+ghost use Rattle.rules.specs.Text.{digit, capital, span, same};
 ghost use Rattle.fields.specs.Field.{endsAt, callAt, callOrEmptyAt, modeAt, reportAt, serialAt, exchangeAt, locatorAt, locatorOrEmptyAt, markAt};
 
 pub fn is_digit(b: u8) -> bool
@@ -269,21 +270,32 @@ pub enum SerialRead {
 pub fn serial(s: &[u8], at: usize) -> SerialRead
     ensures { λ r. ⌜ r ≡ serialAt (now (s .entry)) at ⌝ }
 {
-    let end = digit_run(s, at);
-    if !ends(s, end) {
+    let first = byte_at(s, at);
+    if first == 59 {
+        return SerialRead::Serial(at);
+    }
+    if !is_digit(first) {
         return SerialRead::Bad;
     }
-    let count = end - at;
-    if count == 0 {
-        return SerialRead::Serial(end);
-    }
-    if count < 3 {
+    if !is_digit(byte_at(s, at + 1)) {
         return SerialRead::Bad;
     }
-    if 4 < count {
+    if !is_digit(byte_at(s, at + 2)) {
         return SerialRead::Bad;
     }
-    SerialRead::Serial(end)
+    let three = at + 3;
+    let fourth = byte_at(s, three);
+    if fourth == 59 {
+        return SerialRead::Serial(three);
+    }
+    if !is_digit(fourth) {
+        return SerialRead::Bad;
+    }
+    let four = at + 4;
+    if !ends(s, four) {
+        return SerialRead::Bad;
+    }
+    SerialRead::Serial(four)
 }
 
 pub enum ExchangeRead {
@@ -292,13 +304,13 @@ pub enum ExchangeRead {
 }
 
 pub fn exchange(s: &[u8], at: usize) -> ExchangeRead
-    ensures { λ r. ⌜ r ≡ exchangeAt (now (s .entry)) at ⌝ }
+    ensures { λ r. ⌜ r ≡ exchangeAt base (now (s .entry)) at ⌝ }
 {
     let end = exchange_run(s, at);
     if !ends(s, end) {
         return ExchangeRead::Bad;
     }
-    if 6 < end - at {
+    if rules::longest_exchange() < end - at {
         return ExchangeRead::Bad;
     }
     ExchangeRead::Exchange(end)

@@ -2,14 +2,14 @@
 -- Assumes nothing.
 use Prim.Native.Nat.{ℕ, zero, suc, _+_, _-_, _%_, _≤_, _<_}
 use native.Mathlib.Omega.{arith}
-use mathlib.Core.Path.{_≡_, refl}
 use mathlib.Core.Bool.{true, false, not, and-false, and-true, or-false, or-true}
 use mathlib.Core.List.{[], _∷_}
+use mathlib.Core.Path.{_≡_, refl}
 use lib.Dec.{leb, eqb, lit≤}
-use lib.ListN.{getD, List·getD-eq-default}
+use lib.ListN.{getD}
 use borrow.Author.Tests.{not-true, eq-eqb, ne-eqb, le-leb, lt-leb, leb-true}
-use Rattle.rules.specs.Text.{Text, all}
 use Rattle.rules.specs.Fields.{monthLengths, leap, monthLength, dayExists, fullYear}
+use Rattle.rules.specs.Text.{Text, all}
 use Rattle.rules.proofs.Tests.{and-l, and-r}
 
 module _ (year : ℕ) where
@@ -38,16 +38,6 @@ unfolding monthLengths all
 length-small i = entry-small monthLengths i refl
 
 module _ (year month : ℕ) where
-  pub length-beyond : 12 < month → 0 ≡ monthLength year month
-  unfolding monthLength monthLengths
-  length-beyond h =
-      let other : month ≡ 2 → ⊥ = λ e. omega arith in
-      rw (ne-eqb month 2 other, List·getD-eq-default monthLengths 0 {n = month - 1} (omega arith))
-
-  pub length-none : month ≡ 0 → 31 ≡ monthLength year month
-  unfolding monthLength monthLengths
-  length-none e = rw e
-
   pub length-plain : (month ≡ 2 → ⊥) → getD monthLengths (month - 1) 0 ≡ monthLength year month
   unfolding monthLength
   length-plain h = rw (ne-eqb month 2 h) (omega arith)

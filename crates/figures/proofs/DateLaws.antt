@@ -1,26 +1,30 @@
--- Laws of dates.
+-- Laws of dates: what their digits say, and the answers of their readers.
 -- Assumes nothing.
 use Prim.Native.Nat.{ℕ, _+_, _*_, _-_, _/_, _%_, _≤_, _<_}
 use native.Mathlib.Omega.{arith}
-use mathlib.Core.Path.{_≡_, refl, sym, ap, _∙_}
-use mathlib.Core.Bool.{Bool, true, false, not, _&&_, true≢false}
+use mathlib.Core.Bool.{Bool, true, false, not, _&&_}
 use mathlib.Core.List.{[], _∷_}
-use lib.Dec.{leb, eqb, leb·zero}
+use mathlib.Core.Path.{_≡_, refl, sym, ap, _∙_}
+use lib.Dec.{leb, eqb}
 use lib.ListN.{length, take, drop, length-drop}
 use lib.Seq.{drop-drop}
 use borrow.Author.Tests.{not-true, not-false, eq-eqb, ne-eqb, eqb-true, le-leb, lt-leb}
-use Rattle.rules.specs.Text.{Text, digit, all, empty, value}
 use Rattle.rules.specs.Fields.{dayExists, fullYear, shortDate, longDate}
-use Rattle.rules.proofs.TextLaws.{all-drop}
+use Rattle.rules.specs.Text.{Text, digit, all, value}
 use Rattle.rules.proofs.NumberLaws.{value-below}
+use Rattle.rules.proofs.Tests.{and-l, and-r}
+use Rattle.rules.proofs.TextLaws.{all-drop}
 use Rattle.fields.specs.Field.{textAt, endsAt}
-use Rattle.figures.specs.declared.DigitsRead.{DigitsRead}
+use Rattle.fields.proofs.FieldLaws.{characters}
+use Rattle.fields.proofs.ShapeLaws.{ended-text}
 use Rattle.figures.specs.declared.DateRead.{DateRead}
 use Rattle.figures.specs.declared.DateRead.the-variants as DateRead
+use Rattle.figures.specs.declared.DigitsRead.{DigitsRead}
 use Rattle.figures.specs.declared.LongDateRead.{LongDateRead}
 use Rattle.figures.specs.declared.LongDateRead.the-variants as LongDateRead
 use Rattle.figures.specs.Figure.{digitsAt, dateAt, longDateAt}
-use Rattle.figures.proofs.NumberLaws.{value-split, is-read, not-read, end-here}
+use Rattle.figures.proofs.ExactLaws.{too-short, not-ended, other-characters, exact-text}
+use Rattle.figures.proofs.NumberLaws.{value-split, is-read, not-read, end-here, end-is-length}
 
 -- The year, the month and the day of a date's digits, from the number that they write.
 module _ (k : ℕ) (t : Text) (l : length t ≡ k + 4) (h : all digit t ≡ true) where
@@ -60,28 +64,15 @@ unended n t h = by (eqb (length t) n) refl (all digit t) h
     by true e false h = refl
     by false e d h = refl
 
-short-unended : (t : Text) → (all digit t && leb (length t) 6) ≡ false → shortDate t ≡ false
-unfolding shortDate
-short-unended t h = rw (unended 6 t h)
-
 long-unended : (t : Text) → (all digit t && leb (length t) 8) ≡ false → longDate t ≡ false
 unfolding longDate
 long-unended t h = rw (unended 8 t h)
-
-short-other : (t : Text) → (length t ≡ 6 → ⊥) → shortDate t ≡ false
-unfolding shortDate
-short-other t h = rw (ne-eqb (length t) 6 h)
 
 long-other : (t : Text) → (length t ≡ 8 → ⊥) → longDate t ≡ false
 unfolding longDate
 long-other t h = rw (ne-eqb (length t) 8 h)
 
--- A date of the right length is one exactly when its day exists, and its year is in the window.
-short-is : (t : Text) {year : ℕ} → length t ≡ 6 → all digit t ≡ true → year ≡ fullYear (value t / 10000)
-    → shortDate t ≡ dayExists year (value t / 100 % 100) (value t % 100)
-unfolding shortDate
-short-is t l h y = rw (eq-eqb (length t) 6 l, h, year-is 2 t l h, month-is 2 t l h, day-is 2 t l h, y)
-
+-- A long date of the right length is one exactly when its year is in the window, and its day exists.
 module _ (t : Text) (l : length t ≡ 8) (h : all digit t ≡ true) where
   long-early : value t / 10000 < 1990 → longDate t ≡ false
   unfolding longDate
@@ -99,64 +90,60 @@ module _ (t : Text) (l : length t ≡ 8) (h : all digit t ≡ true) where
       rw
       (eq-eqb (length t) 8 l, h, year-is 4 t l h, le-leb 1990 (value t / 10000) j, le-leb (value t / 10000) 2089 k, month-is 4 t l h, day-is 4 t l h)
 
-not-empty : (t : Text) → (length t ≡ 0 → ⊥) → empty t ≡ false
-not-empty [] h = absurd (h refl)
-not-empty (c ∷ t) h = refl
+-- A short date has six characters, and all of them are digits.
+short-long : (t : Text) → shortDate t ≡ true → length t ≡ 6
+unfolding shortDate
+short-long t h =
+    let day = dayExists (fullYear (value (take 2 t))) (value (take 2 (drop 2 t))) (value (drop 4 t)) in
+    eqb-true (length t) 6 (and-l (eqb (length t) 6) (all digit t) (and-l (eqb (length t) 6 && all digit t) day h))
 
-is-empty : (t : Text) → length t ≡ 0 → t ≡ []
-is-empty [] h = refl
-is-empty (c ∷ t) h = absurd (omega arith)
+short-digits : (t : Text) → shortDate t ≡ true → all digit t ≡ true
+unfolding shortDate
+short-digits t h =
+    let day = dayExists (fullYear (value (take 2 t))) (value (take 2 (drop 2 t))) (value (drop 4 t)) in
+    and-r (eqb (length t) 6) (all digit t) (and-l (eqb (length t) 6 && all digit t) day h)
 
-unended-not-empty : (n : ℕ) (t : Text) → (all digit t && leb (length t) n) ≡ false → length t ≡ 0 → ⊥
-unfolding all
-unended-not-empty n [] h e = true≢false (sym (leb·zero n) ∙ h)
-unended-not-empty n (c ∷ t) h e = omega arith
+-- The answers on six characters.
+module _ (a b c d e f : ℕ) where
+  abbrev six : Text
+  six = a ∷ b ∷ c ∷ d ∷ e ∷ f ∷ []
 
--- The answers of the readers of dates, one for each.
-module _ (s : Text) (at : ℕ) (r : DigitsRead) (e : r ≡ digitsAt 6 s at) where
-  date-bad : shortDate (textAt s at) ≡ false → (length (textAt s at) ≡ 0 → ⊥) → DateRead.Bad ≡ dateAt s at
+  pub six-kind : all digit six ≡ false → false ≡ shortDate six
+  unfolding shortDate
+  six-kind h = rw h
+
+  pub six-day : all digit six ≡ true
+      → dayExists (fullYear (value (a ∷ b ∷ []))) (value (c ∷ d ∷ [])) (value (e ∷ f ∷ [])) ≡ shortDate six
+  unfolding shortDate
+  six-day h = rw h
+
+-- The answers of the reader of short dates, one for each.
+module _ (s : Text) (at : ℕ) where
+  pub date-empty : endsAt s at ≡ true → DateRead.Empty ≡ dateAt s at
+  unfolding dateAt shortDate
+  date-empty h = rw (ended-text s at h)
+
+  pub date-good : at + 6 ≤ length s → endsAt s (at + 6) ≡ true → shortDate (characters s at 6) ≡ true → DateRead.Date (at + 6) ≡ dateAt s at
   unfolding dateAt
-  date-bad h n = rw (h, not-empty (textAt s at) n)
+  date-good h e r =
+      let text : textAt s at ≡ characters s at 6 = exact-text 6 shortDate short-long s at h short-digits e r in
+      rw (end-is-length s at, text, r)
 
-  pub date-unended : not (endsAt s (r .end)) ≡ true → DateRead.Bad ≡ dateAt s at
-  date-unended h =
-      let g : (all digit (textAt s at) && leb (length (textAt s at)) 6) ≡ false = not-read 6 s at r e (not-true (endsAt s (r .end)) h) in
-      date-bad (short-unended (textAt s at) g) (unended-not-empty 6 (textAt s at) g)
+  module _ (n : endsAt s at ≡ false) where
+    date-bad : shortDate (textAt s at) ≡ false → DateRead.Bad ≡ dateAt s at
+    unfolding dateAt endsAt
+    date-bad h = rw (h, n)
 
-  module _ (h : endsAt s (r .end) ≡ true) where
-    pub date-empty : r .end ≡ at → DateRead.Empty ≡ dateAt s at
-    unfolding dateAt shortDate
-    date-empty n = rw (is-empty (textAt s at) (omega (arith, end-here 6 s at r e h)))
+    pub date-short : length s < at + 6 → DateRead.Bad ≡ dateAt s at
+    date-short h = date-bad (too-short 6 shortDate short-long s at (omega arith) h)
 
-    pub date-other : (r .end ≡ at → ⊥) → (r .end - at ≡ 6 → ⊥) → DateRead.Bad ≡ dateAt s at
-    date-other n m =
-        date-bad (short-other (textAt s at) (λ k. m (omega (arith, end-here 6 s at r e h))))
-        (λ k. n (omega (arith, end-here 6 s at r e h)))
+    pub date-unended : endsAt s (at + 6) ≡ false → DateRead.Bad ≡ dateAt s at
+    date-unended h = date-bad (not-ended 6 shortDate short-long s at h)
 
-    module _ (l : r .end - at ≡ 6) where
-      six : length (textAt s at) ≡ 6
-      six = omega (arith, end-here 6 s at r e h)
+    pub date-other : at + 6 ≤ length s → shortDate (characters s at 6) ≡ false → DateRead.Bad ≡ dateAt s at
+    date-other h r = date-bad (other-characters 6 shortDate short-long s at h r)
 
-      pub date-below : r .value < 1000000
-      date-below =
-          omega (arith, is-read 6 s at r e h .value, rw six at (value-below (textAt s at) (is-read 6 s at r e h .digits)))
-
-      date-is : {year : ℕ} → year ≡ fullYear (r .value / 10000)
-          → shortDate (textAt s at) ≡ dayExists year (r .value / 100 % 100) (r .value % 100)
-      date-is {year} y =
-          let same : r .value ≡ value (textAt s at) = is-read 6 s at r e h .value in
-          short-is (textAt s at) six (is-read 6 s at r e h .digits) (y ∙ ap (λ (v : ℕ). fullYear (v / 10000)) same)
-          ∙ ap (λ (v : ℕ). dayExists year (v / 100 % 100) (v % 100)) (sym same)
-
-      pub date-no-day : {year : ℕ} {b : Bool} → year ≡ fullYear (r .value / 10000)
-          → b ≡ dayExists year (r .value / 100 % 100) (r .value % 100) → not b ≡ true → DateRead.Bad ≡ dateAt s at
-      date-no-day {b = b} y d n = date-bad (date-is y ∙ sym d ∙ not-true b n) (λ k. omega (arith, six))
-
-      pub date-good : {year : ℕ} {b : Bool} → year ≡ fullYear (r .value / 10000)
-          → b ≡ dayExists year (r .value / 100 % 100) (r .value % 100) → not b ≡ false → DateRead.Date (r .end) ≡ dateAt s at
-      unfolding dateAt
-      date-good {b = b} y d n = rw (date-is y ∙ sym d ∙ not-false b n, is-read 6 s at r e h .end)
-
+-- The answers of the reader of long dates, one for each.
 module _ (s : Text) (at : ℕ) (r : DigitsRead) (e : r ≡ digitsAt 8 s at) where
   long-bad : longDate (textAt s at) ≡ false → LongDateRead.Bad ≡ longDateAt s at
   unfolding longDateAt

@@ -6,3 +6,4 @@ pub mod CalendarLaws
 pub mod DateLaws
 pub mod Picked
 pub mod BoundLaws
+pub mod LimitLaws

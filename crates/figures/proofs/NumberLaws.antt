@@ -1,27 +1,25 @@
 -- Laws of digits and of the numbers that they write.
 -- Assumes nothing.
 use Prim.Native.Nat.{ℕ, zero, suc, _+_, _*_, _-_, _^_, _≤_, _<_}
-use native.Mathlib.Omega.{arith}
 use native.Mathlib.Nat.{pow-succ', one-le-pow, add-zero, add-mul, mul-assoc, mul-comm}
-use mathlib.Core.Path.{_≡_, refl, sym, ap, _∙_}
+use native.Mathlib.Omega.{arith}
 use mathlib.Core.Bool.{Bool, true, false, cond, not, _&&_, and-false, true≢false}
 use mathlib.Core.List.{[], _∷_}
-use lib.Dec.{T, leb, eqb, leb→le, le→leb, lit<, leb·zero, leb·suc-zero, leb·suc-suc}
+use mathlib.Core.Path.{_≡_, refl, sym, ap, _∙_}
+use lib.Dec.{leb, eqb, lit<, leb·zero, leb·suc-zero, leb·suc-suc}
 use lib.ListN.{length, take, drop, getD, drop-of-length-le}
-use lib.Seq.{length-take-le, drop-drop, getD-drop}
+use lib.Seq.{drop-drop, getD-drop}
 use borrow.Author.Tests.{leb-true, eqb-true, ne-eqb, not-true}
 use Rattle.rules.specs.Text.{Text, digit, span, all, same, begins, empty, value, valueAfter, number, numberOf}
 use Rattle.rules.proofs.Tests.{and-l, and-r}
-use Rattle.rules.proofs.Passing.{equal-tests}
-use Rattle.rules.proofs.TextLaws.{span-short}
-use Rattle.rules.proofs.NumberLaws.{number-digits, value-below, below-power, number-length}
 use Rattle.fields.specs.Field.{inField, textAt, endsAt, endOf}
 use Rattle.fields.proofs.FieldLaws.{next as at-place}
+use Rattle.fields.proofs.PartLaws.{span-length}
 use Rattle.fields.proofs.RunLaws.{text-within}
 use Rattle.figures.specs.declared.DigitsRead.{DigitsRead}
 use Rattle.figures.specs.declared.NumberRead.{NumberRead}
 use Rattle.figures.specs.declared.NumberRead.the-variants as NumberRead
-use Rattle.figures.specs.Figure.{digitsWithin, digitsFrom, digitsAt, numberAt}
+use Rattle.figures.specs.Figure.{leadingDigits, digitsFrom, digitsAt, numberAt}
 
 pub digit-least : (b : ℕ) → digit b ≡ true → 48 ≤ b
 digit-least b e = leb-true 48 b (and-l (leb 48 b) (leb b 57) e)
@@ -36,7 +34,7 @@ read v e = record { value = v; end = e }
 module _ (v : ℕ) (s : Text) (i : ℕ) where
   more-step : (left : ℕ) → i < length s → digit (getD s i 0) ≡ true
       → digitsFrom (suc left) v s i ≡ digitsFrom left (10 * v + (getD s i 0 - 48)) s (i + 1)
-  unfolding digitsFrom digitsWithin valueAfter
+  unfolding digitsFrom leadingDigits valueAfter
   more-step left h e = rw (at-place s i h, e) (ap (read _) (omega arith))
 
   pub digits-more : (left : ℕ) → 1 ≤ left → i < length s → digit (getD s i 0) ≡ true
@@ -47,16 +45,16 @@ module _ (v : ℕ) (s : Text) (i : ℕ) where
       ∙ ap (λ (n : ℕ). digitsFrom n (10 * v + (getD s i 0 - 48)) s (i + 1)) (omega arith)
 
   pub digits-enough : (left : ℕ) → left ≡ 0 → read v i ≡ digitsFrom left v s i
-  unfolding digitsFrom digitsWithin valueAfter
+  unfolding digitsFrom leadingDigits valueAfter
   digits-enough left e = rw e (ap (read v) (omega arith))
 
   pub digits-stop : (left : ℕ) → i < length s → digit (getD s i 0) ≡ false → read v i ≡ digitsFrom left v s i
-  unfolding digitsFrom digitsWithin valueAfter
+  unfolding digitsFrom leadingDigits valueAfter
   digits-stop zero h e = ap (read v) (omega arith)
   digits-stop (suc left) h e = rw (at-place s i h, e) (ap (read v) (omega arith))
 
   pub digits-end : (left : ℕ) → length s ≤ i → read v i ≡ digitsFrom left v s i
-  unfolding digitsFrom digitsWithin valueAfter
+  unfolding digitsFrom leadingDigits valueAfter
   digits-end zero h = ap (read v) (omega arith)
   digits-end (suc left) h = rw (drop-of-length-le s h) (ap (read v) (omega arith))
 
@@ -78,17 +76,17 @@ field s = take (span inField s) s
 -- they are the field.
 abbrev pub Whole : ℕ → Text → Type 0
 Whole most s =
-    (empty (field (drop (digitsWithin most s) s)) ≡ (all digit (field s) && leb (length (field s)) most))
-    × ((all digit (field s) && leb (length (field s)) most) ≡ true → digitsWithin most s ≡ span inField s)
+    (empty (field (drop (leadingDigits most s) s)) ≡ (all digit (field s) && leb (length (field s)) most))
+    × ((all digit (field s) && leb (length (field s)) most) ≡ true → leadingDigits most s ≡ span inField s)
 
 whole-none : (c : ℕ) (s : Text) (d : Bool) → eqb c 59 ≡ d → Whole 0 (c ∷ s)
-unfolding span all digitsWithin
+unfolding span all leadingDigits
 whole-none c s true g = rw (g) (refl, λ k. refl)
 whole-none c s false g =
     rw (g, leb·suc-zero, and-false) (refl, λ k. absurd (true≢false (sym k)))
 
 whole-step : (most c : ℕ) (s : Text) (b d : Bool) → digit c ≡ b → eqb c 59 ≡ d → Whole most s → Whole (suc most) (c ∷ s)
-unfolding span all digitsWithin
+unfolding span all leadingDigits
 whole-step most c s true true e g h =
     let z : true ≡ false = sym e ∙ ap digit (eqb-true c 59 g) in absurd (true≢false z)
 whole-step most c s true false e g h = rw (g, e, leb·suc-suc) (h .0, λ k. ap suc (h .1 k))
@@ -96,15 +94,11 @@ whole-step most c s false true e g h = rw (g, e, g, leb·zero) (refl, λ k. refl
 whole-step most c s false false e g h = rw (g, e, g) (refl, λ k. absurd (true≢false (sym k)))
 
 pub whole : (most : ℕ) (s : Text) → Whole most s
-unfolding span all digitsWithin
+unfolding span all leadingDigits
 whole zero [] = (refl, λ k. refl)
 whole zero (c ∷ s) = whole-none c s (eqb c 59) refl
 whole (suc most) [] = rw (leb·zero) (refl, λ k. refl)
 whole (suc most) (c ∷ s) = whole-step most c s (digit c) (eqb c 59) refl refl (whole most s)
-
--- A run of characters is as long as its text.
-pub span-length : (f : ℕ → Bool) (s : Text) → length (take (span f s) s) ≡ span f s
-span-length f s = length-take-le (span f s) s (span-short f s)
 
 pub end-is-length : (s : Text) (at : ℕ) → endOf s at ≡ at + length (textAt s at)
 unfolding endOf
@@ -137,7 +131,7 @@ pub record Read (most : ℕ) (s : Text) (at : ℕ) (r : DigitsRead) : Type 0 whe
 module _ (most : ℕ) (s : Text) (at : ℕ) (r : DigitsRead) (e : r ≡ digitsAt most s at) where
   ends-is : endsAt s (r .end) ≡ (all digit (textAt s at) && leb (length (textAt s at)) most)
   unfolding digitsAt digitsFrom endsAt textAt
-  ends-is = rw (e, ← drop-drop (digitsWithin most (drop at s)) at s) (whole most (drop at s) .0)
+  ends-is = rw (e, ← drop-drop (leadingDigits most (drop at s)) at s) (whole most (drop at s) .0)
 
   pub is-read : endsAt s (r .end) ≡ true → Read most s at r
   unfolding digitsAt digitsFrom endsAt textAt endOf value
@@ -146,7 +140,7 @@ module _ (most : ℕ) (s : Text) (at : ℕ) (r : DigitsRead) (e : r ≡ digitsAt
       g : (all digit (textAt s at) && leb (length (textAt s at)) most) ≡ true
       g = sym ends-is ∙ h
 
-      count : digitsWithin most (drop at s) ≡ span inField (drop at s)
+      count : leadingDigits most (drop at s) ≡ span inField (drop at s)
       count = whole most (drop at s) .1 g
 
   pub not-read : endsAt s (r .end) ≡ false → (all digit (textAt s at) && leb (length (textAt s at)) most) ≡ false
@@ -269,19 +263,3 @@ after-split (suc k) n (c ∷ t) = after-split k (10 * n + (c - 48)) t
 pub value-split : (k : ℕ) (t : Text) → value t ≡ value (take k t) * 10 ^ length (drop k t) + value (drop k t)
 unfolding value
 value-split k t = after-split k 0 t ∙ value-after (valueAfter 0 (take k t)) (drop k t)
-
--- A number has at most so many digits exactly when it is below ten to that power.
-pub digits-bound : (k : ℕ) (t : Text) → 1 ≤ k → number t ≡ true → leb (length t) k ≡ leb (value t) (10 ^ k - 1)
-digits-bound zero t l n = absurd (omega arith)
-digits-bound (suc k) t l n = equal-tests (leb (length t) (suc k)) (leb (value t) (10 ^ suc k - 1)) few small
-  where
-    few : T (leb (length t) (suc k)) → T (leb (value t) (10 ^ suc k - 1))
-    few h =
-        let below : value t < 10 ^ suc k = below-power (length t) (suc k) (leb→le (length t) (suc k) h) (value-below t (number-digits t n)) in
-        le→leb (value t) (10 ^ suc k - 1) (omega arith)
-
-    small : T (leb (value t) (10 ^ suc k - 1)) → T (leb (length t) (suc k))
-    small h =
-        let most : value t ≤ 10 ^ suc k - 1 = leb→le (value t) (10 ^ suc k - 1) h in
-        let some : 1 ≤ 10 ^ suc k = one-le-pow (suc k) 10 (lit< tt) in
-        le→leb (length t) (suc k) (number-length k t n (omega arith))

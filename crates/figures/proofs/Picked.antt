@@ -2,21 +2,21 @@
 -- Assumes nothing.
 use Prim.Native.Nat.{ℕ}
 use native.Mathlib.Omega.{arith}
-use mathlib.Core.Path.{_≡_, sym, ap}
 use mathlib.Core.Bool.{Bool, true, false, cond}
-use Rattle.rules.specs.Text.{Text, empty, value}
+use mathlib.Core.Path.{_≡_, sym, ap}
 use Rattle.rules.specs.Fields.{shortDate, longDate, timeOfDay}
+use Rattle.rules.specs.Text.{Text, empty, value}
 use Rattle.rules.proofs.Tests.{picked, passed}
 use Rattle.fields.specs.Field.{textAt, endOf}
-use Rattle.figures.specs.declared.TimeOfDay.{TimeOfDay}
 use Rattle.figures.specs.declared.DateRead.{DateRead}
 use Rattle.figures.specs.declared.DateRead.the-variants as DateRead
 use Rattle.figures.specs.declared.LongDateRead.{LongDateRead}
 use Rattle.figures.specs.declared.LongDateRead.the-variants as LongDateRead
-use Rattle.figures.specs.declared.TimeRead.{TimeRead}
-use Rattle.figures.specs.declared.TimeRead.the-variants as TimeRead
 use Rattle.figures.specs.declared.NumberRead.{NumberRead}
 use Rattle.figures.specs.declared.NumberRead.the-variants as NumberRead
+use Rattle.figures.specs.declared.TimeOfDay.{TimeOfDay}
+use Rattle.figures.specs.declared.TimeRead.{TimeRead}
+use Rattle.figures.specs.declared.TimeRead.the-variants as TimeRead
 use Rattle.figures.specs.Figure.{numberAt, dateAt, longDateAt, timeAt}
 
 no-number : {v e : ℕ} → NumberRead.Bad ≡ NumberRead.Number v e → ⊥

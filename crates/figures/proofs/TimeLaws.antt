@@ -1,26 +1,25 @@
--- Laws of times of day.
+-- Laws of times of day: what four characters make, what a time says, and the answers of its reader.
 -- Assumes nothing.
 use Prim.Native.Nat.{ℕ, _+_, _*_, _-_, _/_, _%_, _≤_, _<_}
 use native.Mathlib.Omega.{arith}
-use mathlib.Core.Path.{_≡_, refl, sym, ap, _∙_}
-use mathlib.Core.Bool.{Bool, true, false, not, _&&_, true≢false}
+use mathlib.Core.Bool.{true, false, _&&_}
 use mathlib.Core.List.{[], _∷_}
+use mathlib.Core.Path.{_≡_, sym, ap, _∙_}
 use lib.Dec.{leb, eqb}
 use lib.ListN.{length, take, drop, getD, length-drop}
-use borrow.Author.Tests.{not-true, leb-true, ne-eqb, eqb-true, eqb-false, le-leb, lt-leb}
-use Rattle.rules.specs.Text.{Text, digit, all, value, valueAfter}
+use borrow.Author.Tests.{leb-true, eqb-true, le-leb, lt-leb}
 use Rattle.rules.specs.Fields.{timeOfDay}
+use Rattle.rules.specs.Text.{Text, digit, all, value, valueAfter}
 use Rattle.rules.proofs.Tests.{and-l, and-r, passed, picked}
 use Rattle.fields.specs.Field.{textAt, endsAt, endOf}
-use Rattle.fields.proofs.RunLaws.{text-of-length, text-within}
-use Rattle.figures.specs.declared.TimeOfDay.{TimeOfDay}
 use Rattle.figures.specs.declared.TimeMade.{TimeMade}
 use Rattle.figures.specs.declared.TimeMade.the-variants as TimeMade
+use Rattle.figures.specs.declared.TimeOfDay.{TimeOfDay}
 use Rattle.figures.specs.declared.TimeRead.{TimeRead}
 use Rattle.figures.specs.declared.TimeRead.the-variants as TimeRead
 use Rattle.figures.specs.Figure.{timeMade, timeAt}
+use Rattle.figures.proofs.ExactLaws.{too-short, not-ended, other-characters, exact-text}
 use Rattle.figures.proofs.NumberLaws.{value-split, end-is-length}
-use Rattle.figures.proofs.ExactLaws.{exact-ends, digits-exact, four-characters}
 
 -- The number that two digits write.
 pub two-digits : (a b : ℕ) → 10 * (a - 48) + (b - 48) ≡ value (a ∷ b ∷ [])
@@ -29,43 +28,27 @@ two-digits a b = omega arith
 
 -- The answers on four characters, one for each.
 module _ (a b c d : ℕ) where
-  pub made-first : not (digit a) ≡ true → TimeMade.Bad ≡ timeMade a b c d
-  unfolding timeMade timeOfDay all
-  made-first h = rw (not-true (digit a) h)
+  abbrev four : Text
+  four = a ∷ b ∷ c ∷ d ∷ []
 
-  pub made-second : digit a ≡ true → not (digit b) ≡ true → TimeMade.Bad ≡ timeMade a b c d
-  unfolding timeMade timeOfDay all
-  made-second f h = rw (f, not-true (digit b) h)
+  pub made-kind : all digit four ≡ false → TimeMade.Bad ≡ timeMade a b c d
+  unfolding timeMade timeOfDay
+  made-kind h = rw h
 
-  pub made-third : digit a ≡ true → digit b ≡ true → not (digit c) ≡ true → TimeMade.Bad ≡ timeMade a b c d
-  unfolding timeMade timeOfDay all
-  made-third f g h = rw (f, g, not-true (digit c) h)
-
-  pub made-fourth : digit a ≡ true → digit b ≡ true → digit c ≡ true → not (digit d) ≡ true → TimeMade.Bad ≡ timeMade a b c d
-  unfolding timeMade timeOfDay all
-  made-fourth f g h i = rw (f, g, h, not-true (digit d) i)
-
-  pub record Four : Type 0 where
-    pub first : digit a ≡ true
-    pub second : digit b ≡ true
-    pub third : digit c ≡ true
-    pub fourth : digit d ≡ true
-
-  module _ (four : Four) {hours : ℕ} (h : hours ≡ value (a ∷ b ∷ [])) where
+  module _ (h : all digit four ≡ true) {hours : ℕ} (e : hours ≡ value (a ∷ b ∷ [])) where
     pub made-hours : 23 < hours → TimeMade.Bad ≡ timeMade a b c d
-    unfolding timeMade timeOfDay all
-    made-hours l = rw (four .first, four .second, four .third, four .fourth, ← h, lt-leb hours 23 l)
+    unfolding timeMade timeOfDay
+    made-hours l = rw (h, ← e, lt-leb hours 23 l)
 
     pub made-minutes : {minutes : ℕ} → hours ≤ 23 → minutes ≡ value (c ∷ d ∷ []) → 59 < minutes → TimeMade.Bad ≡ timeMade a b c d
-    unfolding timeMade timeOfDay all
-    made-minutes {minutes} l m n =
-        rw (four .first, four .second, four .third, four .fourth, ← h, le-leb hours 23 l, ← m, lt-leb minutes 59 n)
+    unfolding timeMade timeOfDay
+    made-minutes {minutes} l m n = rw (h, ← e, le-leb hours 23 l, ← m, lt-leb minutes 59 n)
 
     pub made-time : {minutes : ℕ} → hours ≤ 23 → minutes ≡ value (c ∷ d ∷ []) → minutes ≤ 59
         → TimeMade.Time (record { digits = 100 * hours + minutes }) ≡ timeMade a b c d
-    unfolding timeMade timeOfDay all value valueAfter
+    unfolding timeMade timeOfDay value valueAfter
     made-time {minutes} l m n =
-        rw (four .first, four .second, four .third, four .fourth, ← h, le-leb hours 23 l, ← m, le-leb minutes 59 n)
+        rw (h, ← e, le-leb hours 23 l, ← m, le-leb minutes 59 n)
         (ap (λ (k : ℕ). TimeMade.Time (record { digits = k })) (omega arith))
 
 no-time : {t : TimeOfDay} → TimeMade.Bad ≡ TimeMade.Time t → ⊥
@@ -86,9 +69,21 @@ module _ (a b c d : ℕ) where
   made-refused p = passed (timeOfDay (a ∷ b ∷ c ∷ d ∷ [])) p (λ q. no-time (sym q)) .0
 
 -- A time has four characters, and all of them are digits.
-time-long : (t : Text) → (length t ≡ 4 → ⊥) → timeOfDay t ≡ false
+time-long : (t : Text) → timeOfDay t ≡ true → length t ≡ 4
 unfolding timeOfDay
-time-long t h = rw (ne-eqb (length t) 4 h)
+time-long t h =
+    let hours = leb (value (take 2 t)) 23 in
+    let minutes = leb (value (drop 2 t)) 59 in
+    let long = eqb (length t) 4 in
+    eqb-true (length t) 4 (and-l long (all digit t) (and-l (long && all digit t) hours (and-l (long && all digit t && hours) minutes h)))
+
+time-digits : (t : Text) → timeOfDay t ≡ true → all digit t ≡ true
+unfolding timeOfDay
+time-digits t h =
+    let hours = leb (value (take 2 t)) 23 in
+    let minutes = leb (value (drop 2 t)) 59 in
+    let long = eqb (length t) 4 in
+    and-r long (all digit t) (and-l (long && all digit t) hours (and-l (long && all digit t && hours) minutes h))
 
 -- The hours and the minutes of a time, in the number that it writes; so the last time of a day is 2359, 1439 minutes from the first.
 time-parts : (t : Text) → timeOfDay t ≡ true
@@ -99,8 +94,7 @@ time-parts t h =
     let hours = leb (value (take 2 t)) 23 in
     let minutes = leb (value (drop 2 t)) 59 in
     let before : (long && all digit t && hours) ≡ true = and-l (long && all digit t && hours) minutes h in
-    let four : length t ≡ 4 = eqb-true (length t) 4 (and-l long (all digit t) (and-l (long && all digit t) hours before)) in
-    let two : length (drop 2 t) ≡ 2 = omega (arith, length-drop 2 t) in (
+    let two : length (drop 2 t) ≡ 2 = omega (arith, time-long t h, length-drop 2 t) in (
       rw two at (value-split 2 t),
       leb-true (value (take 2 t)) 23 (and-r (long && all digit t) hours before),
       leb-true (value (drop 2 t)) 59 (and-r (long && all digit t && hours) minutes h),
@@ -116,13 +110,6 @@ pub made-within : (a b c d : ℕ) {t : TimeOfDay} → timeMade a b c d ≡ TimeM
 made-within a b c d p =
     omega (arith, made-picked a b c d p .1, time-last (a ∷ b ∷ c ∷ d ∷ []) (made-picked a b c d p .0))
 
-time-digits : (t : Text) → timeOfDay t ≡ true → all digit t ≡ true
-unfolding timeOfDay
-time-digits t h =
-    and-r (eqb (length t) 4) (all digit t)
-    (and-l (eqb (length t) 4 && all digit t) (leb (value (take 2 t)) 23)
-    (and-l (eqb (length t) 4 && all digit t && leb (value (take 2 t)) 23) (leb (value (drop 2 t)) 59) h))
-
 module _ (s : Text) (at : ℕ) where
   time-bad : timeOfDay (textAt s at) ≡ false → TimeRead.Bad ≡ timeAt s at
   unfolding timeAt
@@ -134,38 +121,20 @@ module _ (s : Text) (at : ℕ) where
   time-good {t} {e} h p q = rw (h, q) (ap (λ (k : ℕ). TimeRead.Time (record { digits = k }) (endOf s at)) p)
 
   pub time-short : length s < at + 4 → TimeRead.Bad ≡ timeAt s at
-  time-short h = time-bad (time-long (textAt s at) (λ e. omega (arith, text-within s at (omega arith))))
+  time-short h = time-bad (too-short 4 timeOfDay time-long s at (omega arith) h)
 
-  pub time-unended : not (endsAt s (at + 4)) ≡ true → TimeRead.Bad ≡ timeAt s at
-  time-unended h =
-      time-bad
-      (time-long (textAt s at)
-      (λ e. true≢false (sym (exact-ends 4 s at e) ∙ not-true (endsAt s (at + 4)) h)))
+  pub time-unended : endsAt s (at + 4) ≡ false → TimeRead.Bad ≡ timeAt s at
+  time-unended h = time-bad (not-ended 4 timeOfDay time-long s at h)
 
   abbrev made : TimeMade
   made = timeMade (getD s at 0) (getD s (at + 1) 0) (getD s (at + 2) 0) (getD s (at + 3) 0)
 
   pub time-none : at + 4 ≤ length s → made ≡ TimeMade.Bad → TimeRead.Bad ≡ timeAt s at
-  time-none h p = time-bad (by (eqb (length (textAt s at)) 4) refl)
-    where
-      by : (b : Bool) → eqb (length (textAt s at)) 4 ≡ b → timeOfDay (textAt s at) ≡ false
-      by true e =
-          ap timeOfDay (text-of-length s at 4 (eqb-true (length (textAt s at)) 4 e) ∙ four-characters s at h)
-          ∙ made-refused _ _ _ _ p
-      by false e = time-long (textAt s at) (eqb-false (length (textAt s at)) 4 e)
+  time-none h p = time-bad (other-characters 4 timeOfDay time-long s at h (made-refused _ _ _ _ p))
 
   pub time-some : {t : TimeOfDay} → at + 4 ≤ length s → endsAt s (at + 4) ≡ true → made ≡ TimeMade.Time t
       → TimeRead.Time t (at + 4) ≡ timeAt s at
-  time-some {t} h e p =
-      time-good (ap timeOfDay text ∙ right) (made-picked _ _ _ _ p .1 ∙ ap value (sym text)) (sym (end-is-length s at ∙ ap (λ (t : Text). at + length t) text))
-    where
-      four : Text
-      four = getD s at 0 ∷ getD s (at + 1) 0 ∷ getD s (at + 2) 0 ∷ getD s (at + 3) 0 ∷ []
-
-      right : timeOfDay four ≡ true
-      right = made-picked _ _ _ _ p .0
-
-      text : textAt s at ≡ four
-      text =
-          digits-exact 4 s at (ap (all digit) (four-characters s at h) ∙ time-digits four right) (omega (arith, length-drop at s)) e
-          ∙ four-characters s at h
+  time-some h e p =
+      let q = made-picked _ _ _ _ p in
+      let text = exact-text 4 timeOfDay time-long s at h time-digits e (q .0) in
+      time-good (ap timeOfDay text ∙ q .0) (q .1 ∙ ap value (sym text)) (sym (end-is-length s at ∙ ap (λ (t : Text). at + length t) text))

@@ -4,21 +4,21 @@ use Prim.Native.Nat.{ℕ, zero, suc, _+_, _*_, _/_, _%_}
 use mathlib.Core.Bool.{Bool, cond}
 use mathlib.Core.List.{[], _∷_}
 use lib.ListN.{take, drop}
-use Rattle.rules.specs.Text.{Text, digit, empty, value, valueAfter}
 use Rattle.rules.specs.Fields.{shortDate, longDate, timeOfDay}
+use Rattle.rules.specs.Text.{Text, digit, empty, value, valueAfter}
 use Rattle.fields.specs.Field.{textAt, endOf}
-use Rattle.figures.specs.declared.TimeOfDay.{TimeOfDay}
 use Rattle.figures.specs.declared.DateRead.{DateRead}
 use Rattle.figures.specs.declared.DateRead.the-variants as DateRead
+use Rattle.figures.specs.declared.DigitsRead.{DigitsRead}
 use Rattle.figures.specs.declared.LongDateRead.{LongDateRead}
 use Rattle.figures.specs.declared.LongDateRead.the-variants as LongDateRead
-use Rattle.figures.specs.declared.TimeMade.{TimeMade}
-use Rattle.figures.specs.declared.TimeMade.the-variants as TimeMade
-use Rattle.figures.specs.declared.TimeRead.{TimeRead}
-use Rattle.figures.specs.declared.TimeRead.the-variants as TimeRead
 use Rattle.figures.specs.declared.NumberRead.{NumberRead}
 use Rattle.figures.specs.declared.NumberRead.the-variants as NumberRead
-use Rattle.figures.specs.declared.DigitsRead.{DigitsRead}
+use Rattle.figures.specs.declared.TimeMade.{TimeMade}
+use Rattle.figures.specs.declared.TimeMade.the-variants as TimeMade
+use Rattle.figures.specs.declared.TimeOfDay.{TimeOfDay}
+use Rattle.figures.specs.declared.TimeRead.{TimeRead}
+use Rattle.figures.specs.declared.TimeRead.the-variants as TimeRead
 
 unfoldable pub dateAt : Text → ℕ → DateRead
 unfolding textAt endOf shortDate
@@ -52,18 +52,18 @@ unfolding textAt endOf value
 numberAt rule s at = cond (rule (textAt s at)) (NumberRead.Number (value (textAt s at)) (endOf s at)) NumberRead.Bad
 
 -- How many characters at the front are digits, counted no further than so many.
-unfoldable pub digitsWithin : ℕ → Text → ℕ
-digitsWithin zero s = 0
-digitsWithin (suc most) [] = 0
-digitsWithin (suc most) (c ∷ s) =
-    let more = suc (digitsWithin most s) in
+unfoldable pub leadingDigits : ℕ → Text → ℕ
+leadingDigits zero s = 0
+leadingDigits (suc most) [] = 0
+leadingDigits (suc most) (c ∷ s) =
+    let more = suc (leadingDigits most s) in
     cond (digit c) more 0
 
 -- The digits from a place on, and no more than so many, after those that wrote n: what they all write, and the place behind them.
 unfoldable pub digitsFrom : ℕ → ℕ → Text → ℕ → DigitsRead
-unfolding digitsWithin valueAfter
+unfolding leadingDigits valueAfter
 digitsFrom most n s at =
-    record { value = valueAfter n (take (digitsWithin most (drop at s)) (drop at s)); end = at + digitsWithin most (drop at s) }
+    record { value = valueAfter n (take (leadingDigits most (drop at s)) (drop at s)); end = at + leadingDigits most (drop at s) }
 
 unfoldable pub digitsAt : ℕ → Text → ℕ → DigitsRead
 unfolding digitsFrom

@@ -1,14 +1,14 @@
 // The readers of numbers, dates and times. Each takes a line and the place where its field begins, and answers where the field ends and what it
-// says, or that it is bad. A byte is looked at once, and once more only where a number begins or ends; none is copied.
+// says, or that it is bad. A byte is looked at once, and once more only where a field begins or ends; none is copied.
 
-ghost use mathlib.Core.Path.{_≡_};
-ghost use Prim.Native.Nat.{_≤_, _<_};
+ghost use Prim.Native.Nat.{_^_, _≤_, _<_};
 ghost use mathlib.Core.Bool.{true};
 ghost use mathlib.Core.List.{[], _∷_};
-ghost use Rattle.rules.specs.Text.{digit, value, numberOf, numberFrom};
-ghost use Rattle.rules.specs.Rules.{base};
-ghost use Rattle.rules.specs.Fields.{leap, monthLength, dayExists, fullYear};
+ghost use mathlib.Core.Path.{_≡_};
 ghost use Rattle.rules.specs.Arguments.{count, bonus, multiplier};
+ghost use Rattle.rules.specs.Fields.{leap, monthLength, dayExists, fullYear, shortDate};
+ghost use Rattle.rules.specs.Rules.{base};
+ghost use Rattle.rules.specs.Text.{digit, all, value, numberOf, numberFrom};
 ghost use Rattle.figures.specs.Figure.{dateAt, longDateAt, timeAt, minutesOf, numberAt, digitsAt, timeMade};
 use fields::ends;
 use fields::is_digit;
@@ -28,16 +28,10 @@ impl TimeOfDay {
     pub fn from_digits(a: u8, b: u8, c: u8, d: u8) -> TimeMade
         ensures { λ r. ⌜ r ≡ timeMade a b c d ⌝ }
     {
-        if !is_digit(a) {
+        if !are_digits(a, b) {
             return TimeMade::Bad;
         }
-        if !is_digit(b) {
-            return TimeMade::Bad;
-        }
-        if !is_digit(c) {
-            return TimeMade::Bad;
-        }
-        if !is_digit(d) {
+        if !are_digits(c, d) {
             return TimeMade::Bad;
         }
         let hours = two_digits(a, b);
@@ -87,6 +81,9 @@ pub enum NumberRead {
     Bad,
 }
 
+// A u64 holds so many digits, whichever they are.
+const U64_DIGITS: usize = 19;
+
 // Digits from a place on: what they write, and the place behind them.
 struct DigitsRead {
     value: u64,
@@ -95,7 +92,7 @@ struct DigitsRead {
 
 // The digits from here on, and no more than so many: a longer run is left where it goes on, so that the field does not end there.
 fn read_digits(s: &[u8], at: usize, most: usize) -> DigitsRead
-    requires { ⌜ most ≤ 15 ⌝ }
+    requires { ⌜ most ≤ 19 ⌝ }
     ensures { λ r. ⌜ r ≡ digitsAt most (now (s .entry)) at ⌝ }
 {
     let mut value: u64 = 0;
@@ -118,7 +115,7 @@ fn read_digits(s: &[u8], at: usize, most: usize) -> DigitsRead
 
 // A number of at most so many digits.
 fn number(s: &[u8], at: usize, most: usize) -> NumberRead
-    requires { ⌜ most ≤ 15 ⌝ }
+    requires { ⌜ most ≤ 19 ⌝ }
     ensures { λ r. ⌜ r ≡ numberAt (numberOf most) (now (s .entry)) at ⌝ }
 {
     let run = read_digits(s, at, most);
@@ -142,72 +139,91 @@ fn number(s: &[u8], at: usize, most: usize) -> NumberRead
 
 // A record's points.
 pub fn points(s: &[u8], at: usize) -> NumberRead
-    ensures { λ r. ⌜ r ≡ numberAt (numberOf 6) (now (s .entry)) at ⌝ }
+    ensures { λ r. ⌜ r ≡ numberAt (numberOf (base .pointsDigits)) (now (s .entry)) at ⌝ }
 {
-    number(s, at, 6)
+    number(s, at, rules::points_digits())
 }
 
-// The best contact's distance. It has as many digits as points have, but a limit of its own, so that either may change alone.
+// The best contact's distance. It has a limit of its own beside that of points, so that either may change alone.
 pub fn distance(s: &[u8], at: usize) -> NumberRead
-    ensures { λ r. ⌜ r ≡ numberAt (numberOf 6) (now (s .entry)) at ⌝ }
+    ensures { λ r. ⌜ r ≡ numberAt (numberOf (base .distanceDigits)) (now (s .entry)) at ⌝ }
 {
-    number(s, at, 6)
+    number(s, at, rules::distance_digits())
 }
 
 // The claims, by what they are the sum of.
 pub fn claimed_points(s: &[u8], at: usize) -> NumberRead
-    ensures { λ r. ⌜ r ≡ numberAt (numberOf 9) (now (s .entry)) at ⌝ }
+    ensures { λ r. ⌜ r ≡ numberAt (numberOf (base .claimedPointsDigits)) (now (s .entry)) at ⌝ }
 {
-    number(s, at, 9)
+    number(s, at, rules::claimed_points_digits())
 }
 
 pub fn claimed_bonus(s: &[u8], at: usize) -> NumberRead
-    ensures { λ r. ⌜ r ≡ numberAt (numberOf 7) (now (s .entry)) at ⌝ }
+    ensures { λ r. ⌜ r ≡ numberAt (numberOf (base .claimedBonusDigits)) (now (s .entry)) at ⌝ }
 {
-    number(s, at, 7)
+    number(s, at, rules::claimed_bonus_digits())
 }
 
 pub fn claimed_total(s: &[u8], at: usize) -> NumberRead
-    ensures { λ r. ⌜ r ≡ numberAt (numberOf 15) (now (s .entry)) at ⌝ }
+    ensures { λ r. ⌜ r ≡ numberAt (numberOf (base .claimedTotalDigits)) (now (s .entry)) at ⌝ }
 {
-    number(s, at, 15)
+    number(s, at, rules::claimed_total_digits())
 }
 
-// A count, a bonus and N have no least but 0, so the number of their digits bounds them.
-pub fn counted(s: &[u8], at: usize) -> NumberRead
-    ensures { λ r. ⌜ r ≡ numberAt (count base) (now (s .entry)) at ⌝ }
+// A number from the least to the most. One that a u64 may not hold is above the most, so it need not be read to its end.
+fn number_from(s: &[u8], at: usize, least: u64, most: u64) -> NumberRead
+    requires { ⌜ most < 10 ^ 19 ⌝ }
+    ensures { λ r. ⌜ r ≡ numberAt (numberFrom least most) (now (s .entry)) at ⌝ }
 {
-    number(s, at, 4)
-}
-
-pub fn bonus_of(s: &[u8], at: usize) -> NumberRead
-    ensures { λ r. ⌜ r ≡ numberAt (bonus base) (now (s .entry)) at ⌝ }
-{
-    number(s, at, 4)
-}
-
-pub fn record_count(s: &[u8], at: usize) -> NumberRead
-    ensures { λ r. ⌜ r ≡ numberAt (numberFrom 0 999) (now (s .entry)) at ⌝ }
-{
-    number(s, at, 3)
-}
-
-// A multiplier is at least 1.
-pub fn multiplier_of(s: &[u8], at: usize) -> NumberRead
-    ensures { λ r. ⌜ r ≡ numberAt (multiplier base) (now (s .entry)) at ⌝ }
-{
-    let NumberRead::Number(value, end) = number(s, at, 2) else {
+    let NumberRead::Number(value, end) = number(s, at, U64_DIGITS) else {
         return NumberRead::Bad;
     };
-    if value == 0 {
+    if value < least {
+        return NumberRead::Bad;
+    }
+    if most < value {
         return NumberRead::Bad;
     }
     NumberRead::Number(value, end)
 }
 
+pub fn count_of(s: &[u8], at: usize) -> NumberRead
+    ensures { λ r. ⌜ r ≡ numberAt (count base) (now (s .entry)) at ⌝ }
+{
+    number_from(s, at, 0, rules::most_count())
+}
+
+pub fn bonus_of(s: &[u8], at: usize) -> NumberRead
+    ensures { λ r. ⌜ r ≡ numberAt (bonus base) (now (s .entry)) at ⌝ }
+{
+    number_from(s, at, 0, rules::most_bonus())
+}
+
+pub fn multiplier_of(s: &[u8], at: usize) -> NumberRead
+    ensures { λ r. ⌜ r ≡ numberAt (multiplier base) (now (s .entry)) at ⌝ }
+{
+    number_from(s, at, 1, rules::most_multiplier())
+}
+
+// The N of the count line.
+pub fn record_count(s: &[u8], at: usize) -> NumberRead
+    ensures { λ r. ⌜ r ≡ numberAt (numberFrom 0 (base .mostRecords)) (now (s .entry)) at ⌝ }
+{
+    number_from(s, at, 0, rules::most_records() as u64)
+}
+
+fn are_digits(a: u8, b: u8) -> bool
+    ensures { λ r. ⌜ r ≡ all digit (a ∷ b ∷ []) ⌝ }
+{
+    if !is_digit(a) {
+        return false;
+    }
+    is_digit(b)
+}
+
 // The number that two digits write.
 fn two_digits(a: u8, b: u8) -> u32
-    requires { ⌜ (digit a ≡ true) × (digit b ≡ true) ⌝ }
+    requires { ⌜ all digit (a ∷ b ∷ []) ≡ true ⌝ }
     ensures { λ r. ⌜ r ≡ value (a ∷ b ∷ []) ⌝ }
 {
     10 * (a - 48) as u32 + (b - 48) as u32
@@ -247,16 +263,10 @@ fn is_leap(year: u32) -> bool
     year % 4 == 0
 }
 
-// The days of a month. There is no month 0: as in the definition, it counts as the first.
-pub fn month_length(year: u32, month: u32) -> u32
+fn month_length(year: u32, month: u32) -> u32
+    requires { ⌜ (1 ≤ month) × (month ≤ 12) ⌝ }
     ensures { λ r. ⌜ r ≡ monthLength year month ⌝ }
 {
-    if 12 < month {
-        return 0;
-    }
-    if month == 0 {
-        return MONTHS[0] as u32;
-    }
     let i = (month - 1) as usize;
     let days = MONTHS[i] as u32;
     if month != 2 {
@@ -294,26 +304,44 @@ fn full_year(yy: u32) -> u32
     2000 + yy
 }
 
+// Six characters are a date: two digits of the year, two of the month and two of the day.
+fn is_short_date(a: u8, b: u8, c: u8, d: u8, e: u8, f: u8) -> bool
+    ensures { λ r. ⌜ r ≡ shortDate (a ∷ b ∷ c ∷ d ∷ e ∷ f ∷ []) ⌝ }
+{
+    if !are_digits(a, b) {
+        return false;
+    }
+    if !are_digits(c, d) {
+        return false;
+    }
+    if !are_digits(e, f) {
+        return false;
+    }
+    let year = full_year(two_digits(a, b));
+    day_exists(year, two_digits(c, d), two_digits(e, f))
+}
+
 // An empty date is told apart, since a record of the call `ERROR` may have one.
 pub fn date(s: &[u8], at: usize) -> DateRead
     ensures { λ r. ⌜ r ≡ dateAt (now (s .entry)) at ⌝ }
 {
-    let run = read_digits(s, at, 6);
-    let end = run.end;
-    if !ends(s, end) {
-        return DateRead::Bad;
-    }
-    if end == at {
+    if ends(s, at) {
         return DateRead::Empty;
     }
-    if end - at != 6 {
+    // taken from the length, since no sum with `at` need fit
+    if s.len() < 6 {
         return DateRead::Bad;
     }
-    let value = run.value as u32;
-    if !day_exists(full_year(value / 10000), value / 100 % 100, value % 100) {
+    if s.len() - 6 < at {
         return DateRead::Bad;
     }
-    DateRead::Date(end)
+    if !ends(s, at + 6) {
+        return DateRead::Bad;
+    }
+    if !is_short_date(s[at], s[at + 1], s[at + 2], s[at + 3], s[at + 4], s[at + 5]) {
+        return DateRead::Bad;
+    }
+    DateRead::Date(at + 6)
 }
 
 // The years run from 1990 to 2089, so that a long date's last six digits are a short one.

@@ -1,19 +1,19 @@
 -- The rule of each keyword's argument, by the table.
 -- Assumes nothing.
 use Prim.Native.Nat.{ℕ, zero, suc, _+_, _≤_, _<_}
-use native.Mathlib.Omega.{arith}
 use native.Mathlib.Decide.{ℕ-discrete}
-use mathlib.Core.Path.{_≡_, sym, ap, _∙_}
-use mathlib.Core.Logic.{_⊎_, inl, inr}
+use native.Mathlib.Omega.{arith}
 use mathlib.Core.Bool.{Bool, true, false, cond, _&&_, _||_, true≢false}
 use mathlib.Core.List.{List, [], _∷_, _++_, map, head-eq-of-cons-eq, tail-eq-of-cons-eq}
+use mathlib.Core.Logic.{_⊎_, inl, inr}
+use mathlib.Core.Path.{_≡_, sym, ap, _∙_}
 use types.Run.{OneOf}
-use borrow.Author.Tests.{ne-eqb}
 use lib.Dec.{eqb}
 use lib.ListN.{drop-of-length-le}
-use Rattle.rules.specs.Text.{Text}
-use Rattle.rules.specs.Rules.{base}
+use borrow.Author.Tests.{ne-eqb}
 use Rattle.rules.specs.Arguments.{Rule, meets, entries}
+use Rattle.rules.specs.Rules.{Rules}
+use Rattle.rules.specs.Text.{Text}
 use Rattle.rules.proofs.Tests.{and-l, and-r}
 use Rattle.header.specs.declared.ArgumentRead.{ArgumentRead}
 use Rattle.header.specs.declared.ArgumentRead.the-variants as ArgumentRead
@@ -75,24 +75,24 @@ pub one-of : (arms : List (List ℕ)) (p : ℕ) (ps : List ℕ) (first n x : ℕ
 one-of arms p ps first n x e h l a =
     found p ps x (unpassed arms (p ∷ ps) x a (covered (with-arms arms (p ∷ ps)) first n x e h l))
 
-module _ (rule : Rule) (t : Text) where
+module _ (R : Rules) (rule : Rule) (t : Text) where
   abbrev answer : ArgumentRead
-  answer = cond (meets base rule t) ArgumentRead.Kept ArgumentRead.Broken
+  answer = cond (meets R rule t) ArgumentRead.Kept ArgumentRead.Broken
 
   -- At each of these places of the table stands the rule.
   abbrev pub Ruled : List ℕ → Type 0
-  Ruled ps = map (λ (n : ℕ). answer) ps ≡ map (λ (n : ℕ). argumentOf n t) ps
+  Ruled ps = map (λ (n : ℕ). answer) ps ≡ map (λ (n : ℕ). argumentOf R n t) ps
 
-  ruled : (p : ℕ) (ps : List ℕ) (k : ℕ) → Ruled (p ∷ ps) → OneOf (p ∷ ps) k → answer ≡ argumentOf k t
-  ruled p [] k h e = head-eq-of-cons-eq h ∙ ap (λ (n : ℕ). argumentOf n t) (sym e)
-  ruled p (q ∷ ps) k h (inl e) = head-eq-of-cons-eq h ∙ ap (λ (n : ℕ). argumentOf n t) (sym e)
+  ruled : (p : ℕ) (ps : List ℕ) (k : ℕ) → Ruled (p ∷ ps) → OneOf (p ∷ ps) k → answer ≡ argumentOf R k t
+  ruled p [] k h e = head-eq-of-cons-eq h ∙ ap (λ (n : ℕ). argumentOf R n t) (sym e)
+  ruled p (q ∷ ps) k h (inl e) = head-eq-of-cons-eq h ∙ ap (λ (n : ℕ). argumentOf R n t) (sym e)
   ruled p (q ∷ ps) k h (inr o) = ruled q ps k (tail-eq-of-cons-eq h) o
 
   pub answered : (p : ℕ) (ps : List ℕ) (k : ℕ) {b : Bool} {r : ArgumentRead} → Ruled (p ∷ ps) → OneOf (p ∷ ps) k
-      → r ≡ cond b ArgumentRead.Kept ArgumentRead.Broken → b ≡ meets base rule t → r ≡ argumentOf k t
+      → r ≡ cond b ArgumentRead.Kept ArgumentRead.Broken → b ≡ meets R rule t → r ≡ argumentOf R k t
   answered p ps k h o e q =
       e ∙ ap (λ (x : Bool). cond x ArgumentRead.Kept ArgumentRead.Broken) q ∙ ruled p ps k h o
 
-pub beyond-table : (k : ℕ) (t : Text) → 36 ≤ k → ArgumentRead.Broken ≡ argumentOf k t
+pub beyond-table : (R : Rules) (k : ℕ) (t : Text) → 36 ≤ k → ArgumentRead.Broken ≡ argumentOf R k t
 unfolding argumentOf entries firstArgument
-beyond-table k t h = rw (drop-of-length-le entries {i = k} h)
+beyond-table R k t h = rw (drop-of-length-le entries {i = k} h)

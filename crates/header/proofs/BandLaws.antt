@@ -2,16 +2,16 @@
 -- Assumes nothing.
 use Prim.Native.Nat.{ℕ, zero, suc, _+_, _≤_, _<_}
 use native.Mathlib.Nat.{le-of-suc-le-suc, not-suc-le-zero}
-use native.Mathlib.Omega.{arith}
 use native.Mathlib.Numerals.{add-one}
-use mathlib.Core.Path.{_≡_, refl, sym, ap, _∙_}
+use native.Mathlib.Omega.{arith}
 use mathlib.Core.Bool.{Bool, true, false, cond}
 use mathlib.Core.List.{List, [], _∷_, map}
+use mathlib.Core.Path.{_≡_, refl, sym, ap, _∙_}
 use lib.ListN.{length, take, drop, getD, drop-of-length-le, length-take, List·getD-map}
 use lib.Seq.{drop-cons}
-use Rattle.rules.specs.Text.{Text, bytes, same}
-use Rattle.rules.specs.Rules.{base, bandNames}
 use Rattle.rules.specs.Arguments.{among, meets, aBand}
+use Rattle.rules.specs.Rules.{Rules, base, bandNames}
+use Rattle.rules.specs.Text.{Text, bytes, same}
 use Rattle.rules.proofs.Tests.{picked, passed}
 use Rattle.header.specs.declared.BandRead.{BandRead}
 use Rattle.header.specs.declared.BandRead.the-variants as BandRead
@@ -83,7 +83,7 @@ pub no-band : (t : Text) (k : ℕ) → 15 ≤ k → among (drop k bandNames) t �
 unfolding among bandNames
 no-band t k h = rw (drop-of-length-le bandNames {i = k} h)
 
-pub band-told : (t : Text) (b : Bool) → among bandNames t ≡ b → cond b BandRead.Listed BandRead.Differs ≡ bandOf t
+pub band-told : (t : Text) (b : Bool) → among bandNames t ≡ b → cond b BandRead.Listed BandRead.Differs ≡ bandOf base t
 unfolding bandOf meets base
 band-told t b e = ap (λ (x : Bool). cond x BandRead.Listed BandRead.Differs) (sym e)
 
@@ -91,10 +91,11 @@ band-told t b e = ap (λ (x : Bool). cond x BandRead.Listed BandRead.Differs) (s
 listed-apart : BandRead.Listed ≡ BandRead.Differs → ⊥
 listed-apart p = let z : _≡_ {A = ℕ} 0 1 = cc in omega arith
 
-pub band-listed : (t : Text) → bandOf t ≡ BandRead.Listed → true ≡ meets base aBand t
-unfolding bandOf
-band-listed t e = sym (picked (meets base aBand t) e (λ p. listed-apart (sym p)) .0)
+module _ (R : Rules) (t : Text) where
+  pub band-listed : bandOf R t ≡ BandRead.Listed → true ≡ meets R aBand t
+  unfolding bandOf
+  band-listed e = sym (picked (meets R aBand t) e (λ p. listed-apart (sym p)) .0)
 
-pub band-differs : (t : Text) → bandOf t ≡ BandRead.Differs → false ≡ meets base aBand t
-unfolding bandOf
-band-differs t e = sym (passed (meets base aBand t) e listed-apart .0)
+  pub band-differs : bandOf R t ≡ BandRead.Differs → false ≡ meets R aBand t
+  unfolding bandOf
+  band-differs e = sym (passed (meets R aBand t) e listed-apart .0)

@@ -2,17 +2,17 @@
 -- Assumes nothing.
 use Prim.Native.Nat.{ℕ, _+_, _≤_, _<_}
 use native.Mathlib.Omega.{arith}
-use mathlib.Core.Path.{_≡_, refl, sym, ap}
 use mathlib.Core.Bool.{Bool, true, false}
 use mathlib.Core.List.{[], _∷_}
+use mathlib.Core.Path.{_≡_, refl, sym, ap}
 use lib.ListN.{length, drop, drop-of-length-le}
-use Rattle.rules.specs.Text.{Text, all, parts}
-use Rattle.rules.specs.Rules.{base}
-use Rattle.rules.specs.Fields.{call}
 use Rattle.rules.specs.Arguments.{every, meets, emptyOrCalls}
+use Rattle.rules.specs.Fields.{call}
+use Rattle.rules.specs.Rules.{Rules}
+use Rattle.rules.specs.Text.{Text, all, parts}
 use Rattle.fields.specs.Field.{textAt}
+use Rattle.fields.proofs.PartLaws.{at-end, parts-last, parts-more}
 use Rattle.fields.proofs.Picked.{Kept}
-use Rattle.header.proofs.PartLaws.{at-end, parts-last, parts-more}
 
 module _ (rule : Text → Bool) (t : Text) (at : ℕ) where
   pub every-broken : rule (textAt t at) ≡ false → every rule (parts (drop at t)) ≡ false
@@ -34,12 +34,12 @@ pub every-none : (t : Text) (at : ℕ) → length t ≤ at → every call (parts
 unfolding every parts call all
 every-none t at h = rw (drop-of-length-le t h)
 
-pub calls-none : (t : Text) → length t ≡ 0 → true ≡ meets base emptyOrCalls t
+pub calls-none : (R : Rules) (t : Text) → length t ≡ 0 → true ≡ meets R emptyOrCalls t
 unfolding meets
-calls-none [] h = refl
-calls-none (c ∷ t) h = absurd (omega arith)
+calls-none R [] h = refl
+calls-none R (c ∷ t) h = absurd (omega arith)
 
-pub calls-told : (t : Text) (b : Bool) → (length t ≡ 0 → ⊥) → every call (parts t) ≡ b → b ≡ meets base emptyOrCalls t
+pub calls-told : (R : Rules) (t : Text) (b : Bool) → (length t ≡ 0 → ⊥) → every call (parts t) ≡ b → b ≡ meets R emptyOrCalls t
 unfolding meets
-calls-told [] b n e = absurd (n refl)
-calls-told (c ∷ t) b n e = sym e
+calls-told R [] b n e = absurd (n refl)
+calls-told R (c ∷ t) b n e = sym e

@@ -1,21 +1,21 @@
 -- Laws of the two dates: what their readers say, and which is the first.
 -- Assumes nothing.
 use Prim.Native.Nat.{ℕ, _+_}
-use mathlib.Core.Path.{_≡_, sym, ap, ap₂, _∙_}
 use mathlib.Core.Bool.{Bool, true, false, _&&_}
 use mathlib.Core.List.{List, [], _∷_}
+use mathlib.Core.Path.{_≡_, sym, ap, ap₂, _∙_}
 use lib.Dec.{leb}
-use Rattle.rules.specs.Text.{Text, value, parts}
-use Rattle.rules.specs.Rules.{base}
-use Rattle.rules.specs.Fields.{longDate}
 use Rattle.rules.specs.Arguments.{each, part, meets, twoDates}
+use Rattle.rules.specs.Fields.{longDate}
+use Rattle.rules.specs.Rules.{Rules}
+use Rattle.rules.specs.Text.{Text, value, parts}
 use Rattle.fields.specs.Field.{textAt, endOf}
+use Rattle.fields.proofs.PartLaws.{reach-first, reach-next, text-of}
 use Rattle.fields.proofs.Picked.{Kept}
 use Rattle.figures.specs.declared.LongDateRead.{LongDateRead}
 use Rattle.figures.specs.declared.LongDateRead.the-variants as LongDateRead
 use Rattle.figures.specs.Figure.{longDateAt}
 use Rattle.figures.proofs.Picked.{long-date-picked}
-use Rattle.header.proofs.PartLaws.{reach-first, reach-next, text-of}
 
 pub date-kept : (t : Text) (at : ℕ) {v e : ℕ} → longDateAt t at ≡ LongDateRead.Date v e → Kept longDate t at e × (v ≡ value (textAt t at))
 date-kept t at p =
@@ -25,13 +25,13 @@ date-kept t at p =
 abbrev pub dates : List (Text → Bool)
 dates = longDate ∷ longDate ∷ []
 
-module _ (t : Text) where
-  pub no-dates : false ≡ each dates (parts t) → false ≡ meets base twoDates t
+module _ (R : Rules) (t : Text) where
+  pub no-dates : false ≡ each dates (parts t) → false ≡ meets R twoDates t
   unfolding meets
   no-dates e = ap (λ (b : Bool). b && leb (value (part 0 t)) (value (part 1 t))) e
 
   pub dates-compared : {first last e : ℕ} → Kept longDate t 0 e → first ≡ value (textAt t 0) → last ≡ value (textAt t (e + 1))
-      → true ≡ each dates (parts t) → leb first last ≡ meets base twoDates t
+      → true ≡ each dates (parts t) → leb first last ≡ meets R twoDates t
   unfolding meets part
   dates-compared {first} {last} {e} k p q h =
       ap₂ leb

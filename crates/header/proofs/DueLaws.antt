@@ -1,20 +1,20 @@
 -- Laws of reading a text part by part: each part keeps the rule at its place, and the last ends with the text.
 -- Assumes nothing.
 use Prim.Native.Nat.{ℕ, _+_, _≤_, _<_}
-use native.Mathlib.Omega.{arith}
 use native.Mathlib.Decide.{decLt, decLe}
-use mathlib.Core.Path.{_≡_, refl, sym, ap, _∙_}
+use native.Mathlib.Omega.{arith}
 use mathlib.Core.Bool.{Bool, true, false, and-false, and-true}
 use mathlib.Core.List.{List, [], _∷_}
+use mathlib.Core.Path.{_≡_, refl, sym, ap, _∙_}
 use lib.Dec.{eqb}
 use lib.ListN.{length, drop}
 use lib.Seq.{take-all}
 use borrow.Author.Tests.{eq-eqb, ne-eqb}
-use Rattle.rules.specs.Text.{Text, span, all, parts}
 use Rattle.rules.specs.Arguments.{each}
+use Rattle.rules.specs.Text.{Text, span, all, parts}
 use Rattle.fields.specs.Field.{inField, textAt, endOf}
+use Rattle.fields.proofs.PartLaws.{parts-split, end-by-span, end-within, at-end, parts-last, parts-more, whole-span}
 use Rattle.fields.proofs.Picked.{Kept}
-use Rattle.header.proofs.PartLaws.{parts-split, end-by-span, end-within, at-end, parts-last, parts-more, whole-span}
 
 -- The rules that are left are those of the parts from this place on; beyond the end there are too few parts.
 pub record Due (rules left : List (Text → Bool)) (t : Text) (at : ℕ) : Type 0 where

@@ -1,24 +1,25 @@
--- No rule of one argument lets a semicolon through.
+-- No rule of one argument lets a semicolon through, so that a text that keeps it is one part.
 -- Assumes nothing.
 use Prim.Native.Nat.{ℕ}
-use mathlib.Core.Path.{_≡_, refl, sym, ap, _∙_}
 use mathlib.Core.Bool.{Bool, true, false, not, _&&_, true≢false}
 use mathlib.Core.List.{[], _∷_}
+use mathlib.Core.Path.{_≡_, refl, sym, ap, _∙_}
 use lib.Dec.{leb, eqb}
 use lib.ListN.{length}
 use borrow.Author.Tests.{eqb-true, not-true}
-use Rattle.rules.specs.Text.{Text, digit, all, number, numberOf}
-use Rattle.rules.specs.Rules.{base}
 use Rattle.rules.specs.Fields.{call, callCharacter, exchange, exchangeCharacter, locator, emptyOr}
-use Rattle.rules.proofs.Tests.{and-l, and-r, and-i}
+use Rattle.rules.specs.Rules.{Rules}
+use Rattle.rules.specs.Text.{Text, digit, all, number, numberOf}
 use Rattle.rules.proofs.NumberLaws.{number-digits}
+use Rattle.rules.proofs.Tests.{and-l, and-r, and-i}
 use Rattle.fields.specs.Field.{inField}
 use Rattle.fields.proofs.Picked.{Kept}
 use Rattle.fields.proofs.ShapeLaws.{Shape, ended, one, endedOr, fits, locator-0, locator-is}
 use Rattle.figures.specs.declared.NumberRead.{NumberRead}
 use Rattle.figures.specs.declared.NumberRead.the-variants as NumberRead
 use Rattle.figures.specs.Figure.{numberAt}
-use Rattle.figures.proofs.Picked.{number-picked}
+use Rattle.figures.proofs.Picked.{number-picked, number-refused}
+use Rattle.header.proofs.DueLaws.{argument-broken, argument-ends}
 
 -- A kind of characters that the semicolon is not of.
 kind-apart : (f : ℕ → Bool) → f 59 ≡ false → (c : ℕ) → f c ≡ true → inField c ≡ true
@@ -54,9 +55,10 @@ pub call-apart : (t : Text) → call t ≡ true → all inField t ≡ true
 unfolding call
 call-apart t e = all-apart callCharacter refl t (and-r (leb 3 (length t) && leb (length t) 14) (all callCharacter t) e)
 
-pub exchange-apart : (t : Text) → exchange base t ≡ true → all inField t ≡ true
-unfolding exchange base
-exchange-apart t e = all-apart exchangeCharacter refl t (and-r (leb (length t) 6) (all exchangeCharacter t) e)
+pub exchange-apart : (R : Rules) (t : Text) → exchange R t ≡ true → all inField t ≡ true
+unfolding exchange
+exchange-apart R t e =
+    all-apart exchangeCharacter refl t (and-r (leb (length t) (R .longestExchange)) (all exchangeCharacter t) e)
 
 pub locator-apart : (t : Text) → locator t ≡ true → all inField t ≡ true
 locator-apart t e = shape-apart locator-0 refl t (sym (locator-is t) ∙ e)
@@ -76,3 +78,11 @@ pub number-kept : (rule : Text → Bool) (t : Text) (at : ℕ) {v e : ℕ} → n
 number-kept rule t at p =
     let q = number-picked rule t at p in
     record { holds = q .0; ending = q .2 }
+
+-- A whole argument that is a number of at most so many digits.
+module _ (most : ℕ) (t : Text) where
+  pub no-number : numberAt (numberOf most) t 0 ≡ NumberRead.Bad → false ≡ numberOf most t
+  no-number p = argument-broken (numberOf most) (number-apart most) t (number-refused (numberOf most) t 0 p)
+
+  pub whole-number : {v e : ℕ} → numberAt (numberOf most) t 0 ≡ NumberRead.Number v e → eqb e (length t) ≡ numberOf most t
+  whole-number p = argument-ends (numberOf most) (number-apart most) t (number-kept (numberOf most) t 0 p)

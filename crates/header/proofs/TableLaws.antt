@@ -2,14 +2,14 @@
 -- Assumes nothing.
 use Prim.Native.Nat.{ℕ, zero, suc, _≤_, _<_}
 use native.Mathlib.Nat.{le-of-suc-le-suc, not-suc-le-zero}
-use mathlib.Core.Path.{_≡_, refl, sym, ap, _∙_}
 use mathlib.Core.Bool.{Bool, true, false, cond}
 use mathlib.Core.List.{List, [], _∷_, map}
+use mathlib.Core.Path.{_≡_, refl, sym, ap, _∙_}
 use lib.Dec.{T, eqb, eqb→eq}
 use lib.ListN.{length, drop, getD, drop-of-length-le}
-use Rattle.rules.specs.Text.{Text, begins}
 use Rattle.rules.specs.Arguments.{Entry, entries}
 use Rattle.rules.specs.Log.{keywordStart}
+use Rattle.rules.specs.Text.{Text, begins}
 use Rattle.header.specs.declared.KeywordRead.{KeywordRead}
 use Rattle.header.specs.declared.KeywordRead.the-variants as KeywordRead
 use Rattle.header.specs.Header.{firstKeyword, keywordAt}

@@ -1,13 +1,13 @@
--- The keyword of a line, and the names of the bands.
+-- What is answered of a keyword, a band's name and an argument.
 -- Assumes nothing.
 use Prim.Native.Nat.{ℕ}
 use mathlib.Core.Bool.{cond}
 use mathlib.Core.List.{List, [], _∷_}
 use lib.ListN.{drop}
-use Rattle.rules.specs.Text.{Text, begins}
-use Rattle.rules.specs.Rules.{base}
 use Rattle.rules.specs.Arguments.{Entry, entries, aBand, meets}
 use Rattle.rules.specs.Log.{keywordStart}
+use Rattle.rules.specs.Rules.{Rules}
+use Rattle.rules.specs.Text.{Text, begins}
 use Rattle.header.specs.declared.ArgumentRead.{ArgumentRead}
 use Rattle.header.specs.declared.ArgumentRead.the-variants as ArgumentRead
 use Rattle.header.specs.declared.BandRead.{BandRead}
@@ -26,16 +26,16 @@ unfolding firstKeyword entries
 keywordAt k line = firstKeyword (drop k entries) line
 
 -- Whether a text is the name of a band.
-unfoldable pub bandOf : Text → BandRead
-unfolding meets base
-bandOf t = cond (meets base aBand t) BandRead.Listed BandRead.Differs
+unfoldable pub bandOf : Rules → Text → BandRead
+unfolding meets
+bandOf R t = cond (meets R aBand t) BandRead.Listed BandRead.Differs
 
 -- Whether the argument behind the first of the keywords that are left keeps its rule.
-unfoldable pub firstArgument : List Entry → Text → ArgumentRead
-unfolding meets base
-firstArgument [] t = ArgumentRead.Broken
-firstArgument (e ∷ es) t = cond (meets base (e .rule) t) ArgumentRead.Kept ArgumentRead.Broken
+unfoldable pub firstArgument : Rules → List Entry → Text → ArgumentRead
+unfolding meets
+firstArgument R [] t = ArgumentRead.Broken
+firstArgument R (e ∷ es) t = cond (meets R (e .rule) t) ArgumentRead.Kept ArgumentRead.Broken
 
-unfoldable pub argumentOf : ℕ → Text → ArgumentRead
+unfoldable pub argumentOf : Rules → ℕ → Text → ArgumentRead
 unfolding firstArgument entries
-argumentOf k t = firstArgument (drop k entries) t
+argumentOf R k t = firstArgument R (drop k entries) t

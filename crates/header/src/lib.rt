@@ -1,13 +1,13 @@
 // The header's lines: the table of the 36 keywords, the table of the fifteen bands, and the rule of each argument.
 
-ghost use mathlib.Core.Path.{_≡_};
-ghost use Rattle.rules.specs.Text.{same, begins};
 ghost use Prim.Native.Nat.{_<_};
 ghost use mathlib.Core.Bool.{cond};
 ghost use mathlib.Core.List.{[]};
+ghost use mathlib.Core.Path.{_≡_};
 ghost use lib.ListN.{getD};
-ghost use Rattle.rules.specs.Rules.{base, bandNames};
 ghost use Rattle.rules.specs.Arguments.{meets, twoDates, aCall, emptyOrCall, emptyOrCalls, aLocator, anExchange, aBand, countAndMultiplier, countBonusMultiplier, claimedPoints, claimedBonus, claimedTotal, bestContact};
+ghost use Rattle.rules.specs.Rules.{base, bandNames};
+ghost use Rattle.rules.specs.Text.{same, begins};
 ghost use Rattle.header.specs.Header.{keywordAt, bandOf, argumentOf};
 use fields::CallRead;
 use fields::ExchangeRead;
@@ -114,8 +114,7 @@ pub fn keyword(k: usize, line: &[u8]) -> KeywordRead
     if 36 <= k {
         return KeywordRead::Differs;
     }
-    let word = KEYWORDS[k];
-    if begins_with(&word, line) {
+    if begins_with(&KEYWORDS[k], line) {
         return KeywordRead::Listed;
     }
     KeywordRead::Differs
@@ -138,7 +137,7 @@ pub enum BandRead {
 }
 
 pub fn band(t: &[u8]) -> BandRead
-    ensures { λ r. ⌜ r ≡ bandOf (now (t .entry)) ⌝ }
+    ensures { λ r. ⌜ r ≡ bandOf base (now (t .entry)) ⌝ }
 {
     let mut k = 0;
     while k < 15 {
@@ -235,7 +234,7 @@ fn is_claimed_total(t: &[u8]) -> bool
 fn is_count_and_multiplier(t: &[u8]) -> bool
     ensures { λ r. ⌜ r ≡ meets base countAndMultiplier (now (t .entry)) ⌝ }
 {
-    let NumberRead::Number(_, count) = figures::counted(t, 0) else {
+    let NumberRead::Number(_, count) = figures::count_of(t, 0) else {
         return false;
     };
     let NumberRead::Number(_, end) = figures::multiplier_of(t, count + 1) else {
@@ -247,7 +246,7 @@ fn is_count_and_multiplier(t: &[u8]) -> bool
 fn is_count_bonus_multiplier(t: &[u8]) -> bool
     ensures { λ r. ⌜ r ≡ meets base countBonusMultiplier (now (t .entry)) ⌝ }
 {
-    let NumberRead::Number(_, count) = figures::counted(t, 0) else {
+    let NumberRead::Number(_, count) = figures::count_of(t, 0) else {
         return false;
     };
     let NumberRead::Number(_, bonus) = figures::bonus_of(t, count + 1) else {
@@ -325,7 +324,7 @@ fn told(kept: bool) -> ArgumentRead
 
 // Whether the argument behind the keyword at this place of the table keeps its rule. Where no rule is named, anything may stand.
 pub fn argument(k: usize, t: &[u8]) -> ArgumentRead
-    ensures { λ r. ⌜ r ≡ argumentOf k (now (t .entry)) ⌝ }
+    ensures { λ r. ⌜ r ≡ argumentOf base k (now (t .entry)) ⌝ }
 {
     if 36 <= k {
         return ArgumentRead::Broken;

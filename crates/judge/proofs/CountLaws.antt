@@ -1,53 +1,93 @@
 -- Laws of the totals as they grow: they come to those of document 01, and no sum runs over.
 -- Assumes nothing.
-use Prim.Native.Nat.{ℕ, _+_, _*_, _≤_}
+use Prim.Native.Nat.{ℕ, _+_, _*_, _≤_, _<_}
 use native.Mathlib.Omega.{arith}
-use native.Mathlib.Nat.{mul-le-mul, add-zero}
-use mathlib.Core.Path.{_≡_, ap, _∙_}
+use native.Mathlib.Nat.{mul-le-mul, mul-le-mul-right, add-mul, add-zero}
+use mathlib.Core.Path.{_≡_, refl, ap, _∙_}
 use mathlib.Core.Bool.{Bool, true, false}
 use mathlib.Core.List.{List, [], _∷_}
-use lib.Dec.{eqb}
 use lib.ListN.{length}
 use Rattle.rules.specs.declared.Class.{Class}
 use Rattle.rules.specs.declared.Class.the-variants.{Credited, Void, Duplicate, Error}
 use Rattle.rules.specs.declared.Verdict.{Verdict}
 use Rattle.rules.specs.declared.Totals.{Totals}
+use Rattle.rules.specs.Rules.{Rules}
 use Rattle.rules.specs.Text.{value}
+use Rattle.rules.specs.Rules.{Rules, base}
 use Rattle.rules.specs.Fields.{Qso}
 use Rattle.rules.specs.Judging.{classNumber, is, countOf, creditedPoints, multipliers, totalsOf, zeroTotals}
 use Rattle.places.specs.declared.Declared.{Declared}
-use Rattle.judge.specs.Count.{worthIf, asDeclared, addRecord, addRecords, closing, Counts, Closable}
+use Rattle.judge.specs.Bounds.{mostWorth, Counts, Countable, Closable}
+use Rattle.judge.specs.Count.{worthIf, asDeclared, addRecord, addRecords, closing}
+
+-- # What the limits of document 01 come to
+
+-- What a record is worth fits 20 bits.
+pub worth-small : {w : ℕ} → w ≤ mostWorth base → w < 1_048_576
+unfolding base
+worth-small h = omega arith
+
+-- The counts of all records fit 10 bits, and their points 30.
+pub record Sums-small (t : Totals) : Type 0 where
+  pub credited : t .credited < 1_024
+  pub voids : t .voids < 1_024
+  pub duplicates : t .duplicates < 1_024
+  pub errors : t .errors < 1_024
+  pub points : t .points < 1_073_741_824
+  pub squares : t .squares < 1_024
+  pub exchanges : t .exchanges < 1_024
+  pub countries : t .countries < 1_024
+
+pub sums-small : {n : ℕ} (t : Totals) → Counts base n t → n ≤ base .mostRecords → Sums-small t
+unfolding base
+sums-small {n} t h k =
+    let p = h .points in
+    record {
+      credited = omega (arith, h .credited);
+      voids = omega (arith, h .voids);
+      duplicates = omega (arith, h .duplicates);
+      errors = omega (arith, h .errors);
+      points = omega arith;
+      squares = omega (arith, h .squares);
+      exchanges = omega (arith, h .exchanges);
+      countries = omega (arith, h .countries);
+    }
+
+pub countable-small : {t : Totals} {worth : ℕ} {v : Verdict} → Countable base t worth v → Sums-small t
+countable-small {t} h = sums-small t (h .few) (omega (arith, h .room))
 
 -- What the declared bonuses and multipliers make of the totals.
 pub record Closes (t : Totals) (d : Declared) : Type 0 where
-  pub squares : t .squares * d .squarebonus ≤ 9_989_001
-  pub exchanges : t .exchanges * d .exchangebonus ≤ 9_989_001
-  pub countries : t .countries * d .countrybonus ≤ 9_989_001
-  pub points : t .points ≤ 998_999_001
-  pub two : d .squaremultiplier * d .exchangemultiplier ≤ 9_801
-  pub three : d .squaremultiplier * d .exchangemultiplier * d .countrymultiplier ≤ 970_299
+  pub squares : t .squares * d .squarebonus < 16_777_216
+  pub exchanges : t .exchanges * d .exchangebonus < 16_777_216
+  pub countries : t .countries * d .countrybonus < 16_777_216
+  pub points : t .points < 1_073_741_824
+  pub two : d .squaremultiplier * d .exchangemultiplier < 16_384
+  pub three : d .squaremultiplier * d .exchangemultiplier * d .countrymultiplier < 1_048_576
   pub total :
       (t .points + t .squares * d .squarebonus + t .exchanges * d .exchangebonus + t .countries * d .countrybonus)
       * (d .squaremultiplier * d .exchangemultiplier * d .countrymultiplier)
-      ≤ 998_404_684_715_196
+      ≤ 2_251_799_813_685_248
 
-pub closes : (t : Totals) (d : Declared) → Closable t d → Closes t d
+pub closes : (t : Totals) (d : Declared) → Closable base t d → Closes t d
+unfolding base
 closes t d h =
-    let squares : t .squares * d .squarebonus ≤ 9_989_001 = mul-le-mul (h .few .squares) (h .small .squarebonus) in
-    let exchanges : t .exchanges * d .exchangebonus ≤ 9_989_001 = mul-le-mul (h .few .exchanges) (h .small .exchangebonus) in
-    let countries : t .countries * d .countrybonus ≤ 9_989_001 = mul-le-mul (h .few .countries) (h .small .countrybonus) in
-    let points : t .points ≤ 998_999_001 = h .few .points in
-    let two : d .squaremultiplier * d .exchangemultiplier ≤ 9_801 = mul-le-mul (h .small .squaremultiplier) (h .small .exchangemultiplier) in
-    let three : d .squaremultiplier * d .exchangemultiplier * d .countrymultiplier ≤ 970_299 = mul-le-mul two (h .small .countrymultiplier) in
-    let sum : t .points + t .squares * d .squarebonus + t .exchanges * d .exchangebonus + t .countries * d .countrybonus ≤ 1_028_966_004 = omega arith in
+    let squares : t .squares * d .squarebonus ≤ base .mostRecords * base .mostBonus = mul-le-mul (h .few .squares) (h .small .squarebonus) in
+    let exchanges : t .exchanges * d .exchangebonus ≤ base .mostRecords * base .mostBonus = mul-le-mul (h .few .exchanges) (h .small .exchangebonus) in
+    let countries : t .countries * d .countrybonus ≤ base .mostRecords * base .mostBonus = mul-le-mul (h .few .countries) (h .small .countrybonus) in
+    let points : t .points ≤ base .mostRecords * mostWorth base = h .few .points in
+    let two : d .squaremultiplier * d .exchangemultiplier ≤ base .mostMultiplier * base .mostMultiplier = mul-le-mul (h .small .squaremultiplier) (h .small .exchangemultiplier) in
+    let three : d .squaremultiplier * d .exchangemultiplier * d .countrymultiplier ≤ base .mostMultiplier * base .mostMultiplier * base .mostMultiplier = mul-le-mul two (h .small .countrymultiplier) in
+    let sum : t .points + t .squares * d .squarebonus + t .exchanges * d .exchangebonus + t .countries * d .countrybonus ≤ 2_147_483_648 = omega arith in
+    let most : d .squaremultiplier * d .exchangemultiplier * d .countrymultiplier ≤ 1_048_576 = omega arith in
     record {
-      squares = squares;
-      exchanges = exchanges;
-      countries = countries;
-      points = points;
-      two = two;
-      three = three;
-      total = mul-le-mul sum three;
+      squares = omega arith;
+      exchanges = omega arith;
+      countries = omega arith;
+      points = omega arith;
+      two = omega arith;
+      three = omega arith;
+      total = mul-le-mul sum most;
     }
 
 -- # One record more
@@ -69,14 +109,13 @@ class-number-most Void = omega arith
 class-number-most Duplicate = omega arith
 class-number-most Error = omega arith
 
--- The record's number of its class, and the sums.
-pub counted-all : (t : Totals) (worth : ℕ) (v : Verdict) (n : ℕ) {a b c d p s x y : ℕ} →
-    n ≡ classNumber (v .class) →
-    a ≡ worthIf (eqb 0 n) 1 + t .credited →
-    b ≡ worthIf (eqb 1 n) 1 + t .voids →
-    c ≡ worthIf (eqb 2 n) 1 + t .duplicates →
-    d ≡ worthIf (eqb 3 n) 1 + t .errors →
-    p ≡ worthIf (eqb 0 n) worth + t .points →
+-- The sums after a record, each by its own test.
+counted-all : (t : Totals) (worth : ℕ) (v : Verdict) {a b c d p s x y : ℕ} →
+    a ≡ worthIf (is Credited (v .class)) 1 + t .credited →
+    b ≡ worthIf (is Void (v .class)) 1 + t .voids →
+    c ≡ worthIf (is Duplicate (v .class)) 1 + t .duplicates →
+    d ≡ worthIf (is Error (v .class)) 1 + t .errors →
+    p ≡ worthIf (is Credited (v .class)) worth + t .points →
     s ≡ worthIf (v .square) 1 + t .squares →
     x ≡ worthIf (v .exchange) 1 + t .exchanges →
     y ≡ worthIf (v .country) 1 + t .countries →
@@ -96,14 +135,14 @@ pub counted-all : (t : Totals) (worth : ℕ) (v : Verdict) (n : ℕ) {a b c d p 
       total = t .total;
     })
     (addRecord t worth v)
-unfolding addRecord is classNumber
-counted-all t worth v n e ea eb ec ed ep es ex ey = λ i.
+unfolding addRecord
+counted-all t worth v ea eb ec ed ep es ex ey = λ i.
     record {
-      credited = (ea ∙ ap (λ (m : ℕ). worthIf (eqb 0 m) 1 + t .credited) e) i;
-      voids = (eb ∙ ap (λ (m : ℕ). worthIf (eqb 1 m) 1 + t .voids) e) i;
-      duplicates = (ec ∙ ap (λ (m : ℕ). worthIf (eqb 2 m) 1 + t .duplicates) e) i;
-      errors = (ed ∙ ap (λ (m : ℕ). worthIf (eqb 3 m) 1 + t .errors) e) i;
-      points = (ep ∙ ap (λ (m : ℕ). worthIf (eqb 0 m) worth + t .points) e) i;
+      credited = ea i;
+      voids = eb i;
+      duplicates = ec i;
+      errors = ed i;
+      points = ep i;
       squares = es i;
       exchanges = ex i;
       countries = ey i;
@@ -113,19 +152,122 @@ counted-all t worth v n e ea eb ec ed ep es ex ey = λ i.
       total = t .total;
     }
 
-pub counts-more : (n : ℕ) (t : Totals) (worth : ℕ) (v : Verdict) → Counts n t → worth ≤ 999_999 → Counts (n + 1) (addRecord t worth v)
+-- The totals with one of the counts of classes and the marks replaced.
+abbrev withSums : Totals → (credited voids duplicates errors points squares exchanges countries : ℕ) → Totals
+withSums t a b c d p s x y =
+    record {
+      credited = a;
+      voids = b;
+      duplicates = c;
+      errors = d;
+      points = p;
+      squares = s;
+      exchanges = x;
+      countries = y;
+      squarebonus = t .squarebonus;
+      exchangebonus = t .exchangebonus;
+      countrybonus = t .countrybonus;
+      total = t .total;
+    }
+
+module _ (t : Totals) (worth : ℕ) (v : Verdict) where
+  pub credited-sums : {s x y : ℕ} → v .class ≡ Credited → s ≡ worthIf (v .square) 1 → x ≡ worthIf (v .exchange) 1 → y ≡ worthIf (v .country) 1 →
+      withSums t (1 + t .credited) (t .voids) (t .duplicates) (t .errors) (worth + t .points) (s + t .squares) (x + t .exchanges) (y + t .countries) ≡ addRecord t worth v
+  unfolding is classNumber
+  credited-sums e es ex ey =
+      counted-all t worth v
+      (raised-by 1 (t .credited) (ap (is Credited) e))
+      (raised-not 1 (t .voids) (ap (is Void) e))
+      (raised-not 1 (t .duplicates) (ap (is Duplicate) e))
+      (raised-not 1 (t .errors) (ap (is Error) e))
+      (raised-by worth (t .points) (ap (is Credited) e))
+      (ap (λ (n : ℕ). n + t .squares) es)
+      (ap (λ (n : ℕ). n + t .exchanges) ex)
+      (ap (λ (n : ℕ). n + t .countries) ey)
+
+  module _ {R : Rules} (h : Countable R t worth v) where
+    -- A record that is not credited bears no mark.
+    other-sums : {b c d : ℕ} → is Credited (v .class) ≡ false →
+        b ≡ worthIf (is Void (v .class)) 1 + t .voids →
+        c ≡ worthIf (is Duplicate (v .class)) 1 + t .duplicates →
+        d ≡ worthIf (is Error (v .class)) 1 + t .errors →
+        withSums t (t .credited) b c d (t .points) (t .squares) (t .exchanges) (t .countries) ≡ addRecord t worth v
+    other-sums n eb ec ed =
+        counted-all t worth v
+        (raised-not 1 (t .credited) n)
+        eb
+        ec
+        ed
+        (raised-not worth (t .points) n)
+        (raised-not 1 (t .squares) (h .square n))
+        (raised-not 1 (t .exchanges) (h .exchange n))
+        (raised-not 1 (t .countries) (h .country n))
+
+    pub void-sums : v .class ≡ Void → withSums t (t .credited) (1 + t .voids) (t .duplicates) (t .errors) (t .points) (t .squares) (t .exchanges) (t .countries) ≡ addRecord t worth v
+    unfolding is classNumber
+    void-sums e =
+        other-sums (ap (is Credited) e) (raised-by 1 (t .voids) (ap (is Void) e)) (raised-not 1 (t .duplicates) (ap (is Duplicate) e)) (raised-not 1 (t .errors) (ap (is Error) e))
+
+    pub duplicate-sums : v .class ≡ Duplicate → withSums t (t .credited) (t .voids) (1 + t .duplicates) (t .errors) (t .points) (t .squares) (t .exchanges) (t .countries) ≡ addRecord t worth v
+    unfolding is classNumber
+    duplicate-sums e =
+        other-sums (ap (is Credited) e) (raised-not 1 (t .voids) (ap (is Void) e)) (raised-by 1 (t .duplicates) (ap (is Duplicate) e)) (raised-not 1 (t .errors) (ap (is Error) e))
+
+    pub error-sums : v .class ≡ Error → withSums t (t .credited) (t .voids) (t .duplicates) (1 + t .errors) (t .points) (t .squares) (t .exchanges) (t .countries) ≡ addRecord t worth v
+    unfolding is classNumber
+    error-sums e =
+        other-sums (ap (is Credited) e) (raised-not 1 (t .voids) (ap (is Void) e)) (raised-not 1 (t .duplicates) (ap (is Duplicate) e)) (raised-by 1 (t .errors) (ap (is Error) e))
+
+-- What is not credited brings nothing, whatever it is worth.
+pub brings : (t : Totals) (worth : ℕ) (v : Verdict) → addRecord t (worthIf (is Credited (v .class)) worth) v ≡ addRecord t worth v
 unfolding addRecord
-counts-more n t worth v h small =
+brings t worth v = λ i.
+    record {
+      credited = worthIf (is Credited (v .class)) 1 + t .credited;
+      voids = worthIf (is Void (v .class)) 1 + t .voids;
+      duplicates = worthIf (is Duplicate (v .class)) 1 + t .duplicates;
+      errors = worthIf (is Error (v .class)) 1 + t .errors;
+      points = twice (is Credited (v .class)) worth i + t .points;
+      squares = worthIf (v .square) 1 + t .squares;
+      exchanges = worthIf (v .exchange) 1 + t .exchanges;
+      countries = worthIf (v .country) 1 + t .countries;
+      squarebonus = t .squarebonus;
+      exchangebonus = t .exchangebonus;
+      countrybonus = t .countrybonus;
+      total = t .total;
+    }
+  where
+    twice : (b : Bool) (w : ℕ) → worthIf b (worthIf b w) ≡ worthIf b w
+    twice true w = refl
+    twice false w = refl
+
+pub counts-more : (R : Rules) (n : ℕ) (t : Totals) (worth : ℕ) (v : Verdict) → Counts R n t → worth ≤ mostWorth R → Counts R (n + 1) (addRecord t worth v)
+unfolding addRecord
+counts-more R n t worth v h small =
     let one : (b : Bool) → worthIf b 1 ≤ 1 = λ b. worth-most b 1 in
     record {
       credited = omega (arith, one (is Credited (v .class)), h .credited);
       voids = omega (arith, one (is Void (v .class)), h .voids);
       duplicates = omega (arith, one (is Duplicate (v .class)), h .duplicates);
       errors = omega (arith, one (is Error (v .class)), h .errors);
-      points = omega (arith, worth-most (is Credited (v .class)) worth, h .points);
+      points = omega (arith, worth-most (is Credited (v .class)) worth, h .points, add-mul n 1 (mostWorth R));
       squares = omega (arith, one (v .square), h .squares);
       exchanges = omega (arith, one (v .exchange), h .exchanges);
       countries = omega (arith, one (v .country), h .countries);
+    }
+
+-- The counts of fewer records are those of more.
+pub counts-fewer : (R : Rules) (n m : ℕ) (t : Totals) → n ≤ m → Counts R n t → Counts R m t
+counts-fewer R n m t k h =
+    record {
+      credited = omega (arith, h .credited);
+      voids = omega (arith, h .voids);
+      duplicates = omega (arith, h .duplicates);
+      errors = omega (arith, h .errors);
+      points = omega (arith, h .points, mul-le-mul-right (mostWorth R) k);
+      squares = omega (arith, h .squares);
+      exchanges = omega (arith, h .exchanges);
+      countries = omega (arith, h .countries);
     }
 
 -- # All the records
@@ -164,9 +306,9 @@ sums t (q ∷ qs) (v ∷ vs) e =
     }
 
 -- Closed with what is declared, they are the totals of document 01.
-pub closed-totals : (d : Declared) (qs : List Qso) (vs : List Verdict) → length vs ≡ length qs → closing (addRecords zeroTotals qs vs) d ≡ totalsOf (asDeclared d) qs vs
+pub closed-totals : (R : Rules) (d : Declared) (qs : List Qso) (vs : List Verdict) → length vs ≡ length qs → closing (addRecords zeroTotals qs vs) d ≡ totalsOf R (asDeclared d) qs vs
 unfolding closing totalsOf asDeclared multipliers zeroTotals
-closed-totals d qs vs e =
+closed-totals R d qs vs e =
     let h = sums zeroTotals qs vs e in
     let credited = h .credited ∙ add-zero (countOf (λ v. is Credited (v .class)) vs) in
     let voids = h .voids ∙ add-zero (countOf (λ v. is Void (v .class)) vs) in

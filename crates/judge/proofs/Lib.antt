@@ -1,7 +1,9 @@
-pub mod PartLaws
-pub mod MemoryLaws
-pub mod RememberLaws
+pub mod SaidLaws
 pub mod CountLaws
-pub mod WeighLaws
+pub mod PartLaws
+pub mod SquareLaws
+pub mod ToldLaws
+pub mod RememberLaws
+pub mod StepLaws
+pub mod WalkLaws
 pub mod JudgeLaws
-pub mod NumberLaws

@@ -1,6 +1,6 @@
 -- The totals as they grow: what one record adds, and what the declared bonuses and multipliers make of them at the end.
 -- Assumes nothing.
-use Prim.Native.Nat.{ℕ, _+_, _*_, _≤_}
+use Prim.Native.Nat.{ℕ, _+_, _*_}
 use mathlib.Core.Bool.{Bool, cond}
 use mathlib.Core.List.{List, [], _∷_}
 use Rattle.rules.specs.declared.Class.the-variants.{Credited, Void, Duplicate, Error}
@@ -8,8 +8,7 @@ use Rattle.rules.specs.declared.Verdict.{Verdict}
 use Rattle.rules.specs.declared.Totals.{Totals}
 use Rattle.rules.specs.Text.{value}
 use Rattle.rules.specs.Fields.{Qso}
-use Rattle.rules.specs.Judging.{is}
-use Rattle.rules.specs.Judging.{Declared as DeclaredRates}
+use Rattle.rules.specs.Judging.{is, Declared as DeclaredRates}
 use Rattle.places.specs.declared.Declared.{Declared}
 
 -- What a test adds, if it holds.
@@ -73,34 +72,3 @@ asDeclared d =
       countryBonus = d .countrybonus;
       countryMultiplier = d .countrymultiplier;
     }
-
--- # What keeps the sums small
-
--- The totals of so many records at most.
-pub record Counts (n : ℕ) (t : Totals) : Type 0 where
-  pub credited : t .credited ≤ n
-  pub voids : t .voids ≤ n
-  pub duplicates : t .duplicates ≤ n
-  pub errors : t .errors ≤ n
-  pub points : t .points ≤ n * 999_999
-  pub squares : t .squares ≤ n
-  pub exchanges : t .exchanges ≤ n
-  pub countries : t .countries ≤ n
-
--- One more record may be added: there are at most 998 yet.
-pub record Countable (t : Totals) (worth : ℕ) : Type 0 where
-  pub few : Counts 998 t
-  pub small : worth ≤ 999_999
-
--- The declared bonuses and multipliers keep their rules.
-pub record Small (d : Declared) : Type 0 where
-  pub squarebonus : d .squarebonus ≤ 9_999
-  pub squaremultiplier : d .squaremultiplier ≤ 99
-  pub exchangebonus : d .exchangebonus ≤ 9_999
-  pub exchangemultiplier : d .exchangemultiplier ≤ 99
-  pub countrybonus : d .countrybonus ≤ 9_999
-  pub countrymultiplier : d .countrymultiplier ≤ 99
-
-pub record Closable (t : Totals) (d : Declared) : Type 0 where
-  pub few : Counts 999 t
-  pub small : Small d

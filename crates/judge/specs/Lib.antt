@@ -1,7 +1,9 @@
--- What the judge keeps of the records before, and what it adds up, in the words of document 01's definitions.
+-- What is said of a record and what it adds to the totals; what is kept of the records before; and what is asked and promised on the way.
+pub mod Said
+pub mod Count
+pub mod Bounds
 pub mod Parts
 pub mod Memory
-pub mod Count
-pub mod Numbers
-pub mod Weigh
+pub mod Step
 pub mod Judge
+pub mod Weigh

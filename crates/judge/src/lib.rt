@@ -1,20 +1,26 @@
 // The judge of an accepted log: the class and the marks of each record, and what they come to. It looks at no byte but through the places
-// that are told of each record.
+// that are noted of each record.
 
+ghost use Prim.Native.Nat.{_+_, _-_, _*_, _%_, _<_, _≤_};
+ghost use mathlib.Core.Bool.{true};
 ghost use mathlib.Core.Path.{_≡_};
-ghost use Prim.Native.Nat.{_+_, _*_, _%_, _<_, _≤_};
-ghost use lib.ListN.{length, take, drop};
-ghost use Rattle.rules.specs.Text.{same};
-ghost use Rattle.rules.specs.Judging.{classNumber, verdictNumber, zeroTotals};
-ghost use Rattle.places.specs.Places.{between};
+ghost use lib.ListN.{drop, getD, length, set, take};
 ghost use Rattle.rules.specs.Arguments.{among};
-ghost use Rattle.judge.specs.Parts.{squareEnd, keyOf, partBy, seek, keptTexts, Keyed, Lying};
-ghost use Rattle.judge.specs.Memory.{unseen, classBy, verdictBy, memory, Placed, Stays, Room, Keeps, Steps};
-ghost use Rattle.judge.specs.Numbers.{classFrom, verdictFrom};
-ghost use Rattle.judge.specs.Weigh.{Weighable, Shelves, Weighs};
-ghost use Rattle.judge.specs.Judge.{weighedOf, judgedOf, verdictsAfterwards, pointsAfterwards, Accepts};
-ghost use Rattle.judge.specs.Count.{worthIf, addRecord, closing, Countable, Closable};
-use places::Contact;
+ghost use Rattle.rules.specs.Fields.{emptyOr, errorCall, locator, newMark};
+ghost use Rattle.rules.specs.Judging.{classNumber, verdictNumber, zeroTotals};
+ghost use Rattle.rules.specs.Rules.{base};
+ghost use Rattle.rules.specs.Text.{numberOf, same};
+ghost use Rattle.fields.specs.Field.{textAt, endOf};
+ghost use Rattle.reader.specs.Contact.{between, fieldStart, valueBy};
+ghost use Rattle.reader.specs.Noted.{contactsRead, listed};
+ghost use Rattle.judge.specs.Bounds.{Closable, Countable};
+ghost use Rattle.judge.specs.Count.{addRecord, closing, worthIf};
+ghost use Rattle.judge.specs.Judge.{judgedOf, verdictsAfterwards, weighedOf};
+ghost use Rattle.judge.specs.Parts.{Ahead, First, Keyed, Lying, keyOf, keptTexts, numberOfSquare, partBy, seek, squareThere};
+ghost use Rattle.judge.specs.Said.{classBy, verdictBy};
+ghost use Rattle.judge.specs.Weigh.{Accepts, Listings, Weighable, Weighs};
+ghost use Rattle.judge.specs.Step.{Classed, CreditReady, Credits, NewPart, NewSquare, Ready, Steps, classNoted};
+use figures::NumberRead;
 use places::Declared;
 use reader::ReadAnswer;
 use rules::Class;
@@ -22,20 +28,175 @@ use rules::Refusal;
 use rules::Totals;
 use rules::Verdict;
 
-// How many characters a part has; places beyond the end add none.
-fn part_length(s: &[u8], a: usize, e: usize) -> usize
-    ensures { λ r. ⌜ r ≡ length (between (now (s .entry)) a e) ⌝ }
+// # What is said of a record
+
+// The class of a record, by three answers: its call is ERROR, its call was credited before, and it claims points.
+pub fn class_by(error: bool, repeats: bool, claims: bool) -> Class
+    ensures { λ r. ⌜ r ≡ classBy error repeats claims ⌝ }
 {
-    if s.len() <= a {
+    if error {
+        return Class::Error;
+    }
+    if repeats {
+        return Class::Duplicate;
+    }
+    if claims {
+        return Class::Credited;
+    }
+    Class::Void
+}
+
+fn class_number(class: Class) -> u8
+    ensures { λ r. ⌜ r ≡ classNumber class ⌝ }
+{
+    match class {
+        Class::Credited => 0,
+        Class::Void => 1,
+        Class::Duplicate => 2,
+        Class::Error => 3,
+    }
+}
+
+// What is said of a record, by its class and three answers more: its exchange is new, its square is new, and it claims a country. Marks are of
+// credited records alone.
+pub fn verdict_by(class: Class, exchange: bool, square: bool, country: bool) -> Verdict
+    ensures { λ r. ⌜ r ≡ verdictBy class exchange square country ⌝ }
+{
+    if class_number(class) == 0 {
+        return Verdict {
+            class,
+            exchange,
+            square,
+            country,
+        };
+    }
+    Verdict {
+        class,
+        exchange: false,
+        square: false,
+        country: false,
+    }
+}
+
+// What a mark adds to the number of a verdict.
+fn mark_number(set: bool, worth: u8) -> u8
+    ensures { λ r. ⌜ r ≡ worthIf set worth ⌝ }
+{
+    if set {
+        return worth;
+    }
+    0
+}
+
+pub fn verdict_number(v: Verdict) -> u8
+    ensures { λ r. ⌜ r ≡ verdictNumber v ⌝ }
+{
+    let class = v.class;
+    class_number(class)
+        + mark_number(v.exchange, 16)
+        + mark_number(v.square, 32)
+        + mark_number(v.country, 64)
+}
+
+// # Fields and their keys
+
+// Where the field that begins at a place ends, if a semicolon is known to stand behind it.
+fn part_end(s: &[u8], at: usize) -> usize
+    requires { ⌜ endOf (now s) at < length (now s) ⌝ }
+    ensures { λ r. ⌜ r ≡ endOf (now (s .entry)) at ⌝ }
+{
+    let mut i = at;
+    while s[i] != 59 {
+        i += 1;
+    }
+    i
+}
+
+// The part is the call that marks a mistake. Only a part of five bytes is looked at.
+fn is_error(s: &[u8], a: usize, e: usize) -> bool
+    requires { ⌜ (a ≤ e) × (e ≤ length (now s)) ⌝ }
+    ensures { λ r. ⌜ r ≡ same (between (now (s .entry)) a e) errorCall ⌝ }
+{
+    if e - a != 5 {
+        return false;
+    }
+    header::same_text(&s[a..e], b"ERROR")
+}
+
+// What the points at a place are worth.
+fn worth_at(s: &[u8], at: usize) -> u64
+    ensures { λ r. ⌜ r ≡ valueBy (numberOf (base .pointsDigits)) (textAt (now (s .entry)) at) ⌝ }
+{
+    let NumberRead::Number(worth, _) = figures::points(s, at) else {
         return 0;
+    };
+    worth
+}
+
+// The record whose points end here claims a country: its third mark behind them is set.
+fn claims_country(s: &[u8], pointsend: usize) -> bool
+    requires { ⌜ fieldStart (now s) (pointsend + 1) 3 ≤ length (now s) ⌝ }
+    ensures { λ r. ⌜ r ≡ same (textAt (now (s .entry)) (fieldStart (now (s .entry)) (pointsend + 1) 2)) newMark ⌝ }
+{
+    let second = part_end(s, pointsend + 1) + 1;
+    let third = part_end(s, second) + 1;
+    if part_end(s, third) - third != 1 {
+        return false;
     }
-    if e <= a {
-        return 0;
+    s[third] == 78
+}
+
+// The key that a length and two characters make.
+fn key_with(n: usize, last: u8, other: u8) -> u16
+    requires { ⌜ n ≤ 15 ⌝ }
+    ensures { λ r. ⌜ r ≡ n * 4096 + last % 64 * 64 + other % 64 ⌝ }
+{
+    n as u16 * 4096 + (last % 64) as u16 * 64 + (other % 64) as u16
+}
+
+// How many characters a part has and which are the last two, in one number.
+fn key_of(s: &[u8], a: usize, e: usize) -> u16
+    requires { ⌜ (a < e) × (e ≤ length (now s)) × (e ≤ a + 15) ⌝ }
+    ensures { λ r. ⌜ r ≡ keyOf (between (now (s .entry)) a e) ⌝ }
+{
+    if e - a == 1 {
+        return key_with(1, s[a], s[a]);
     }
-    if s.len() < e {
-        return s.len() - a;
+    key_with(e - a, s[e - 1], s[e - 2])
+}
+
+// The number that two letters and two digits make.
+fn square_with(a: u8, b: u8, c: u8, d: u8) -> u16
+    requires { ⌜ (65 ≤ a) × (a ≤ 82) × (65 ≤ b) × (b ≤ 82) ⌝ }
+    requires { ⌜ (48 ≤ c) × (c ≤ 57) × (48 ≤ d) × (d ≤ 57) ⌝ }
+    ensures { λ r. ⌜ r ≡ (((a - 65) * 18 + (b - 65)) * 10 + (c - 48)) * 10 + (d - 48) + 1 ⌝ }
+{
+    (((a - 65) as u16 * 18 + (b - 65) as u16) * 10 + (c - 48) as u16) * 10 + (d - 48) as u16 + 1
+}
+
+// The number of the square at a place.
+fn square_of(s: &[u8], a: usize) -> u16
+    requires { ⌜ squareThere (take 4 (drop a (now s))) ≡ true ⌝ }
+    ensures { λ r. ⌜ r ≡ numberOfSquare (take 4 (drop a (now (s .entry)))) ⌝ }
+{
+    square_with(s[a], s[a + 1], s[a + 2], s[a + 3])
+}
+
+// # What is kept of the credited records, and the search in it
+
+// The lists of keys have a place more than there are records: what is looked for stands behind what is kept, so that a search ends.
+const KEYS: usize = rules::MOST_RECORDS + 1;
+
+// The first index from here on at which a key stands. It does stand there somewhere.
+fn next_key(keys: &[u16], from: usize, key: u16) -> usize
+    requires { ⌜ Ahead (now keys) from key ⌝ }
+    ensures { λ r. ⌜ First (now (keys .entry)) from key r ⌝ }
+{
+    let mut k = from;
+    while keys[k] != key {
+        k += 1;
     }
-    e - a
+    k
 }
 
 // The n characters from one place on are those from another on.
@@ -53,68 +214,34 @@ fn same_run(s: &[u8], a: usize, b: usize, n: usize) -> bool
     true
 }
 
-fn key_with(n: usize, last: u8) -> usize
-    requires { ⌜ n ≤ 65_535 ⌝ }
-    ensures { λ r. ⌜ r ≡ n * 256 + last % 256 ⌝ }
-{
-    n * 256 + last as usize
-}
-
-// How many characters there are and which is the last, in one number.
-fn key_of(s: &[u8], a: usize, n: usize) -> usize
-    requires { ⌜ (length (now s) ≤ 65_535) × (0 < n → a + n ≤ length (now s)) ⌝ }
-    ensures { λ r. ⌜ r ≡ keyOf (take n (drop a (now (s .entry)))) ⌝ }
-{
-    if n == 0 {
-        return 0;
-    }
-    key_with(n, s[a + n - 1])
-}
-
-// A part of which the place and the key are kept is the same, byte for byte, as the n characters from a place on. The keys are compared first,
-// for most parts differ in them.
-fn same_part(s: &[u8], b: usize, key: usize, a: usize, n: usize, sought: usize) -> bool
-    requires { ⌜ Keyed (now s) b key × (0 < n → a + n ≤ length (now s)) × (sought ≡ keyOf (take n (drop a (now s)))) ⌝ }
-    ensures { λ r. ⌜ r ≡ same (partBy (now (s .entry)) b key) (take n (drop a (now (s .entry)))) ⌝ }
-{
-    if key != sought {
-        return false;
-    }
-    same_run(s, b, a, n)
-}
-
-// Where the square of a locator ends: behind four characters, if there are so many.
-fn square_end(a: usize, e: usize) -> usize
-    ensures { λ r. ⌜ r ≡ squareEnd a e ⌝ }
-{
-    if e <= a {
-        return e;
-    }
-    if e - a <= 4 {
-        return e;
-    }
-    a + 4
-}
-
 // Where a repeat was found.
 enum Found {
     At(usize),
     Nothing,
 }
 
-// The first of the m parts kept that is the same as this part.
-fn find(s: &[u8], starts: &[usize], keys: &[usize], m: usize, a: usize, e: usize) -> Found
-    requires { ⌜ Lying (now s) (now starts) (now keys) m ⌝ }
-    ensures { λ r. ⌜ r ≡ seek (now (s .entry)) (now (starts .entry)) (now (keys .entry)) (between (now (s .entry)) a e) m 0 ⌝ }
+// A place that is kept, as an index.
+fn wide(x: u16) -> usize
+    ensures { λ r. ⌜ (r ≡ x) × (r < 65_536) ⌝ }
 {
-    let n = part_length(s, a, e);
-    let sought = key_of(s, a, n);
+    x as usize
+}
+
+// The first of the m parts kept that is the same as the part at a place, whose key stands behind the m keys. Parts whose keys differ are passed
+// over.
+fn find(s: &[u8], places: &[u16], keys: &[u16], m: usize, place: usize) -> Found
+    requires { ⌜ Lying (now s) (now places) (now keys) m × Keyed (now s) place (getD (now keys) m 0) ⌝ }
+    ensures { λ r. ⌜ r ≡ seek (now (s .entry)) (now (places .entry)) (now (keys .entry)) (partBy (now (s .entry)) place (getD (now (keys .entry)) m 0)) m 0 ⌝ }
+{
+    let key = keys[m];
+    let n = wide(key / 4096);
     let mut k = 0;
     let at = 'look: loop {
+        k = next_key(keys, k, key);
         if m <= k {
             break 'look m;
         }
-        if same_part(s, starts[k], keys[k], a, n, sought) {
+        if same_run(s, wide(places[k]), place, n) {
             break 'look k;
         }
         k += 1;
@@ -125,48 +252,65 @@ fn find(s: &[u8], starts: &[usize], keys: &[usize], m: usize, a: usize, e: usize
     Found::Nothing
 }
 
-// The part is the same as one of the m parts kept.
-fn is_kept(s: &[u8], starts: &[usize], keys: &[usize], m: usize, a: usize, e: usize) -> bool
-    requires { ⌜ Lying (now s) (now starts) (now keys) m ⌝ }
-    ensures { λ r. ⌜ r ≡ among (keptTexts (now (s .entry)) (now (starts .entry)) (now (keys .entry)) m) (between (now (s .entry)) a e) ⌝ }
+// The part at a place is the same as one of the m parts kept; its key stands behind the m keys.
+fn is_kept(s: &[u8], places: &[u16], keys: &[u16], m: usize, place: usize) -> bool
+    requires { ⌜ Lying (now s) (now places) (now keys) m × Keyed (now s) place (getD (now keys) m 0) ⌝ }
+    ensures { λ r. ⌜ r ≡ among (keptTexts (now (s .entry)) (now (places .entry)) (now (keys .entry)) m) (partBy (now (s .entry)) place (getD (now (keys .entry)) m 0)) ⌝ }
 {
-    match find(s, starts, keys, m, a, e) {
+    match find(s, places, keys, m, place) {
         Found::At(_) => true,
         Found::Nothing => false,
     }
 }
 
-// The part is not empty, and is the same as none of the m parts kept.
-fn is_unseen(s: &[u8], starts: &[usize], keys: &[usize], m: usize, a: usize, e: usize) -> bool
-    requires { ⌜ Lying (now s) (now starts) (now keys) m ⌝ }
-    ensures { λ r. ⌜ r ≡ unseen (keptTexts (now (s .entry)) (now (starts .entry)) (now (keys .entry)) m) (between (now (s .entry)) a e) ⌝ }
+// What a test adds to a count, where it holds.
+fn one_if(yes: bool) -> usize
+    ensures { λ r. ⌜ r ≡ worthIf yes 1 ⌝ }
 {
-    if part_length(s, a, e) == 0 {
-        return false;
+    if yes {
+        return 1;
     }
-    !is_kept(s, starts, keys, m, a, e)
+    0
 }
 
-// The part is kept behind the first m, if it is to be; how many are kept then.
-fn keep(
-    s: &[u8],
-    starts: &mut [usize],
-    keys: &mut [usize],
-    m: usize,
-    a: usize,
-    e: usize,
-    yes: bool,
-) -> usize
-    requires { ⌜ (m < length (now starts)) × (m < length (now keys)) × (length (now s) ≤ 65_535) ⌝ }
-    ensures { λ r. ⌜ Keeps (now (s .entry)) (now (starts .entry)) (now (keys .entry)) m a e yes (now (starts .exit)) (now (keys .exit)) r ⌝ }
+// A part is looked for among the m that are kept, and kept behind them if it is there and new.
+fn new_part(s: &[u8], places: &mut [u16], keys: &mut [u16], m: usize, a: usize, e: usize) -> bool
+    requires { ⌜ Lying (now s) (now places) (now keys) m × (m < length (now places)) × (m + 1 < length (now keys)) ⌝ }
+    requires { ⌜ (a ≤ e) × (e ≤ length (now s)) × (e ≤ a + 15) × (a < 65_536) ⌝ }
+    ensures { λ r. ⌜ NewPart (now (s .entry)) (now (places .entry)) (now (keys .entry)) m a e r (now (places .exit)) (now (keys .exit)) ⌝ }
 {
-    if !yes {
-        return m;
+    if a == e {
+        return false;
     }
-    let n = part_length(s, a, e);
-    starts[m] = a;
-    keys[m] = key_of(s, a, n);
-    m + 1
+    keys[m] = key_of(s, a, e);
+    if is_kept(s, places, keys, m, a) {
+        return false;
+    }
+    places[m] = a as u16;
+    true
+}
+
+// A square is looked for among the m that are kept, and kept behind them if it is there and new: its number stands there already.
+fn new_square(s: &[u8], squares: &mut [u16], m: usize, a: usize, e: usize) -> bool
+    requires { ⌜ (m < length (now squares)) × (a ≤ e) × (e ≤ length (now s)) × (emptyOr locator (between (now s) a e) ≡ true) ⌝ }
+    ensures { λ r. ⌜ NewSquare (now (squares .entry)) m (take 4 (between (now (s .entry)) a e)) r (now (squares .exit)) ⌝ }
+{
+    if a == e {
+        return false;
+    }
+    let number = square_of(s, a);
+    squares[m] = number;
+    next_key(squares, 0, number) == m
+}
+
+// # One record
+
+// What was noted of a record: where its call, its exchange and its points begin, and where these end.
+struct Noted {
+    call: usize,
+    exchange: usize,
+    points: usize,
+    pointsend: usize,
 }
 
 // How many calls, squares and exchanges are kept.
@@ -176,121 +320,132 @@ struct Kept {
     exchanges: usize,
 }
 
-// What is said of a record, and what is kept after it.
+// What is said of a record, what it brings, and what is kept after it.
 struct Step {
     verdict: Verdict,
+    worth: u64,
     kept: Kept,
 }
 
-// The class of a record after those whose calls are kept.
-fn class_of(s: &[u8], c: Contact, starts: &[usize], keys: &[usize], m: usize) -> Class
-    requires { ⌜ Lying (now s) (now starts) (now keys) m ⌝ }
-    ensures { λ r. ⌜ r ≡ classBy (keptTexts (now (s .entry)) (now (starts .entry)) (now (keys .entry)) m) (now (s .entry)) c ⌝ }
+// The class of a record, after those whose calls are kept. Where its call ends is known, and the call's key stands behind the others.
+fn class_of(s: &[u8], p: Noted, end: usize, calls: &[u16], keys: &[u16], m: usize) -> Class
+    requires { ⌜ Classed (now s) p end (now calls) (now keys) m ⌝ }
+    ensures { λ r. ⌜ r ≡ classNoted (keptTexts (now (s .entry)) (now (calls .entry)) (now (keys .entry)) m) (now (s .entry)) p ⌝ }
 {
-    if c.error {
-        return Class::Error;
+    if is_error(s, p.call, end) {
+        return class_by(true, false, false);
     }
-    if is_kept(s, starts, keys, m, c.call, c.callend) {
-        return Class::Duplicate;
-    }
-    if c.worth == 0 {
-        return Class::Void;
-    }
-    Class::Credited
+    let points = p.points;
+    let repeats = is_kept(s, calls, keys, m, p.call);
+    class_by(false, repeats, s[points] != 48)
 }
 
-fn class_number(class: Class) -> u8
-    ensures { λ r. ⌜ r ≡ classNumber class ⌝ }
+// A credited record: its marks, what it is worth, and what is kept of it. Its call's key stands behind the others already.
+fn credited_next(
+    s: &[u8],
+    p: Noted,
+    kept: Kept,
+    calls: &mut [u16],
+    exchanges: &mut [u16],
+    exchangekeys: &mut [u16],
+    squares: &mut [u16],
+) -> Step
+    requires { ⌜ CreditReady base (now s) p kept (now calls) (now exchanges) (now exchangekeys) (now squares) ⌝ }
+    ensures { λ r. ⌜ Credits base (now (s .entry)) p kept (now (calls .entry)) (now (exchanges .entry)) (now (exchangekeys .entry)) (now (squares .entry)) r (now (calls .exit)) (now (exchanges .exit)) (now (exchangekeys .exit)) (now (squares .exit)) ⌝ }
 {
-    match class {
-        Class::Credited => 0,
-        Class::Void => 1,
-        Class::Duplicate => 2,
-        Class::Error => 3,
-    }
-}
-
-// What a mark adds to the number of a verdict.
-fn mark(set: bool, worth: u8) -> u8
-    ensures { λ r. ⌜ r ≡ worthIf set worth ⌝ }
-{
-    if set {
-        return worth;
-    }
-    0
-}
-
-pub fn verdict_number(v: Verdict) -> u8
-    ensures { λ r. ⌜ r ≡ verdictNumber v ⌝ }
-{
-    let class = v.class;
-    class_number(class) + mark(v.exchange, 16) + mark(v.square, 32) + mark(v.country, 64)
-}
-
-fn class_from(n: u8) -> Class
-    ensures { λ r. ⌜ r ≡ classFrom n ⌝ }
-{
-    if n == 0 {
-        return Class::Credited;
-    }
-    if n == 1 {
-        return Class::Void;
-    }
-    if n == 2 {
-        return Class::Duplicate;
-    }
-    Class::Error
-}
-
-// The verdict that a number tells.
-pub fn verdict_from(n: u8) -> Verdict
-    ensures { λ r. ⌜ r ≡ verdictFrom n ⌝ }
-{
-    Verdict {
-        class: class_from(n % 16),
-        exchange: n / 16 % 2 == 1,
-        square: n / 32 % 2 == 1,
-        country: n / 64 % 2 == 1,
+    let end = part_end(s, p.exchange);
+    let exchange = new_part(s, exchanges, exchangekeys, kept.exchanges, p.exchange, end);
+    let square = new_square(s, squares, kept.squares, end + 1, p.points - 1);
+    let country = claims_country(s, p.pointsend);
+    let m = kept.calls;
+    calls[m] = p.call as u16;
+    let verdict = verdict_by(Class::Credited, exchange, square, country);
+    let after = Kept {
+        calls: m + 1,
+        squares: one_if(square) + kept.squares,
+        exchanges: one_if(exchange) + kept.exchanges,
+    };
+    Step {
+        verdict,
+        worth: worth_at(s, p.points),
+        kept: after,
     }
 }
 
-// A sum after one more record: what the record is worth is added where it counts.
-fn raised(sum: u64, counts: bool, worth: u64) -> u64
-    requires { ⌜ (sum ≤ 998_998_001) × (worth ≤ 999_999) ⌝ }
-    ensures { λ r. ⌜ r ≡ worthIf counts worth + sum ⌝ }
+// One record is judged, and what is to be kept of it is kept.
+fn judge_next(
+    s: &[u8],
+    p: Noted,
+    kept: Kept,
+    calls: &mut [u16],
+    callkeys: &mut [u16],
+    exchanges: &mut [u16],
+    exchangekeys: &mut [u16],
+    squares: &mut [u16],
+) -> Step
+    requires { ⌜ Ready base (now s) p kept (now calls) (now callkeys) (now exchanges) (now exchangekeys) (now squares) ⌝ }
+    ensures { λ r. ⌜ Steps base (now (s .entry)) p kept (now (calls .entry)) (now (callkeys .entry)) (now (exchanges .entry)) (now (exchangekeys .entry)) (now (squares .entry)) r (now (calls .exit)) (now (callkeys .exit)) (now (exchanges .exit)) (now (exchangekeys .exit)) (now (squares .exit)) ⌝ }
 {
-    if counts {
-        return worth + sum;
+    let call = p.call;
+    let end = part_end(s, call);
+    let m = kept.calls;
+    callkeys[m] = key_of(s, call, end);
+    let class = class_of(s, p, end, calls, callkeys, m);
+    let number = class_number(class);
+    if number == 0 {
+        return credited_next(s, p, kept, calls, exchanges, exchangekeys, squares);
     }
-    sum
+    let verdict = verdict_by(class, false, false, false);
+    Step {
+        verdict,
+        worth: 0,
+        kept,
+    }
+}
+
+// # The totals
+
+// The totals after one more credited record.
+fn credited_more(t: Totals, worth: u64, v: Verdict) -> Totals
+    requires { ⌜ Countable base t worth v × (v .class ≡ Class.Credited) ⌝ }
+    ensures { λ r. ⌜ r ≡ addRecord t worth v ⌝ }
+{
+    let mut sums = t;
+    sums.credited = 1 + t.credited;
+    sums.points = worth + t.points;
+    sums.squares = one_if(v.square) as u64 + t.squares;
+    sums.exchanges = one_if(v.exchange) as u64 + t.exchanges;
+    sums.countries = one_if(v.country) as u64 + t.countries;
+    sums
 }
 
 // The totals after one more record: what it is worth, and what is said of it. The bonuses and the total wait for the last record.
-fn counted(t: Totals, worth: u64, v: Verdict) -> Totals
-    requires { ⌜ Countable t worth ⌝ }
+fn add_record(t: Totals, worth: u64, v: Verdict) -> Totals
+    requires { ⌜ Countable base t worth v ⌝ }
     ensures { λ r. ⌜ r ≡ addRecord t worth v ⌝ }
 {
+    let mut sums = t;
     let class = v.class;
-    let n = class_number(class);
-    Totals {
-        credited: raised(t.credited, 0 == n, 1),
-        voids: raised(t.voids, 1 == n, 1),
-        duplicates: raised(t.duplicates, 2 == n, 1),
-        errors: raised(t.errors, 3 == n, 1),
-        points: raised(t.points, 0 == n, worth),
-        squares: raised(t.squares, v.square, 1),
-        exchanges: raised(t.exchanges, v.exchange, 1),
-        countries: raised(t.countries, v.country, 1),
-        squarebonus: t.squarebonus,
-        exchangebonus: t.exchangebonus,
-        countrybonus: t.countrybonus,
-        total: t.total,
+    match class {
+        Class::Credited => credited_more(t, worth, v),
+        Class::Void => {
+            sums.voids = 1 + t.voids;
+            sums
+        }
+        Class::Duplicate => {
+            sums.duplicates = 1 + t.duplicates;
+            sums
+        }
+        Class::Error => {
+            sums.errors = 1 + t.errors;
+            sums
+        }
     }
 }
 
 // The totals of all the records, with what the declared bonuses and multipliers make of them.
 fn closed(t: Totals, d: Declared) -> Totals
-    requires { ⌜ Closable t d ⌝ }
+    requires { ⌜ Closable base t d ⌝ }
     ensures { λ r. ⌜ r ≡ closing t d ⌝ }
 {
     let squares = t.squares * d.squarebonus;
@@ -313,114 +468,6 @@ fn closed(t: Totals, d: Declared) -> Totals
     }
 }
 
-// What is said of a record by what is kept. Only a credited record is looked at for what is new.
-fn verdict_of(
-    s: &[u8],
-    c: Contact,
-    kept: Kept,
-    callstarts: &[usize],
-    callkeys: &[usize],
-    squarestarts: &[usize],
-    squarekeys: &[usize],
-    exchangestarts: &[usize],
-    exchangekeys: &[usize],
-) -> Verdict
-    requires { ⌜ Room (now s) kept (now callstarts) (now callkeys) (now squarestarts) (now squarekeys) (now exchangestarts) (now exchangekeys) ⌝ }
-    ensures { λ r. ⌜ r ≡ verdictBy (memory (now (s .entry)) kept (now (callstarts .entry)) (now (callkeys .entry)) (now (squarestarts .entry)) (now (squarekeys .entry)) (now (exchangestarts .entry)) (now (exchangekeys .entry))) (now (s .entry)) c ⌝ }
-{
-    let class = class_of(s, c, callstarts, callkeys, kept.calls);
-    if class_number(class) != 0 {
-        return Verdict {
-            class,
-            exchange: false,
-            square: false,
-            country: false,
-        };
-    }
-    let end = square_end(c.locator, c.locatorend);
-    Verdict {
-        class,
-        exchange: is_unseen(
-            s,
-            exchangestarts,
-            exchangekeys,
-            kept.exchanges,
-            c.exchange,
-            c.exchangeend,
-        ),
-        square: is_unseen(s, squarestarts, squarekeys, kept.squares, c.locator, end),
-        country: c.country,
-    }
-}
-
-// One record is judged, and what is to be kept of it is kept.
-fn judge_next(
-    s: &[u8],
-    c: Contact,
-    kept: Kept,
-    callstarts: &mut [usize],
-    callkeys: &mut [usize],
-    squarestarts: &mut [usize],
-    squarekeys: &mut [usize],
-    exchangestarts: &mut [usize],
-    exchangekeys: &mut [usize],
-) -> Step
-    requires { ⌜ Room (now s) kept (now callstarts) (now callkeys) (now squarestarts) (now squarekeys) (now exchangestarts) (now exchangekeys) ⌝ }
-    requires { ⌜ Placed (now s) c ⌝ }
-    ensures { λ r. ⌜ Steps (now (s .entry)) c kept (memory (now (s .entry)) kept (now (callstarts .entry)) (now (callkeys .entry)) (now (squarestarts .entry)) (now (squarekeys .entry)) (now (exchangestarts .entry)) (now (exchangekeys .entry))) r (memory (now (s .entry)) (r .kept) (now (callstarts .exit)) (now (callkeys .exit)) (now (squarestarts .exit)) (now (squarekeys .exit)) (now (exchangestarts .exit)) (now (exchangekeys .exit))) ⌝ }
-    ensures { λ r. ⌜ Stays (now (s .entry)) (r .kept) (now (callstarts .exit)) (now (callkeys .exit)) (now (squarestarts .exit)) (now (squarekeys .exit)) (now (exchangestarts .exit)) (now (exchangekeys .exit)) ⌝ }
-{
-    let v = verdict_of(
-        s,
-        c,
-        kept,
-        callstarts,
-        callkeys,
-        squarestarts,
-        squarekeys,
-        exchangestarts,
-        exchangekeys,
-    );
-    let class = v.class;
-    let n = class_number(class);
-    let end = square_end(c.locator, c.locatorend);
-    let calls = keep(
-        s,
-        callstarts,
-        callkeys,
-        kept.calls,
-        c.call,
-        c.callend,
-        0 == n,
-    );
-    let squares = keep(
-        s,
-        squarestarts,
-        squarekeys,
-        kept.squares,
-        c.locator,
-        end,
-        v.square,
-    );
-    let exchanges = keep(
-        s,
-        exchangestarts,
-        exchangekeys,
-        kept.exchanges,
-        c.exchange,
-        c.exchangeend,
-        v.exchange,
-    );
-    Step {
-        verdict: v,
-        kept: Kept {
-            calls,
-            squares,
-            exchanges,
-        },
-    }
-}
-
 pub fn no_totals() -> Totals
     ensures { λ r. ⌜ r ≡ zeroTotals ⌝ }
 {
@@ -440,135 +487,59 @@ pub fn no_totals() -> Totals
     }
 }
 
-// The n records from a place on are judged, each in one step, and their verdicts written, and where the points of each begin. Of the credited
-// ones only places are kept, so that no record is read twice.
+// # All the records
+
+// The n records are judged, each in one step, and their verdicts written. What is kept of them is kept in front of the lists of places, of which
+// no more is needed then.
 fn walk_records(
     log: &[u8],
-    first: usize,
     n: usize,
     verdicts: &mut [u8],
-    points: &mut [u16],
-    callstarts: &mut [usize],
-    callkeys: &mut [usize],
-    squarestarts: &mut [usize],
-    squarekeys: &mut [usize],
-    exchangestarts: &mut [usize],
-    exchangekeys: &mut [usize],
+    calls: &mut [u16],
+    exchanges: &mut [u16],
+    points: &[u16],
+    pointsends: &[u16],
 ) -> Totals
-    requires { ⌜ Weighable (now log) first n (now verdicts) ⌝ }
-    requires { ⌜ Shelves n (now points) (now callstarts) (now callkeys) (now squarestarts) (now squarekeys) (now exchangestarts) (now exchangekeys) ⌝ }
-    ensures { λ r. ⌜ Weighs (now (log .entry)) first n (now (verdicts .entry)) (now (points .entry)) r (now (verdicts .exit)) (now (points .exit)) ⌝ }
+    requires { ⌜ Weighable base (now log) n (now verdicts) (now calls) (now exchanges) (now points) (now pointsends) ⌝ }
+    ensures { λ r. ⌜ Weighs base (now (log .entry)) (now (verdicts .entry)) r (now (verdicts .exit)) ⌝ }
 {
+    let mut callkeys = [0u16; KEYS];
+    let mut exchangekeys = [0u16; KEYS];
+    let mut squares = [0u16; KEYS];
     let mut kept = Kept {
         calls: 0,
         squares: 0,
         exchanges: 0,
     };
     let mut totals = no_totals();
-    let mut at = first;
     let mut i = 0;
     while i < n {
-        let c = places::contact_at(log, at);
-        points[i] = c.points as u16;
+        let p = Noted {
+            call: wide(calls[i]),
+            exchange: wide(exchanges[i]),
+            points: wide(points[i]),
+            pointsend: wide(pointsends[i]),
+        };
         let step = judge_next(
             log,
-            c,
+            p,
             kept,
-            callstarts,
-            callkeys,
-            squarestarts,
-            squarekeys,
-            exchangestarts,
-            exchangekeys,
+            calls,
+            &mut callkeys,
+            exchanges,
+            &mut exchangekeys,
+            &mut squares,
         );
         let v = step.verdict;
         kept = step.kept;
-        totals = counted(totals, c.worth, v);
+        totals = add_record(totals, step.worth, v);
         verdicts[i] = verdict_number(v);
-        at = c.next;
         i += 1;
     }
     totals
 }
 
-// Where there are few records, few places are set aside, for setting them aside costs as much as judging them.
-fn weigh_few(
-    log: &[u8],
-    first: usize,
-    n: usize,
-    verdicts: &mut [u8],
-    points: &mut [u16; 999],
-) -> Totals
-    requires { ⌜ Weighable (now log) first n (now verdicts) × (n ≤ 128) ⌝ }
-    ensures { λ r. ⌜ Weighs (now (log .entry)) first n (now (verdicts .entry)) (now (points .entry)) r (now (verdicts .exit)) (now (points .exit)) ⌝ }
-{
-    let mut callstarts = [0usize; 128];
-    let mut callkeys = [0usize; 128];
-    let mut squarestarts = [0usize; 128];
-    let mut squarekeys = [0usize; 128];
-    let mut exchangestarts = [0usize; 128];
-    let mut exchangekeys = [0usize; 128];
-    walk_records(
-        log,
-        first,
-        n,
-        verdicts,
-        points,
-        &mut callstarts,
-        &mut callkeys,
-        &mut squarestarts,
-        &mut squarekeys,
-        &mut exchangestarts,
-        &mut exchangekeys,
-    )
-}
-
-fn weigh_many(
-    log: &[u8],
-    first: usize,
-    n: usize,
-    verdicts: &mut [u8],
-    points: &mut [u16; 999],
-) -> Totals
-    requires { ⌜ Weighable (now log) first n (now verdicts) ⌝ }
-    ensures { λ r. ⌜ Weighs (now (log .entry)) first n (now (verdicts .entry)) (now (points .entry)) r (now (verdicts .exit)) (now (points .exit)) ⌝ }
-{
-    let mut callstarts = [0usize; 999];
-    let mut callkeys = [0usize; 999];
-    let mut squarestarts = [0usize; 999];
-    let mut squarekeys = [0usize; 999];
-    let mut exchangestarts = [0usize; 999];
-    let mut exchangekeys = [0usize; 999];
-    walk_records(
-        log,
-        first,
-        n,
-        verdicts,
-        points,
-        &mut callstarts,
-        &mut callkeys,
-        &mut squarestarts,
-        &mut squarekeys,
-        &mut exchangestarts,
-        &mut exchangekeys,
-    )
-}
-
-fn weigh_records(
-    log: &[u8],
-    first: usize,
-    n: usize,
-    verdicts: &mut [u8],
-    points: &mut [u16; 999],
-) -> Totals
-    requires { ⌜ Weighable (now log) first n (now verdicts) ⌝ }
-    ensures { λ r. ⌜ Weighs (now (log .entry)) first n (now (verdicts .entry)) (now (points .entry)) r (now (verdicts .exit)) (now (points .exit)) ⌝ }
-{
-    if n <= 128 {
-        return weigh_few(log, first, n, verdicts, points);
-    }
-    weigh_many(log, first, n, verdicts, points)
-}
+// # The log
 
 // What a log is judged to be, with how many records it has, where the first begins and where the claims do, for a caller that walks them again.
 pub enum Weighed {
@@ -587,19 +558,22 @@ pub enum Judged {
     Refused(Refusal),
 }
 
-// An accepted log is judged, if the slice has room for its verdicts; otherwise both lists are left as they are.
+// An accepted log, of whose records the places are noted, is judged, if the slice has room for its verdicts; otherwise the slice is left as it is.
 fn weigh_accepted(
     log: &[u8],
     records: usize,
     first: usize,
     claims: usize,
     verdicts: &mut [u8],
-    points: &mut [u16; 999],
+    calls: &mut [u16],
+    exchanges: &mut [u16],
+    points: &[u16],
+    pointsends: &[u16],
 ) -> Weighed
-    requires { ⌜ Accepts (now log) records first claims ⌝ }
-    ensures answer { λ r. ⌜ r ≡ weighedOf (length (now (verdicts .entry))) (now (log .entry)) ⌝ }
-    ensures slice { λ r. ⌜ now (verdicts .exit) ≡ verdictsAfterwards (now (log .entry)) (now (verdicts .entry)) ⌝ }
-    ensures places { λ r. ⌜ now (points .exit) ≡ pointsAfterwards (length (now (verdicts .entry))) (now (log .entry)) (now (points .entry)) ⌝ }
+    requires { ⌜ Accepts base (now log) records first claims ⌝ }
+    requires { ⌜ Listings base (now log) first records (now calls) (now exchanges) (now points) (now pointsends) ⌝ }
+    ensures answer { λ r. ⌜ r ≡ weighedOf base (length (now (verdicts .entry))) (now (log .entry)) ⌝ }
+    ensures slice { λ r. ⌜ now (verdicts .exit) ≡ verdictsAfterwards base (now (log .entry)) (now (verdicts .entry)) ⌝ }
 {
     if verdicts.len() < records {
         return Weighed::Refused(Refusal {
@@ -608,7 +582,7 @@ fn weigh_accepted(
             field: 0,
         });
     }
-    let sums = weigh_records(log, first, records, verdicts, points);
+    let sums = walk_records(log, records, verdicts, calls, exchanges, points, pointsends);
     let totals = closed(sums, places::declared_at(log, claims));
     Weighed::Done {
         totals,
@@ -618,30 +592,53 @@ fn weigh_accepted(
     }
 }
 
-// A log is read and judged: its verdicts are written to the front of the slice, and where the points of each record begin to the front of the
-// other list, for a caller that writes them anew. On a refusal nothing of either is changed.
-pub fn weigh(log: &[u8], verdicts: &mut [u8], points: &mut [u16; 999]) -> Weighed
-    ensures answer { λ r. ⌜ r ≡ weighedOf (length (now (verdicts .entry))) (now (log .entry)) ⌝ }
-    ensures slice { λ r. ⌜ now (verdicts .exit) ≡ verdictsAfterwards (now (log .entry)) (now (verdicts .entry)) ⌝ }
-    ensures places { λ r. ⌜ now (points .exit) ≡ pointsAfterwards (length (now (verdicts .entry))) (now (log .entry)) (now (points .entry)) ⌝ }
+// A log is read and judged: its verdicts are written to the front of the slice, and where the points of each record that was read begin and end,
+// and where the record does, to the front of the three lists, for a caller that writes them anew. On a refusal nothing of the slice is changed, and
+// the lists have what was read in front of it.
+pub fn weigh(
+    log: &[u8],
+    verdicts: &mut [u8],
+    points: &mut [u16; rules::MOST_RECORDS],
+    pointsends: &mut [u16; rules::MOST_RECORDS],
+    ends: &mut [u16; rules::MOST_RECORDS],
+) -> Weighed
+    ensures answer { λ r. ⌜ r ≡ weighedOf base (length (now (verdicts .entry))) (now (log .entry)) ⌝ }
+    ensures slice { λ r. ⌜ now (verdicts .exit) ≡ verdictsAfterwards base (now (log .entry)) (now (verdicts .entry)) ⌝ }
+    ensures points { λ r. ⌜ now (points .exit) ≡ listed (λ c. c .points) (contactsRead base (now (log .entry))) (now (points .entry)) ⌝ }
+    ensures pointsends { λ r. ⌜ now (pointsends .exit) ≡ listed (λ c. c .pointsend) (contactsRead base (now (log .entry))) (now (pointsends .entry)) ⌝ }
+    ensures ends { λ r. ⌜ now (ends .exit) ≡ listed (λ c. c .end) (contactsRead base (now (log .entry))) (now (ends .entry)) ⌝ }
 {
-    match reader::read(log) {
+    let mut calls = [0u16; rules::MOST_RECORDS];
+    let mut exchanges = [0u16; rules::MOST_RECORDS];
+    match reader::survey(log, &mut calls, &mut exchanges, points, pointsends, ends) {
         ReadAnswer::Accepted {
             records,
             first,
             claims,
-        } => weigh_accepted(log, records, first, claims, verdicts, points),
+        } => weigh_accepted(
+            log,
+            records,
+            first,
+            claims,
+            verdicts,
+            &mut calls,
+            &mut exchanges,
+            points,
+            pointsends,
+        ),
         ReadAnswer::Refused(r) => Weighed::Refused(r),
     }
 }
 
 // The same, where the totals and the verdicts are all that is asked for.
 pub fn judge(log: &[u8], verdicts: &mut [u8]) -> Judged
-    ensures answer { λ r. ⌜ r ≡ judgedOf (length (now (verdicts .entry))) (now (log .entry)) ⌝ }
-    ensures slice { λ r. ⌜ now (verdicts .exit) ≡ verdictsAfterwards (now (log .entry)) (now (verdicts .entry)) ⌝ }
+    ensures answer { λ r. ⌜ r ≡ judgedOf base (length (now (verdicts .entry))) (now (log .entry)) ⌝ }
+    ensures slice { λ r. ⌜ now (verdicts .exit) ≡ verdictsAfterwards base (now (log .entry)) (now (verdicts .entry)) ⌝ }
 {
-    let mut points = [0u16; 999];
-    match weigh(log, verdicts, &mut points) {
+    let mut points = [0u16; rules::MOST_RECORDS];
+    let mut pointsends = [0u16; rules::MOST_RECORDS];
+    let mut ends = [0u16; rules::MOST_RECORDS];
+    match weigh(log, verdicts, &mut points, &mut pointsends, &mut ends) {
         Weighed::Done {
             totals,
             records: _,

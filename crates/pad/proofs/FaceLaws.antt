@@ -39,7 +39,7 @@ readingShown (ReadAnswer.Accepted n first claims) = aReading n (refusalFace noRe
 readingShown (ReadAnswer.Refused r) = aReading 0 (refusalFace r)
 
 module _ (s : Text) where
-  reading-shown : readingShown (readOf s) ≡ readingFace (read base s)
+  reading-shown : readingShown (readOf base s) ≡ readingFace (read base s)
   unfolding readOf readingFace
   reading-shown = by (read base s)
     where
@@ -47,10 +47,10 @@ module _ (s : Text) where
       by (accepted log) = refl
       by (refused r) = refl
 
-  pub records-shown : {f : SumpquinceRefusal} {n first claims : ℕ} → f ≡ refusalFace noRefusal → ReadAnswer.Accepted n first claims ≡ readOf s → aReading n f ≡ readingFace (read base s)
+  pub records-shown : {f : SumpquinceRefusal} {n first claims : ℕ} → f ≡ refusalFace noRefusal → ReadAnswer.Accepted n first claims ≡ readOf base s → aReading n f ≡ readingFace (read base s)
   records-shown {n = n} e a = ap (aReading n) e ∙ ap readingShown a ∙ reading-shown
 
-  pub unread-shown : {f : SumpquinceRefusal} {r : Refusal} → f ≡ refusalFace r → ReadAnswer.Refused r ≡ readOf s → aReading 0 f ≡ readingFace (read base s)
+  pub unread-shown : {f : SumpquinceRefusal} {r : Refusal} → f ≡ refusalFace r → ReadAnswer.Refused r ≡ readOf base s → aReading 0 f ≡ readingFace (read base s)
   unread-shown e a = ap (aReading 0) e ∙ ap readingShown a ∙ reading-shown
 
 -- # Views
@@ -63,7 +63,7 @@ viewShown (ViewRead.Seen start n) = aView start n (refusalFace noRefusal)
 viewShown (ViewRead.Refused r) = aView 0 0 (refusalFace r)
 
 module _ (k : ℕ) (s : Text) where
-  view-shown : viewShown (viewOf k s) ≡ viewFace (view base k s)
+  view-shown : viewShown (viewOf base k s) ≡ viewFace (view base k s)
   unfolding viewOf viewFace
   view-shown = by (view base k s)
     where
@@ -71,10 +71,10 @@ module _ (k : ℕ) (s : Text) where
       by (seen start t) = refl
       by (unseen r) = refl
 
-  pub seen-shown : {f : SumpquinceRefusal} {start n : ℕ} → f ≡ refusalFace noRefusal → ViewRead.Seen start n ≡ viewOf k s → aView start n f ≡ viewFace (view base k s)
+  pub seen-shown : {f : SumpquinceRefusal} {start n : ℕ} → f ≡ refusalFace noRefusal → ViewRead.Seen start n ≡ viewOf base k s → aView start n f ≡ viewFace (view base k s)
   seen-shown {start = start} {n = n} e a = ap (aView start n) e ∙ ap viewShown a ∙ view-shown
 
-  pub unseen-shown : {f : SumpquinceRefusal} {r : Refusal} → f ≡ refusalFace r → ViewRead.Refused r ≡ viewOf k s → aView 0 0 f ≡ viewFace (view base k s)
+  pub unseen-shown : {f : SumpquinceRefusal} {r : Refusal} → f ≡ refusalFace r → ViewRead.Refused r ≡ viewOf base k s → aView 0 0 f ≡ viewFace (view base k s)
   unseen-shown e a = ap (aView 0 0) e ∙ ap viewShown a ∙ view-shown
 
 -- # Judging
@@ -84,7 +84,7 @@ judgementShown (Judged.Totals t) = totalsFace (refusalFace noRefusal) t
 judgementShown (Judged.Refused r) = totalsFace (refusalFace r) zeroTotals
 
 module _ (room : ℕ) (s : Text) where
-  judgement-shown : judgementShown (judgedOf room s) ≡ judgementFace (judge base room s)
+  judgement-shown : judgementShown (judgedOf base room s) ≡ judgementFace (judge base room s)
   unfolding judgedOf judgementFace
   judgement-shown = by (judge base room s)
     where
@@ -92,10 +92,10 @@ module _ (room : ℕ) (s : Text) where
       by (judged t vs) = refl
       by (unjudged r) = refl
 
-  pub totals-shown : {j : SumpquinceJudgement} {f : SumpquinceRefusal} {t : Totals} → j ≡ totalsFace f t → f ≡ refusalFace noRefusal → Judged.Totals t ≡ judgedOf room s → j ≡ judgementFace (judge base room s)
+  pub totals-shown : {j : SumpquinceJudgement} {f : SumpquinceRefusal} {t : Totals} → j ≡ totalsFace f t → f ≡ refusalFace noRefusal → Judged.Totals t ≡ judgedOf base room s → j ≡ judgementFace (judge base room s)
   totals-shown {t = t} e g a = e ∙ ap (λ (f : SumpquinceRefusal). totalsFace f t) g ∙ ap judgementShown a ∙ judgement-shown
 
-  pub unjudged-shown : {j : SumpquinceJudgement} {f : SumpquinceRefusal} {r : Refusal} {t : Totals} → j ≡ totalsFace f t → f ≡ refusalFace r → t ≡ zeroTotals → Judged.Refused r ≡ judgedOf room s → j ≡ judgementFace (judge base room s)
+  pub unjudged-shown : {j : SumpquinceJudgement} {f : SumpquinceRefusal} {r : Refusal} {t : Totals} → j ≡ totalsFace f t → f ≡ refusalFace r → t ≡ zeroTotals → Judged.Refused r ≡ judgedOf base room s → j ≡ judgementFace (judge base room s)
   unjudged-shown e g z a = e ∙ ap₂ totalsFace g z ∙ ap judgementShown a ∙ judgement-shown
 
 -- # Writing
@@ -108,7 +108,7 @@ writtenShown (Wrote.Length n) = aWritten n (refusalFace noRefusal)
 writtenShown (Wrote.Refused r) = aWritten 0 (refusalFace r)
 
 module _ (room : ℕ) (s : Text) where
-  written-shown : writtenShown (wroteOf room s) ≡ writtenFace (write base room s)
+  written-shown : writtenShown (wroteOf base room s) ≡ writtenFace (write base room s)
   unfolding wroteOf writtenFace
   written-shown = by (write base room s)
     where
@@ -116,8 +116,8 @@ module _ (room : ℕ) (s : Text) where
       by (written t) = refl
       by (unwritten r) = refl
 
-  pub length-shown : {f : SumpquinceRefusal} {n : ℕ} → f ≡ refusalFace noRefusal → Wrote.Length n ≡ wroteOf room s → aWritten n f ≡ writtenFace (write base room s)
+  pub length-shown : {f : SumpquinceRefusal} {n : ℕ} → f ≡ refusalFace noRefusal → Wrote.Length n ≡ wroteOf base room s → aWritten n f ≡ writtenFace (write base room s)
   length-shown {n = n} e a = ap (aWritten n) e ∙ ap writtenShown a ∙ written-shown
 
-  pub unwritten-shown : {f : SumpquinceRefusal} {r : Refusal} → f ≡ refusalFace r → Wrote.Refused r ≡ wroteOf room s → aWritten 0 f ≡ writtenFace (write base room s)
+  pub unwritten-shown : {f : SumpquinceRefusal} {r : Refusal} → f ≡ refusalFace r → Wrote.Refused r ≡ wroteOf base room s → aWritten 0 f ≡ writtenFace (write base room s)
   unwritten-shown e a = ap (aWritten 0) e ∙ ap writtenShown a ∙ written-shown

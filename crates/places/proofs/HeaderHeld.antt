@@ -9,7 +9,7 @@ use lib.Dec.{T, eqb}
 use lib.ListN.{length, drop, getD, length-append, length-drop, length-take}
 use lib.Seq.{drop-at}
 use Rattle.rules.specs.Text.{Text, bytes, same, value, parts, allowed, span}
-use Rattle.rules.specs.Rules.{Rules, base}
+use Rattle.rules.specs.Rules.{Rules}
 use Rattle.rules.specs.Arguments.{Entry, entries, meets, countBonusMultiplier, count, bonus, multiplier, part}
 use Rattle.rules.specs.Log.{Log, identifier, argumentIn, argument, remarksLine, countLine, recordLine, keywordStart, keywordLines, linesOf, render, argumentRules, valid}
 use Rattle.rules.specs.Reading.{read, accepted}
@@ -18,10 +18,11 @@ use Rattle.rules.specs.Answers.{argumentStart}
 use Rattle.rules.proofs.Tests.{so, holds, never, and-l, and-r, not-true, eq-of-test}
 use Rattle.rules.proofs.TextLaws.{same-refl}
 use Rattle.rules.proofs.Bounds.{each-at}
-use Rattle.rules.proofs.Format.{of-valid, accepted-exactly}
+use Rattle.rules.proofs.Format.{accepted-when-written, of-valid}
+use Rattle.reader.specs.Contact.{valueBy}
 use Rattle.reader.specs.Read.{claimsStart}
 use Rattle.places.specs.declared.Declared.{Declared}
-use Rattle.places.specs.Places.{lineTextAt, lineOn, lineStart, argumentOn, argumentAt, valueBy, declaredAt}
+use Rattle.places.specs.Places.{lineTextAt, lineOn, lineStart, argumentOn, argumentAt, declaredAt}
 use Rattle.places.proofs.LineStarts.{line-more}
 use Rattle.places.proofs.LinesHeld.{start-of-line, text-of-line, line-inside}
 
@@ -95,14 +96,14 @@ module _ (R : Rules) where
   keyword-count (d ∷ es) (t ∷ ts) r = ap suc (keyword-count es ts (and-r (meets R (d .rule) t) (argumentRules R es ts) r))
 
 -- The second of three arguments is a bonus, the third a multiplier.
-module _ (t : Text) (m : meets base countBonusMultiplier t ≡ true) where
-  bonus-kept : valueBy (bonus base) (part 1 t) ≡ value (part 1 t)
+module _ (R : Rules) (t : Text) (m : meets R countBonusMultiplier t ≡ true) where
+  bonus-kept : valueBy (bonus R) (part 1 t) ≡ value (part 1 t)
   unfolding valueBy meets part
-  bonus-kept = rw (so (bonus base (part 1 t)) (each-at (count base ∷ bonus base ∷ multiplier base ∷ []) (parts t) 1 (holds m)))
+  bonus-kept = rw (so (bonus R (part 1 t)) (each-at (count R ∷ bonus R ∷ multiplier R ∷ []) (parts t) 1 (holds m)))
 
-  multiplier-kept : valueBy (multiplier base) (part 2 t) ≡ value (part 2 t)
+  multiplier-kept : valueBy (multiplier R) (part 2 t) ≡ value (part 2 t)
   unfolding valueBy meets part
-  multiplier-kept = rw (so (multiplier base (part 2 t)) (each-at (count base ∷ bonus base ∷ multiplier base ∷ []) (parts t) 2 (holds m)))
+  multiplier-kept = rw (so (multiplier R (part 2 t)) (each-at (count R ∷ bonus R ∷ multiplier R ∷ []) (parts t) 2 (holds m)))
 
 -- What is told of the declared bonuses and multipliers is true of these.
 pub record Declares (d : Declared) (of : Judged) : Type 0 where
@@ -113,15 +114,15 @@ pub record Declares (d : Declared) (of : Judged) : Type 0 where
   pub countrybonus : d .countrybonus ≡ of .countryBonus
   pub countrymultiplier : d .countrymultiplier ≡ of .countryMultiplier
 
-module _ (s : Text) (log : Log) (w : read base s ≡ accepted log) where
-  pub is-valid : T (valid base log)
-  is-valid = accepted-exactly s log .0 w .0
+module _ (R : Rules) (s : Text) (log : Log) (w : read R s ≡ accepted log) where
+  pub is-valid : T (valid R log)
+  is-valid = accepted-when-written R s log .0 w .0
 
   pub is-written : render log ≡ s
-  is-written = accepted-exactly s log .0 w .1
+  is-written = accepted-when-written R s log .0 w .1
 
-  pub ruled : argumentRules base entries (log .arguments) ≡ true
-  ruled = (of-valid base log (so (valid base log) is-valid)) .rulesOfArguments
+  pub ruled : argumentRules R entries (log .arguments) ≡ true
+  ruled = (of-valid R log (so (valid R log) is-valid)) .rulesOfArguments
 
   abbrev behind : List Text
   behind = (remarksLine ∷ log .remarks) ++ (countLine (length (log .records)) ∷ map recordLine (log .records))
@@ -137,13 +138,13 @@ module _ (s : Text) (log : Log) (w : read base s ≡ accepted log) where
     line-there : suc j < length (linesOf log)
     line-there =
         let n : length entries - j ≡ suc (length rest) = sym (length-drop j entries) ∙ ap length h in
-        omega (arith, ap length lines-from, length-append (keywordLines entries (log .arguments)) behind, keyword-count base entries (log .arguments) ruled)
+        omega (arith, ap length lines-from, length-append (keywordLines entries (log .arguments)) behind, keyword-count R entries (log .arguments) ruled)
 
     line-is : lineTextAt s (lineStart s (suc j)) ≡ keywordStart e ++ getD (log .arguments) j []
     line-is =
-        text-of-line s log is-valid is-written (suc j) line-there
+        text-of-line R s log is-valid is-written (suc j) line-there
         ∙ ap (λ (ls : List Text). getD ls (suc j) []) lines-from
-        ∙ keyword-line base entries (log .arguments) behind j e rest ruled h
+        ∙ keyword-line R entries (log .arguments) behind j e rest ruled h
 
     six : length (keywordStart e) ≡ 6
     unfolding keywordStart
@@ -151,7 +152,7 @@ module _ (s : Text) (log : Log) (w : read base s ≡ accepted log) where
 
     argument-is : argument log (e .keyword) ≡ getD (log .arguments) j []
     unfolding argument
-    argument-is = argument-at base entries (log .arguments) j e rest all-apart ruled h
+    argument-is = argument-at R entries (log .arguments) j e rest all-apart ruled h
 
     held : argumentAt s (suc j) ≡ argument log (e .keyword)
     unfolding argumentOn
@@ -160,10 +161,10 @@ module _ (s : Text) (log : Log) (w : read base s ≡ accepted log) where
 
     starts : lineStart s (suc j) + 6 ≡ argumentStart log (suc j) e
     unfolding argumentStart
-    starts = omega (arith, start-of-line s log is-valid is-written (suc j) (omega (arith, line-there)), six)
+    starts = omega (arith, start-of-line R s log is-valid is-written (suc j) (omega (arith, line-there)), six)
 
     inside : min (lineStart s (suc j)) (length s) ≡ lineStart s (suc j)
-    inside = line-inside s log is-valid is-written (suc j) (omega (arith, line-there))
+    inside = line-inside R s log is-valid is-written (suc j) (omega (arith, line-there))
 
     line-long : length (lineTextAt s (lineStart s (suc j))) ≡ 6 + length (getD (log .arguments) j [])
     line-long = ap length line-is ∙ length-append (keywordStart e) (getD (log .arguments) j []) ∙ ap (λ (n : ℕ). n + length (getD (log .arguments) j [])) six
@@ -180,14 +181,14 @@ module _ (s : Text) (log : Log) (w : read base s ≡ accepted log) where
           inside,
         )
 
-    kept : meets base (e .rule) (argument log (e .keyword)) ≡ true
-    kept = rw argument-is (rule-kept base entries (log .arguments) j e rest ruled h)
+    kept : meets R (e .rule) (argument log (e .keyword)) ≡ true
+    kept = rw argument-is (rule-kept R entries (log .arguments) j e rest ruled h)
 
-    three-held : e .rule ≡ countBonusMultiplier → (valueBy (bonus base) (part 1 (argumentAt s (suc j))) ≡ value (part 1 (argument log (e .keyword)))) × (valueBy (multiplier base) (part 2 (argumentAt s (suc j))) ≡ value (part 2 (argument log (e .keyword))))
+    three-held : e .rule ≡ countBonusMultiplier → (valueBy (bonus R) (part 1 (argumentAt s (suc j))) ≡ value (part 1 (argument log (e .keyword)))) × (valueBy (multiplier R) (part 2 (argumentAt s (suc j))) ≡ value (part 2 (argument log (e .keyword))))
     three-held g =
-        let m : meets base countBonusMultiplier (argument log (e .keyword)) ≡ true = rw g at kept in (
-          ap (λ (t : Text). valueBy (bonus base) (part 1 t)) held ∙ bonus-kept (argument log (e .keyword)) m,
-          ap (λ (t : Text). valueBy (multiplier base) (part 2 t)) held ∙ multiplier-kept (argument log (e .keyword)) m,
+        let m : meets R countBonusMultiplier (argument log (e .keyword)) ≡ true = rw g at kept in (
+          ap (λ (t : Text). valueBy (bonus R) (part 1 t)) held ∙ bonus-kept R (argument log (e .keyword)) m,
+          ap (λ (t : Text). valueBy (multiplier R) (part 2 t)) held ∙ multiplier-kept R (argument log (e .keyword)) m,
         )
 
   -- "A view is the named argument's part of the log": keywords are numbered from 1.
@@ -210,7 +211,7 @@ module _ (s : Text) (log : Log) (w : read base s ≡ accepted log) where
   -- The claims begin with keyword 27, and what stands so many lines behind it is as many keywords further.
   pub claims-line : claimsStart log ≡ lineStart s 27
   unfolding claimsStart entries
-  claims-line = sym (start-of-line s log is-valid is-written 27 (omega (arith, line-there 26 _ _ refl)))
+  claims-line = sym (start-of-line R s log is-valid is-written 27 (omega (arith, line-there 26 _ _ refl)))
 
   claims-argument : (i : ℕ) → argumentOn s (claimsStart log) i ≡ argumentAt s (suc (26 + i))
   unfolding argumentOn
@@ -218,10 +219,10 @@ module _ (s : Text) (log : Log) (w : read base s ≡ accepted log) where
       let n : 27 + i ≡ suc (26 + i) = omega arith in
       ap (λ (at : ℕ). drop 6 (lineTextAt s at)) (ap (λ (at : ℕ). lineOn s at i) claims-line ∙ line-more s 0 27 i ∙ ap (lineStart s) n)
 
-  claims-held : (i : ℕ) (e : Entry) (rest : List Entry) → drop (26 + i) entries ≡ e ∷ rest → e .rule ≡ countBonusMultiplier → (valueBy (bonus base) (part 1 (argumentOn s (claimsStart log) i)) ≡ value (part 1 (argument log (e .keyword)))) × (valueBy (multiplier base) (part 2 (argumentOn s (claimsStart log) i)) ≡ value (part 2 (argument log (e .keyword))))
+  claims-held : (i : ℕ) (e : Entry) (rest : List Entry) → drop (26 + i) entries ≡ e ∷ rest → e .rule ≡ countBonusMultiplier → (valueBy (bonus R) (part 1 (argumentOn s (claimsStart log) i)) ≡ value (part 1 (argument log (e .keyword)))) × (valueBy (multiplier R) (part 2 (argumentOn s (claimsStart log) i)) ≡ value (part 2 (argument log (e .keyword))))
   claims-held i e rest h g = rw (claims-argument i) (three-held (26 + i) e rest h g)
 
-  pub declared-held : Declares (declaredAt s (claimsStart log)) (declared log)
+  pub declared-held : Declares (declaredAt R s (claimsStart log)) (declared log)
   unfolding declaredAt declared entries
   declared-held =
       let squares = claims-held 2 _ _ refl refl in

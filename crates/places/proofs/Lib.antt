@@ -1,7 +1,5 @@
-pub mod PlaceLaws
+-- The laws of places: lines, keywords, what is declared, and views.
 pub mod LineStarts
-pub mod FieldsHeld
-pub mod RecordsHeld
 pub mod LinesHeld
 pub mod HeaderHeld
 pub mod ToldBounds

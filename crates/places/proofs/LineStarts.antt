@@ -9,12 +9,13 @@ use mathlib.Core.Path.{_≡_, refl, ap, _∙_}
 use lib.ListN.{length, take, drop, drop-of-length-le}
 use lib.Seq.{drop-drop}
 use Rattle.rules.specs.Text.{Text, allowed, span}
-use Rattle.rules.specs.Rules.{base}
+use Rattle.rules.specs.Rules.{Rules}
 use Rattle.rules.specs.Arguments.{part, bonus, multiplier}
 use Rattle.fields.specs.Field.{inField, textAt, endOf}
-use Rattle.header.proofs.PartLaws.{end-by-span, reach-first, reach-next, text-of}
+use Rattle.fields.proofs.PartLaws.{end-by-span, reach-first, reach-next, text-of}
+use Rattle.reader.specs.Contact.{valueBy}
 use Rattle.places.specs.declared.Declared.{Declared}
-use Rattle.places.specs.Places.{lineTextAt, lineOn, lineStart, argumentOn, valueBy, declaredAt}
+use Rattle.places.specs.Places.{lineTextAt, lineOn, lineStart, argumentOn, declaredAt}
 
 rates : {ab am bb bm cb cm ab′ am′ bb′ bm′ cb′ cm′ : ℕ} → ab ≡ ab′ → am ≡ am′ → bb ≡ bb′ → bm ≡ bm′ → cb ≡ cb′ → cm ≡ cm′
     → _≡_ {A = Declared}
@@ -81,21 +82,21 @@ module _ (s : Text) where
   unfolding argumentOn
   argument-told from i e = ap (λ (n : ℕ). drop 6 (lineTextAt s n)) e ∙ ap (drop 6) (text-inside (lineOn s from i))
 
-  module _ (from i : ℕ) {at : ℕ} (e : at ≡ inside (lineOn s from i)) where
-    bonus-told : valueBy (bonus base) (part 1 (drop 6 (lineTextAt s at))) ≡ valueBy (bonus base) (part 1 (argumentOn s from i))
-    bonus-told = ap (λ (t : Text). valueBy (bonus base) (part 1 t)) (argument-told from i e)
+  module _ (R : Rules) (from i : ℕ) {at : ℕ} (e : at ≡ inside (lineOn s from i)) where
+    bonus-told : valueBy (bonus R) (part 1 (drop 6 (lineTextAt s at))) ≡ valueBy (bonus R) (part 1 (argumentOn s from i))
+    bonus-told = ap (λ (t : Text). valueBy (bonus R) (part 1 t)) (argument-told from i e)
 
-    multiplier-told : valueBy (multiplier base) (part 2 (drop 6 (lineTextAt s at))) ≡ valueBy (multiplier base) (part 2 (argumentOn s from i))
-    multiplier-told = ap (λ (t : Text). valueBy (multiplier base) (part 2 t)) (argument-told from i e)
+    multiplier-told : valueBy (multiplier R) (part 2 (drop 6 (lineTextAt s at))) ≡ valueBy (multiplier R) (part 2 (argumentOn s from i))
+    multiplier-told = ap (λ (t : Text). valueBy (multiplier R) (part 2 t)) (argument-told from i e)
 
   -- What is declared, put together from the three lines.
-  pub declared-told : (claims : ℕ) {a b c : ℕ} {ab am bb bm cb cm : ℕ}
+  pub declared-told : (R : Rules) (claims : ℕ) {a b c : ℕ} {ab am bb bm cb cm : ℕ}
       → a ≡ inside (lineOn s claims 2)
       → b ≡ inside (lineOn s claims 4)
       → c ≡ inside (lineOn s claims 6)
-      → (ab ≡ valueBy (bonus base) (part 1 (drop 6 (lineTextAt s a)))) × (am ≡ valueBy (multiplier base) (part 2 (drop 6 (lineTextAt s a))))
-      → (bb ≡ valueBy (bonus base) (part 1 (drop 6 (lineTextAt s b)))) × (bm ≡ valueBy (multiplier base) (part 2 (drop 6 (lineTextAt s b))))
-      → (cb ≡ valueBy (bonus base) (part 1 (drop 6 (lineTextAt s c)))) × (cm ≡ valueBy (multiplier base) (part 2 (drop 6 (lineTextAt s c))))
+      → (ab ≡ valueBy (bonus R) (part 1 (drop 6 (lineTextAt s a)))) × (am ≡ valueBy (multiplier R) (part 2 (drop 6 (lineTextAt s a))))
+      → (bb ≡ valueBy (bonus R) (part 1 (drop 6 (lineTextAt s b)))) × (bm ≡ valueBy (multiplier R) (part 2 (drop 6 (lineTextAt s b))))
+      → (cb ≡ valueBy (bonus R) (part 1 (drop 6 (lineTextAt s c)))) × (cm ≡ valueBy (multiplier R) (part 2 (drop 6 (lineTextAt s c))))
       → _≡_ {A = Declared}
       (record {
         squarebonus = ab;
@@ -105,16 +106,16 @@ module _ (s : Text) where
         countrybonus = cb;
         countrymultiplier = cm;
       })
-      (declaredAt s claims)
+      (declaredAt R s claims)
   unfolding declaredAt
-  declared-told claims a b c p q r =
+  declared-told R claims a b c p q r =
       rates
-      (p .0 ∙ bonus-told claims 2 a)
-      (p .1 ∙ multiplier-told claims 2 a)
-      (q .0 ∙ bonus-told claims 4 b)
-      (q .1 ∙ multiplier-told claims 4 b)
-      (r .0 ∙ bonus-told claims 6 c)
-      (r .1 ∙ multiplier-told claims 6 c)
+      (p .0 ∙ bonus-told R claims 2 a)
+      (p .1 ∙ multiplier-told R claims 2 a)
+      (q .0 ∙ bonus-told R claims 4 b)
+      (q .1 ∙ multiplier-told R claims 4 b)
+      (r .0 ∙ bonus-told R claims 6 c)
+      (r .1 ∙ multiplier-told R claims 6 c)
 
 -- The parts of the text that is left of a line behind so many characters, by their places in the line.
 module _ (l : Text) (n : ℕ) where

@@ -9,7 +9,7 @@ use lib.Dec.{T, leb}
 use lib.ListN.{length, take, drop, getD, take-append-drop}
 use lib.Seq.{drop-cons, drop-drop, drop-append-add, take-suc, take-append-seam}
 use Rattle.rules.specs.Text.{Text, allowed, all, span}
-use Rattle.rules.specs.Rules.{base}
+use Rattle.rules.specs.Rules.{Rules}
 use Rattle.rules.specs.Arguments.{every}
 use Rattle.rules.specs.Log.{Log, linesOf, crlf, ended, render, lineRule, valid}
 use Rattle.rules.proofs.Tests.{so, and-r}
@@ -17,13 +17,13 @@ use Rattle.rules.proofs.TextLaws.{span-run}
 use Rattle.rules.proofs.LogLaws.{length-ended-more, length-ended-append}
 use Rattle.rules.proofs.Format.{of-valid, render-law}
 use Rattle.places.specs.Places.{lineTextAt, lineOn, lineStart}
-use Rattle.places.proofs.FieldsHeld.{every-at}
+use Rattle.reader.proofs.FieldsHeld.{every-at}
 
 -- Lines that keep the rule of lines, put together to a text.
-module _ (s : Text) (ls : List Text) (r : every (lineRule base) ls ≡ true) (e : s ≡ ended ls) where
+module _ (R : Rules) (s : Text) (ls : List Text) (r : every (lineRule R) ls ≡ true) (e : s ≡ ended ls) where
   line-allowed : (i : ℕ) → i < length ls → all allowed (getD ls i []) ≡ true
   unfolding lineRule
-  line-allowed i h = and-r (leb (length (getD ls i [])) (base .longestLine)) (all allowed (getD ls i [])) (every-at (lineRule base) ls i h r)
+  line-allowed i h = and-r (leb (length (getD ls i [])) (R .longestLine)) (all allowed (getD ls i [])) (every-at (lineRule R) ls i h r)
 
   first-of : (i : ℕ) → i < length ls → ended (drop i ls) ≡ getD ls i [] ++ (13 ∷ 10 ∷ ended (drop (suc i) ls))
   unfolding ended crlf
@@ -72,16 +72,16 @@ module _ (s : Text) (ls : List Text) (r : every (lineRule base) ls ≡ true) (e 
       omega (arith, line-starts i h, length-ended-append (take i ls) (drop i ls), ap (λ (t : List Text). length (ended t)) (take-append-drop i ls), ap length e)
 
 -- A valid log, and the text that it is written as.
-module _ (s : Text) (log : Log) (v : T (valid base log)) (w : render log ≡ s) where
-  pub ruled : every (lineRule base) (linesOf log) ≡ true
-  ruled = (of-valid base log (so (valid base log) v)) .lineRules
+module _ (R : Rules) (s : Text) (log : Log) (v : T (valid R log)) (w : render log ≡ s) where
+  pub ruled : every (lineRule R) (linesOf log) ≡ true
+  ruled = (of-valid R log (so (valid R log) v)) .lineRules
 
   pub start-of-line : (i : ℕ) → i ≤ length (linesOf log) → lineStart s i ≡ length (ended (take i (linesOf log)))
-  start-of-line i h = line-starts s (linesOf log) ruled (sym w ∙ render-law log) i h
+  start-of-line i h = line-starts R s (linesOf log) ruled (sym w ∙ render-law log) i h
 
   pub text-of-line : (i : ℕ) → i < length (linesOf log) → lineTextAt s (lineStart s i) ≡ getD (linesOf log) i []
-  text-of-line i h = line-held s (linesOf log) ruled (sym w ∙ render-law log) i h
+  text-of-line i h = line-held R s (linesOf log) ruled (sym w ∙ render-law log) i h
 
   -- So none of its lines is told to begin anywhere else.
   pub line-inside : (i : ℕ) → i ≤ length (linesOf log) → min (lineStart s i) (length s) ≡ lineStart s i
-  line-inside i h = omega (arith, line-within s (linesOf log) ruled (sym w ∙ render-law log) i h)
+  line-inside i h = omega (arith, line-within R s (linesOf log) ruled (sym w ∙ render-law log) i h)

@@ -4,13 +4,13 @@ use Prim.Native.Nat.{ℕ, _≤_}
 use native.Mathlib.Omega.{arith}
 use mathlib.Core.Path.{_≡_, refl}
 use mathlib.Core.Bool.{Bool, true, false, cond}
-use Rattle.rules.specs.Text.{Text, value, numberOf}
-use Rattle.rules.specs.Rules.{base}
+use Rattle.rules.specs.Text.{Text, value}
+use Rattle.rules.specs.Rules.{Rules}
 use Rattle.rules.specs.Arguments.{bonus, multiplier, part}
-use Rattle.rules.proofs.NumberLaws.{number-from, number-below}
-use Rattle.fields.specs.Field.{textAt}
+use Rattle.rules.proofs.NumberLaws.{number-from}
+use Rattle.reader.specs.Contact.{valueBy}
 use Rattle.places.specs.declared.Declared.{Declared}
-use Rattle.places.specs.Places.{fieldStart, argumentOn, valueBy, contactAt, declaredAt}
+use Rattle.places.specs.Places.{argumentOn, declaredAt}
 
 -- A number that keeps a rule is as small as the rule has it, and 0 is smaller still.
 kept-below : (rule : Text → Bool) (most : ℕ) (t : Text) → (rule t ≡ true → value t ≤ most) → valueBy rule t ≤ most
@@ -21,39 +21,31 @@ kept-below rule most t f = by (rule t) f
     by true g = g refl
     by false g = omega arith
 
-six-digits : (t : Text) → numberOf 6 t ≡ true → value t ≤ 999_999
-six-digits t e = omega (arith, number-below 6 t e)
+module _ (R : Rules) where
+  bonus-below : (t : Text) → valueBy (bonus R) t ≤ R .mostBonus
+  unfolding bonus
+  bonus-below t = kept-below (bonus R) (R .mostBonus) t (λ e. number-from 0 (R .mostBonus) t e .high)
 
-bonus-below : (t : Text) → valueBy (bonus base) t ≤ 9999
-unfolding bonus base
-bonus-below t = kept-below (bonus base) 9999 t (λ e. number-from 0 9999 t e .high)
+  multiplier-below : (t : Text) → valueBy (multiplier R) t ≤ R .mostMultiplier
+  unfolding multiplier
+  multiplier-below t = kept-below (multiplier R) (R .mostMultiplier) t (λ e. number-from 1 (R .mostMultiplier) t e .high)
 
-multiplier-below : (t : Text) → valueBy (multiplier base) t ≤ 99
-unfolding multiplier base
-multiplier-below t = kept-below (multiplier base) 99 t (λ e. number-from 1 99 t e .high)
+  pub record DeclaredBelow (d : Declared) : Type 0 where
+    pub squarebonus : d .squarebonus ≤ R .mostBonus
+    pub squaremultiplier : d .squaremultiplier ≤ R .mostMultiplier
+    pub exchangebonus : d .exchangebonus ≤ R .mostBonus
+    pub exchangemultiplier : d .exchangemultiplier ≤ R .mostMultiplier
+    pub countrybonus : d .countrybonus ≤ R .mostBonus
+    pub countrymultiplier : d .countrymultiplier ≤ R .mostMultiplier
 
-pub worth-below : (s : Text) (at : ℕ) → (contactAt s at) .worth ≤ 999_999
-unfolding contactAt
-worth-below s at =
-    let t = textAt s (fieldStart s at 10) in
-    kept-below (numberOf 6) 999_999 t (six-digits t)
-
-pub record DeclaredBelow (d : Declared) : Type 0 where
-  pub squarebonus : d .squarebonus ≤ 9999
-  pub squaremultiplier : d .squaremultiplier ≤ 99
-  pub exchangebonus : d .exchangebonus ≤ 9999
-  pub exchangemultiplier : d .exchangemultiplier ≤ 99
-  pub countrybonus : d .countrybonus ≤ 9999
-  pub countrymultiplier : d .countrymultiplier ≤ 99
-
-pub declared-below : (s : Text) (claims : ℕ) → DeclaredBelow (declaredAt s claims)
-unfolding declaredAt
-declared-below s claims =
-    record {
-      squarebonus = bonus-below (part 1 (argumentOn s claims 2));
-      squaremultiplier = multiplier-below (part 2 (argumentOn s claims 2));
-      exchangebonus = bonus-below (part 1 (argumentOn s claims 4));
-      exchangemultiplier = multiplier-below (part 2 (argumentOn s claims 4));
-      countrybonus = bonus-below (part 1 (argumentOn s claims 6));
-      countrymultiplier = multiplier-below (part 2 (argumentOn s claims 6));
-    }
+  pub declared-below : (s : Text) (claims : ℕ) → DeclaredBelow (declaredAt R s claims)
+  unfolding declaredAt
+  declared-below s claims =
+      record {
+        squarebonus = bonus-below (part 1 (argumentOn s claims 2));
+        squaremultiplier = multiplier-below (part 2 (argumentOn s claims 2));
+        exchangebonus = bonus-below (part 1 (argumentOn s claims 4));
+        exchangemultiplier = multiplier-below (part 2 (argumentOn s claims 4));
+        countrybonus = bonus-below (part 1 (argumentOn s claims 6));
+        countrymultiplier = multiplier-below (part 2 (argumentOn s claims 6));
+      }

@@ -11,11 +11,11 @@ use lib.Seq.{length-take-le, drop-cons, drop-drop, take-nil}
 use borrow.Author.Tests.{le-leb, lt-leb, leb-true}
 use Rattle.rules.specs.declared.Refusal.{Refusal}
 use Rattle.rules.specs.Text.{Text, allowed, span}
-use Rattle.rules.specs.Rules.{base}
+use Rattle.rules.specs.Rules.{Rules}
 use Rattle.rules.specs.Arguments.{Entry, entries, anything}
 use Rattle.rules.specs.Log.{Log, argument}
 use Rattle.rules.specs.Reading.{Reading, accepted, refused, refusal, read}
-use Rattle.rules.specs.Answers.{Viewing, seen, unseen, viewOfReading, argumentStart, view, viewed}
+use Rattle.rules.specs.Answers.{Viewing, seen, unseen, viewOfReading, argumentStart, startOfView, view, viewed}
 use Rattle.rules.proofs.TextLaws.{span-short, take-its-length}
 use Rattle.reader.proofs.DueLaws.{entries-length}
 use Rattle.reader.specs.declared.ReadAnswer.{ReadAnswer}
@@ -39,9 +39,9 @@ module _ (s : Text) (at end : ℕ) (e : end ≡ at + span allowed (drop at s)) w
   part-told q = ap (ViewRead.Seen (at + 6)) (q ∙ sym behind-length)
 
 -- The number of a keyword.
-view-law : (k : ℕ) (s : Text) → viewOf k s ≡ viewTold (cond (leb 1 k) (viewOfReading k (drop (k - 1) entries) (read base s)) (unseen (refusal 9 0 0)))
+view-law : (R : Rules) (k : ℕ) (s : Text) → viewOf R k s ≡ viewTold (cond (leb 1 k) (viewOfReading k (drop (k - 1) entries) (read R s)) (unseen (refusal 9 0 0)))
 unfolding viewOf view
-view-law k s = refl
+view-law R k s = refl
 
 told-unseen : (r : Refusal) → viewTold (unseen r) ≡ ViewRead.Refused r
 unfolding viewTold
@@ -52,25 +52,25 @@ unfolding viewOfReading
 beyond k (accepted log) = refl
 beyond k (refused r) = refl
 
-module _ (k : ℕ) (s : Text) where
-  pub view-none : k < 1 → ViewRead.Refused (refusal 9 0 0) ≡ viewOf k s
+module _ (R : Rules) (k : ℕ) (s : Text) where
+  pub view-none : k < 1 → ViewRead.Refused (refusal 9 0 0) ≡ viewOf R k s
   view-none h =
       sym
-      (view-law k s
-      ∙ ap (λ (b : Bool). viewTold (cond b (viewOfReading k (drop (k - 1) entries) (read base s)) (unseen (refusal 9 0 0)))) (lt-leb 1 k h)
+      (view-law R k s
+      ∙ ap (λ (b : Bool). viewTold (cond b (viewOfReading k (drop (k - 1) entries) (read R s)) (unseen (refusal 9 0 0)))) (lt-leb 1 k h)
       ∙ told-unseen (refusal 9 0 0))
 
-  counted-view : 1 ≤ k → viewOf k s ≡ viewTold (viewOfReading k (drop (k - 1) entries) (read base s))
+  counted-view : 1 ≤ k → viewOf R k s ≡ viewTold (viewOfReading k (drop (k - 1) entries) (read R s))
   counted-view h =
-      view-law k s
-      ∙ ap (λ (b : Bool). viewTold (cond b (viewOfReading k (drop (k - 1) entries) (read base s)) (unseen (refusal 9 0 0)))) (le-leb 1 k h)
+      view-law R k s
+      ∙ ap (λ (b : Bool). viewTold (cond b (viewOfReading k (drop (k - 1) entries) (read R s)) (unseen (refusal 9 0 0)))) (le-leb 1 k h)
 
-  pub view-beyond : 36 < k → ViewRead.Refused (refusal 9 0 0) ≡ viewOf k s
+  pub view-beyond : 36 < k → ViewRead.Refused (refusal 9 0 0) ≡ viewOf R k s
   view-beyond h =
       sym
       (counted-view (omega arith)
-      ∙ ap (λ (es : List Entry). viewTold (viewOfReading k es (read base s))) (drop-of-length-le entries {i = k - 1} (omega (arith, entries-length)))
-      ∙ ap viewTold (beyond k (read base s))
+      ∙ ap (λ (es : List Entry). viewTold (viewOfReading k es (read R s))) (drop-of-length-le entries {i = k - 1} (omega (arith, entries-length)))
+      ∙ ap viewTold (beyond k (read R s))
       ∙ told-unseen (refusal 9 0 0))
 
   module _ (low : 1 ≤ k) (high : k ≤ 36) where
@@ -80,8 +80,8 @@ module _ (k : ℕ) (s : Text) where
     is-due : drop (k - 1) entries ≡ due ∷ drop (suc (k - 1)) entries
     is-due = drop-cons entries (k - 1) (record { keyword = []; rule = anything }) (omega (arith, entries-length))
 
-    due-view : viewOf k s ≡ viewTold (viewOfReading k (due ∷ drop (suc (k - 1)) entries) (read base s))
-    due-view = counted-view low ∙ ap (λ (es : List Entry). viewTold (viewOfReading k es (read base s))) is-due
+    due-view : viewOf R k s ≡ viewTold (viewOfReading k (due ∷ drop (suc (k - 1)) entries) (read R s))
+    due-view = counted-view low ∙ ap (λ (es : List Entry). viewTold (viewOfReading k es (read R s))) is-due
 
     -- What the reading says.
     read-refused : (a : Reading) {r : Refusal} → readTold (length s) a ≡ ReadAnswer.Refused r → a ≡ refused r
@@ -89,10 +89,10 @@ module _ (k : ℕ) (s : Text) where
     read-refused (accepted log) q = let z : _≡_ {A = ℕ} 0 1 = cc in absurd (omega arith)
     read-refused (refused r) q = cc
 
-    pub view-refused : {r : Refusal} → readOf s ≡ ReadAnswer.Refused r → ViewRead.Refused r ≡ viewOf k s
+    pub view-refused : {r : Refusal} → readOf R s ≡ ReadAnswer.Refused r → ViewRead.Refused r ≡ viewOf R k s
     unfolding readOf viewOfReading viewTold
     view-refused {r} q =
-        sym (due-view ∙ ap (λ (a : Reading). viewTold (viewOfReading k (due ∷ drop (suc (k - 1)) entries) a)) (read-refused (read base s) q))
+        sym (due-view ∙ ap (λ (a : Reading). viewTold (viewOfReading k (due ∷ drop (suc (k - 1)) entries) a)) (read-refused (read R s) q))
 
     shown-law : (log : Log) → viewTold (viewOfReading k (due ∷ drop (suc (k - 1)) entries) (accepted log)) ≡ ViewRead.Seen (argumentStart log k due) (length (argument log (due .keyword)))
     unfolding viewOfReading viewTold
@@ -106,12 +106,12 @@ module _ (k : ℕ) (s : Text) where
     unfolding argumentOn
     argument-law = refl
 
-    seen-at : (log : Log) → read base s ≡ accepted log → partSeen s (min (lineStart s k) (length s)) ≡ viewOf k s
+    seen-at : (log : Log) → read R s ≡ accepted log → partSeen s (min (lineStart s k) (length s)) ≡ viewOf R k s
     seen-at log a =
-        ap (partSeen s) (argument-inside s log a k due (drop (suc (k - 1)) entries) low is-due)
+        ap (partSeen s) (argument-inside R s log a k due (drop (suc (k - 1)) entries) low is-due)
         ∙ part-law (lineStart s k)
-        ∙ ap₂ ViewRead.Seen (argument-starts s log a k due (drop (suc (k - 1)) entries) low is-due)
-        (ap length (sym argument-law ∙ argument-held s log a k due (drop (suc (k - 1)) entries) low is-due))
+        ∙ ap₂ ViewRead.Seen (argument-starts R s log a k due (drop (suc (k - 1)) entries) low is-due)
+        (ap length (sym argument-law ∙ argument-held R s log a k due (drop (suc (k - 1)) entries) low is-due))
         ∙ sym (due-view ∙ ap (λ (x : Reading). viewTold (viewOfReading k (due ∷ drop (suc (k - 1)) entries) x)) a ∙ shown-law log)
 
     accepted-by : (a : Reading) {n f c : ℕ} → readTold (length s) a ≡ ReadAnswer.Accepted n f c → (log : Log) × (a ≡ accepted log)
@@ -119,9 +119,9 @@ module _ (k : ℕ) (s : Text) where
     accepted-by (accepted log) q = (log, refl)
     accepted-by (refused r) q = let z : _≡_ {A = ℕ} 0 1 = cc in absurd (omega arith)
 
-    pub view-seen : {n f c : ℕ} → readOf s ≡ ReadAnswer.Accepted n f c → partSeen s (min (lineStart s k) (length s)) ≡ viewOf k s
+    pub view-seen : {n f c : ℕ} → readOf R s ≡ ReadAnswer.Accepted n f c → partSeen s (min (lineStart s k) (length s)) ≡ viewOf R k s
     unfolding readOf
-    view-seen q = let g = accepted-by (read base s) q in seen-at (g .0) (g .1)
+    view-seen q = let g = accepted-by (read R s) q in seen-at (g .0) (g .1)
 
 -- What is shown of a log is a part of it.
 drop-take : (m n : ℕ) (l : Text) → drop m (take n l) ≡ take (n - m) (drop m l)
@@ -134,7 +134,7 @@ pub record Shows (s : Text) (a : ℕ) (t : Text) : Type 0 where
   pub inside : a + length t ≤ length s
   pub part : take (length t) (drop a s) ≡ t
 
-module _ (k : ℕ) (s : Text) where
+module _ (R : Rules) (k : ℕ) (s : Text) where
   part-of : (at : ℕ) → take (length (drop 6 (lineTextAt s at))) (drop (at + 6) s) ≡ drop 6 (lineTextAt s at)
   unfolding lineTextAt
   part-of at =
@@ -146,19 +146,19 @@ module _ (k : ℕ) (s : Text) where
   unfolding argumentOn
   argument-part-is = part-of (lineStart s k)
 
-  shows-argument : (log : Log) (e : Entry) (rest : List Entry) → read base s ≡ accepted log → 1 ≤ k → drop (k - 1) entries ≡ e ∷ rest → Shows s (argumentStart log k e) (argument log (e .keyword))
+  shows-argument : (log : Log) (e : Entry) (rest : List Entry) → read R s ≡ accepted log → 1 ≤ k → drop (k - 1) entries ≡ e ∷ rest → Shows s (argumentStart log k e) (argument log (e .keyword))
   shows-argument log e rest a low h =
-      let held : argumentAt s k ≡ argument log (e .keyword) = argument-held s log a k e rest low h in
-      let starts : lineStart s k + 6 ≡ argumentStart log k e = argument-starts s log a k e rest low h in
+      let held : argumentAt s k ≡ argument log (e .keyword) = argument-held R s log a k e rest low h in
+      let starts : lineStart s k + 6 ≡ argumentStart log k e = argument-starts R s log a k e rest low h in
       record {
-        inside = omega (arith, starts, ap length held, argument-within s log a k e rest low h);
+        inside = omega (arith, starts, ap length held, argument-within R s log a k e rest low h);
         part =
             ap₂ (λ (t : Text) (n : ℕ). take (length t) (drop n s)) (sym held) (sym starts)
             ∙ argument-part-is
             ∙ held;
       }
 
-  told-by : (b : Bool) (es : List Entry) (r : Reading) {a : ℕ} {t : Text} → leb 1 k ≡ b → drop (k - 1) entries ≡ es → read base s ≡ r → cond b (viewOfReading k es r) (unseen (refusal 9 0 0)) ≡ seen a t → Shows s a t
+  told-by : (b : Bool) (es : List Entry) (r : Reading) {a : ℕ} {t : Text} → leb 1 k ≡ b → drop (k - 1) entries ≡ es → read R s ≡ r → cond b (viewOfReading k es r) (unseen (refusal 9 0 0)) ≡ seen a t → Shows s a t
   unfolding viewOfReading
   told-by false es r g h e q = let z : _≡_ {A = ℕ} 0 1 = cc in absurd (omega arith)
   told-by true [] r {a} {t} g h e q =
@@ -175,31 +175,48 @@ module _ (k : ℕ) (s : Text) where
         part = ap₂ (λ (u : Text) (n : ℕ). take (length u) (drop n s)) (sym y) (sym x) ∙ p .part ∙ y;
       }
 
-  seen-law : view base k s ≡ cond (leb 1 k) (viewOfReading k (drop (k - 1) entries) (read base s)) (unseen (refusal 9 0 0))
+  seen-law : view R k s ≡ cond (leb 1 k) (viewOfReading k (drop (k - 1) entries) (read R s)) (unseen (refusal 9 0 0))
   unfolding view
   seen-law = refl
 
   -- What a view that is told of shows.
-  shown-by : (v : Viewing) {a n : ℕ} → view base k s ≡ v → viewTold v ≡ ViewRead.Seen a n → (a + n ≤ length s) × (take n (drop a s) ≡ viewed (view base k s))
+  shown-by : (v : Viewing) {a n : ℕ} → view R k s ≡ v → viewTold v ≡ ViewRead.Seen a n → (a + n ≤ length s) × (take n (drop a s) ≡ viewed (view R k s))
   unfolding viewTold viewed
   shown-by (unseen r) e q = let z : _≡_ {A = ℕ} 0 1 = cc in absurd (omega arith)
   shown-by (seen b t) {a} {n} e q =
       let x : b ≡ a = cc in
       let y : length t ≡ n = cc in
-      let p : Shows s b t = told-by (leb 1 k) (drop (k - 1) entries) (read base s) refl refl refl (sym seen-law ∙ e) in
+      let p : Shows s b t = told-by (leb 1 k) (drop (k - 1) entries) (read R s) refl refl refl (sym seen-law ∙ e) in
       (omega (arith, p .inside, x, y), ap₂ (λ (m c : ℕ). take m (drop c s)) (sym y) (sym x) ∙ p .part ∙ sym (ap viewed e))
 
-  hidden-by : (v : Viewing) {r : Refusal} → view base k s ≡ v → viewTold v ≡ ViewRead.Refused r → [] ≡ viewed (view base k s)
+  hidden-by : (v : Viewing) {r : Refusal} → view R k s ≡ v → viewTold v ≡ ViewRead.Refused r → [] ≡ viewed (view R k s)
   unfolding viewTold viewed
   hidden-by (unseen r) e q = sym (ap viewed e)
   hidden-by (seen b t) e q = let z : _≡_ {A = ℕ} 0 1 = cc in absurd (omega arith)
 
-  told-law : viewOf k s ≡ viewTold (view base k s)
+  told-law : viewOf R k s ≡ viewTold (view R k s)
   unfolding viewOf
   told-law = refl
 
-  pub view-shows : {a n : ℕ} → viewOf k s ≡ ViewRead.Seen a n → (a + n ≤ length s) × (take n (drop a s) ≡ viewed (view base k s))
-  view-shows q = shown-by (view base k s) refl (sym told-law ∙ q)
+  pub view-shows : {a n : ℕ} → viewOf R k s ≡ ViewRead.Seen a n → (a + n ≤ length s) × (take n (drop a s) ≡ viewed (view R k s))
+  view-shows q = shown-by (view R k s) refl (sym told-law ∙ q)
 
-  pub view-hides : {r : Refusal} → viewOf k s ≡ ViewRead.Refused r → [] ≡ viewed (view base k s)
-  view-hides q = hidden-by (view base k s) refl (sym told-law ∙ q)
+  pub view-hides : {r : Refusal} → viewOf R k s ≡ ViewRead.Refused r → [] ≡ viewed (view R k s)
+  view-hides q = hidden-by (view R k s) refl (sym told-law ∙ q)
+
+  -- Where it begins.
+  starts-by : (v : Viewing) {a n : ℕ} → view R k s ≡ v → viewTold v ≡ ViewRead.Seen a n → a ≡ startOfView (view R k s)
+  unfolding viewTold startOfView
+  starts-by (unseen r) e q = let z : _≡_ {A = ℕ} 0 1 = cc in absurd (omega arith)
+  starts-by (seen b t) {a} e q = let x : b ≡ a = cc in sym (ap startOfView e ∙ x)
+
+  none-starts-by : (v : Viewing) {r : Refusal} → view R k s ≡ v → viewTold v ≡ ViewRead.Refused r → 0 ≡ startOfView (view R k s)
+  unfolding viewTold startOfView
+  none-starts-by (unseen r) e q = sym (ap startOfView e)
+  none-starts-by (seen b t) e q = let z : _≡_ {A = ℕ} 0 1 = cc in absurd (omega arith)
+
+  pub view-starts : {a n : ℕ} → viewOf R k s ≡ ViewRead.Seen a n → a ≡ startOfView (view R k s)
+  view-starts q = starts-by (view R k s) refl (sym told-law ∙ q)
+
+  pub view-starts-nowhere : {r : Refusal} → viewOf R k s ≡ ViewRead.Refused r → 0 ≡ startOfView (view R k s)
+  view-starts-nowhere q = none-starts-by (view R k s) refl (sym told-law ∙ q)

@@ -1,49 +1,23 @@
-// Where the parts of a log lie: what the judge and the writer ask of an accepted log.
+// Where the lines of a log lie: views, and what it declares.
 
 ghost use mathlib.Core.Path.{_≡_};
 ghost use Prim.Native.Nat.{_+_, _≤_, min};
-ghost use lib.ListN.{length, drop};
-ghost use Rattle.rules.specs.Text.{allowed, span, same, numberOf};
+ghost use lib.ListN.{drop, length};
+ghost use denote.Ref.{ptr};
+ghost use Rattle.rules.specs.Text.{allowed, span};
 ghost use Rattle.rules.specs.Rules.{base};
-ghost use Rattle.rules.specs.Fields.{errorCall, newMark};
-ghost use Rattle.rules.specs.Arguments.{part, bonus, multiplier};
-ghost use Rattle.fields.specs.Field.{textAt, endOf};
-ghost use Rattle.rules.specs.Rules.{base};
-ghost use Rattle.rules.specs.Answers.{view, viewed};
-ghost use Rattle.places.specs.Places.{partSeen, viewOf};
-use reader::ReadAnswer;
-use rules::Refusal;
-ghost use Rattle.places.specs.Places.{lineTextAt, lineStart, fieldStart, valueBy, tailAt, contactAt, declaredAt};
+ghost use Rattle.rules.specs.Arguments.{bonus, multiplier, part};
+ghost use Rattle.rules.specs.Answers.{startOfView, view, viewed};
+ghost use Rattle.fields.specs.Field.{textAt};
+ghost use Rattle.reader.specs.Contact.{valueBy};
+ghost use Rattle.places.specs.Places.{declaredAt, lineStart, lineTextAt, partSeen, viewOf};
 use figures::NumberRead;
 use figures::bonus_of;
 use figures::multiplier_of;
-use figures::points;
-use header::same_text;
+use reader::ReadAnswer;
 use reader::allowed_run;
 use reader::field_end;
-
-// What is told of the record that begins at a place.
-pub struct Contact {
-    pub call: usize,
-    pub callend: usize,
-    pub exchange: usize,
-    pub exchangeend: usize,
-    pub locator: usize,
-    pub locatorend: usize,
-    pub points: usize,
-    pub pointsend: usize,
-    pub worth: u64,
-    pub error: bool,
-    pub country: bool,
-    pub next: usize,
-}
-
-// What is told of a record from its points on.
-pub struct Tail {
-    pub pointsend: usize,
-    pub country: bool,
-    pub next: usize,
-}
+use rules::Refusal;
 
 // The bonuses and multipliers that a log declares.
 pub struct Declared {
@@ -53,122 +27,6 @@ pub struct Declared {
     pub exchangemultiplier: u64,
     pub countrybonus: u64,
     pub countrymultiplier: u64,
-}
-
-// The place behind so many fields and the semicolon behind each. No record has more than fifteen fields, so that a place so far behind the
-// log's end still fits.
-fn skip_fields(s: &[u8], at: usize, n: usize) -> usize
-    requires { ⌜ (at ≤ length (now s) + 15) × (n ≤ 15) ⌝ }
-    ensures { λ r. ⌜ r ≡ fieldStart (now (s .entry)) at n ⌝ }
-{
-    let mut i = at;
-    let mut k = 0;
-    while k < n {
-        i = field_end(s, i) + 1;
-        k += 1;
-    }
-    i
-}
-
-// What the points at a place are worth.
-fn worth(s: &[u8], at: usize) -> u64
-    ensures { λ r. ⌜ r ≡ valueBy (numberOf 6) (textAt (now (s .entry)) at) ⌝ }
-{
-    let NumberRead::Number(value, _) = points(s, at) else {
-        return 0;
-    };
-    value
-}
-
-// The field from here to there is the call that marks a mistake. Only a field of five bytes is looked at. The test that `fields` has for this
-// asks for those five bytes to be there, and what asks for something is not public.
-fn is_error(s: &[u8], at: usize, end: usize) -> bool
-    requires { ⌜ end ≡ endOf (now s) at ⌝ }
-    ensures { λ r. ⌜ r ≡ same (textAt (now (s .entry)) at) errorCall ⌝ }
-{
-    if end - at != 5 {
-        return false;
-    }
-    same_text(&s[at..end], b"ERROR")
-}
-
-// The field from here to there is the mark of a new one.
-fn is_new(s: &[u8], at: usize, end: usize) -> bool
-    requires { ⌜ end ≡ endOf (now s) at ⌝ }
-    ensures { λ r. ⌜ r ≡ same (textAt (now (s .entry)) at) newMark ⌝ }
-{
-    if end - at != 1 {
-        return false;
-    }
-    s[at] == 78
-}
-
-// From the points at a place on. They are the eleventh field of a record, so that they may begin so far behind the log's end.
-fn tail_within(s: &[u8], at: usize) -> Tail
-    requires { ⌜ at ≤ length (now s) + 10 ⌝ }
-    ensures { λ r. ⌜ r ≡ tailAt (now (s .entry)) at ⌝ }
-{
-    let pointsend = field_end(s, at);
-    let country = skip_fields(s, pointsend + 1, 2);
-    let countryend = field_end(s, country);
-    let new = is_new(s, country, countryend);
-    let next = allowed_run(s, countryend + 1) + 2;
-    Tail {
-        pointsend,
-        country: new,
-        next,
-    }
-}
-
-// From the points at a place on. Behind the log's end nothing can be told, and what is told of the end itself serves.
-pub fn tail_at(s: &[u8], at: usize) -> Tail
-    ensures { λ r. ⌜ r ≡ tailAt (now (s .entry)) (min at (length (now (s .entry)))) ⌝ }
-{
-    if s.len() < at {
-        return tail_within(s, s.len());
-    }
-    tail_within(s, at)
-}
-
-// The record at a place of the log.
-fn contact_within(s: &[u8], at: usize) -> Contact
-    requires { ⌜ at ≤ length (now s) ⌝ }
-    ensures { λ r. ⌜ r ≡ contactAt (now (s .entry)) at ⌝ }
-{
-    let call = skip_fields(s, at, 2);
-    let callend = field_end(s, call);
-    let exchange = skip_fields(s, callend + 1, 5);
-    let exchangeend = field_end(s, exchange);
-    let locator = exchangeend + 1;
-    let locatorend = field_end(s, locator);
-    let points = locatorend + 1;
-    let error = is_error(s, call, callend);
-    let worth = worth(s, points);
-    let tail = tail_within(s, points);
-    Contact {
-        call,
-        callend,
-        exchange,
-        exchangeend,
-        locator,
-        locatorend,
-        points,
-        pointsend: tail.pointsend,
-        worth,
-        error,
-        country: tail.country,
-        next: tail.next,
-    }
-}
-
-// The record at a place. Behind the log's end nothing can be told, and what is told of the end itself serves.
-pub fn contact_at(s: &[u8], at: usize) -> Contact
-    ensures { λ r. ⌜ r ≡ contactAt (now (s .entry)) (min at (length (now (s .entry)))) ⌝ }
-{
-    if s.len() < at {
-        return contact_within(s, s.len());
-    }
-    contact_within(s, at)
 }
 
 // The place of the line behind the one that begins here, or the log's end where there is none.
@@ -250,7 +108,7 @@ fn rates_at(s: &[u8], at: usize) -> Rates
 // The bonuses and multipliers of CWWLs, CExcs and CDXCs, by the place where the claims begin: the first of these three stands two lines behind
 // it, and each of the others two lines behind the last.
 pub fn declared_at(s: &[u8], claims: usize) -> Declared
-    ensures { λ r. ⌜ r ≡ declaredAt (now (s .entry)) claims ⌝ }
+    ensures { λ r. ⌜ r ≡ declaredAt base (now (s .entry)) claims ⌝ }
 {
     let squares = next_line(s, next_line(s, claims));
     let exchanges = next_line(s, next_line(s, squares));
@@ -279,7 +137,7 @@ fn argument_part(log: &[u8], k: usize) -> ViewRead
     ensures { λ r. ⌜ r ≡ partSeen (now (log .entry)) (min (lineStart (now (log .entry)) k) (length (now (log .entry)))) ⌝ }
 {
     let at = line_start(log, k);
-    let end = reader::allowed_run(log, at);
+    let end = allowed_run(log, at);
     let start = at + 6;
     if end < start {
         return ViewRead::Seen {
@@ -295,7 +153,7 @@ fn argument_part(log: &[u8], k: usize) -> ViewRead
 
 // The view of a keyword, by its number, 1 to 36.
 pub fn view(log: &[u8], k: usize) -> ViewRead
-    ensures { λ r. ⌜ r ≡ viewOf k (now (log .entry)) ⌝ }
+    ensures { λ r. ⌜ r ≡ viewOf base k (now (log .entry)) ⌝ }
 {
     if k < 1 {
         return ViewRead::Refused(Refusal {
@@ -322,9 +180,11 @@ pub fn view(log: &[u8], k: usize) -> ViewRead
     }
 }
 
-// The part of the log that a view shows: nothing where there is none.
+// The part of the log that a view shows, where it lies: nothing, at the front, where there is none.
 pub fn viewed(log: &[u8], k: usize) -> &[u8]
-    ensures { λ r. ⌜ now r ≡ viewed (view base k (now (log .entry))) ⌝ }
+    ensures text { λ r. ⌜ now r ≡ viewed (view base k (now (log .entry))) ⌝ }
+    ensures block { λ r. ⌜ ptr r .0 ≡ ptr (log .entry) .0 ⌝ }
+    ensures place { λ r. ⌜ ptr r .1 ≡ ptr (log .entry) .1 + startOfView (view base k (now (log .entry))) ⌝ }
 {
     let seen = view(log, k);
     match seen {

@@ -1,134 +1,250 @@
--- Laws of the walk over the lines of a log: from each place on it tells what is told of the log.
+-- The records, told one after the other where they lie, are what the walk over their lines tells.
 -- Assumes nothing.
-use Prim.Native.Nat.{ℕ, _+_, _-_, _≤_}
+use Prim.Native.Nat.{ℕ, zero, suc, _+_, _-_, _≤_, _<_}
 use native.Mathlib.Omega.{arith}
 use mathlib.Core.Path.{_≡_, refl, sym, ap, ap₂, _∙_}
-use mathlib.Core.Bool.{Bool, true, false, cond, not, _&&_}
-use mathlib.Core.List.{List, [], _∷_}
-use lib.Dec.{leb, ltb}
-use lib.ListN.{length, take, drop, length-drop}
-use lib.Seq.{length-take-le, drop-drop}
+use mathlib.Core.Bool.{Bool, cond}
+use mathlib.Core.List.{List, [], _∷_, _++_, head-eq-of-cons-eq, tail-eq-of-cons-eq}
+use lib.Dec.{ltb}
+use lib.ListN.{length, drop, length-append, length-drop}
+use lib.Seq.{drop-append-add, drop-drop}
 use borrow.Author.Tests.{le-ltb, lt-ltb}
 use Rattle.rules.specs.declared.Due.{Due}
+use Rattle.rules.specs.declared.Due.the-variants as Due
 use Rattle.rules.specs.declared.Next.{Next}
 use Rattle.rules.specs.declared.Next.the-variants as Next
-use Rattle.rules.specs.Text.{Text, allowed, span, begins, empty}
-use Rattle.rules.specs.Rules.{base}
+use Rattle.rules.specs.Text.{Text}
+use Rattle.rules.specs.Rules.{Rules}
 use Rattle.rules.specs.Log.{crlf}
-use Rattle.rules.specs.Reading.{Lines, FirstLine, aLine, noLine, firstLine, onFirstLine, lines, refusal, step}
-use Rattle.rules.proofs.Tests.{and-r}
+use Rattle.rules.specs.Reading.{FirstLine, Lines, Reading, RecordRule, aLine, accepted, afterRecord, atRest, breaks, firstLine, keeps, lines, noLine, onFirstLine, onNext, put, recordRule, recordsDue, refusal, refused, step, walk}
 use Rattle.rules.proofs.LineLaws.{lines-law}
-use Rattle.header.proofs.PartLaws.{span-short}
-use Rattle.reader.specs.declared.LineRead.{LineRead}
-use Rattle.reader.specs.declared.LineRead.the-variants as LineRead
-use Rattle.reader.specs.declared.Mark.{Mark}
+use Rattle.reader.specs.declared.Contact.{Contact}
 use Rattle.reader.specs.declared.ReadAnswer.{ReadAnswer}
 use Rattle.reader.specs.declared.ReadAnswer.the-variants as ReadAnswer
-use Rattle.reader.specs.Line.{lineFrom, lineAt}
-use Rattle.reader.specs.Read.{noted, restTold}
-use Rattle.reader.proofs.DueLaws.{begins-long}
+use Rattle.reader.specs.declared.RecordRead.{RecordRead}
+use Rattle.reader.specs.declared.RecordRead.the-variants as RecordRead
+use Rattle.reader.specs.Contact.{behind, contactAt}
+use Rattle.reader.specs.Record.{dueAt, lineless, recordAt, toldBy}
+use Rattle.reader.specs.Read.{recordNext, recordsTold}
+use Rattle.reader.specs.Noted.{contactNext, contactsFrom, notedFrom, notedLine, notedNext}
+use Rattle.reader.proofs.ParseLaws.{due-by, line-there, taken-end}
 
--- The walk from a line on, with what is noted.
-abbrev pub onStep : (Due → ReadAnswer) → ℕ → Next → ReadAnswer
-onStep more n (Next.Goes next) = more next
-onStep more n (Next.Stops number field) = ReadAnswer.Refused (refusal number n field)
+-- # The lines from a place on
 
-unfoldable pub walkTold : Due → ℕ → ℕ → Mark → List Text → Text → ReadAnswer
-walkTold due n at m [] rest = restTold due n (not (empty rest)) m
-walkTold due n at m (l ∷ ls) rest =
-    onStep (λ next. walkTold next (n + 1) (at + length l + 2) (noted due next m (at + length l + 2)) ls rest) n (step base due l)
+module _ (R : Rules) (s : Text) (at : ℕ) where
+  pub lines-by : {f : FirstLine} → firstLine R (drop at s) ≡ f → lines R (drop at s) ≡ onFirstLine (lines R) (drop at s) f
+  lines-by e = lines-law R (drop at s) ∙ ap (onFirstLine (lines R) (drop at s)) e
 
-abbrev pub told : Text → Due → ℕ → ℕ → Mark → ReadAnswer
-told s due n at m = walkTold due n at m ((lines base (drop at s)) .whole) ((lines base (drop at s)) .rest)
+  -- These lines stand there, and behind them what is left.
+  pub record Lie (ls : List Text) (rest : Text) : Type 0 where
+    pub whole : (lines R (drop at s)) .whole ≡ ls
+    pub left : (lines R (drop at s)) .rest ≡ rest
 
--- What a line at a place says of the text there.
-first-law : (t : Text) → firstLine base t ≡ cond (leb (span allowed t) 75 && begins crlf (drop (span allowed t) t)) (aLine (take (span allowed t) t) (drop (span allowed t + 2) t)) noLine
-unfolding firstLine base
-first-law t = refl
+  -- The first of them, and where the next begins.
+  pub record FirstLies (l : Text) (ls : List Text) (rest : Text) : Type 0 where
+    pub line : firstLine R (drop at s) ≡ aLine l (drop (at + length l + 2) s)
+    pub whole : (lines R (drop (at + length l + 2) s)) .whole ≡ ls
+    pub left : (lines R (drop (at + length l + 2) s)) .rest ≡ rest
+    pub within : at + length l + 2 ≤ length s
 
-line-law : (s : Text) (at : ℕ) → lineAt s at ≡ lineFrom at (firstLine base (drop at s))
-unfolding lineAt
-line-law s at = refl
+  pub record NoneLies (rest : Text) : Type 0 where
+    pub none : firstLine R (drop at s) ≡ noLine
+    pub rest-is : drop at s ≡ rest
 
-crlf-two : length crlf ≡ 2
-unfolding crlf
-crlf-two = refl
+  pub behind-line : (l r : Text) → firstLine R (drop at s) ≡ aLine l r → (r ≡ drop (at + length l + 2) s) × (at + length l + 2 ≤ length s)
+  unfolding crlf
+  behind-line l r e =
+      let text : drop at s ≡ l ++ (crlf ++ r) = line-there R s at l r e in
+      let size : length (drop at s) ≡ length l + 2 + length r = omega (arith, ap length text, length-append l (crlf ++ r)) in
+      let there : at + (length l + 2) ≡ at + length l + 2 = omega arith in
+      let rest-is : drop (at + length l + 2) s ≡ r =
+      ap (λ (i : ℕ). drop i s) (sym there)
+      ∙ sym (drop-drop (length l + 2) at s)
+      ∙ ap (drop (length l + 2)) text
+      ∙ drop-append-add l (crlf ++ r) 2 in
+      (sym rest-is, omega (arith, length-drop at s))
 
-pub record Stood (s : Text) (at end : ℕ) : Type 0 where
-  pub line : firstLine base (drop at s) ≡ aLine (take (end - at) (drop at s)) (drop (end + 2) s)
-  pub long : length (take (end - at) (drop at s)) ≡ end - at
-  pub behind : at ≤ end
-  pub within : end + 2 ≤ length s
+  none-is-one : {A : Type 0} {l : Text} {ls : List Text} → _≡_ {A = List Text} [] (l ∷ ls) → A
+  none-is-one e = let z : _≡_ {A = ℕ} 0 (suc _) = ap length e in absurd (omega arith)
 
-module _ (s : Text) (at : ℕ) where
-  stood-by : {end : ℕ} (b : Bool) →
-      (leb (span allowed (drop at s)) 75 && begins crlf (drop (span allowed (drop at s)) (drop at s))) ≡ b →
-      lineFrom at (cond b (aLine (take (span allowed (drop at s)) (drop at s)) (drop (span allowed (drop at s) + 2) (drop at s))) noLine) ≡ LineRead.Line end →
-      Stood s at end
-  unfolding lineFrom
-  stood-by {end} true e q =
-      let n : ℕ = span allowed (drop at s) in
-      let t : Text = drop at s in
-      let size : length (take n t) ≡ n = length-take-le n t (span-short allowed t) in
-      let there : at + length (take n t) ≡ end = cc in
-      let room : 2 ≤ length (drop n t) =
-      omega (arith, crlf-two, begins-long crlf (drop n t) (and-r (leb n 75) (begins crlf (drop n t)) e)) in
-      let gap : n ≡ end - at = omega arith in
-      let past : at + (n + 2) ≡ end + 2 = omega arith in
-      record {
-        line =
-            first-law t
-            ∙ ap (λ (b : Bool). cond b (aLine (take n t) (drop (n + 2) t)) noLine) e
-            ∙ ap₂ aLine (ap (λ (k : ℕ). take k t) gap) (drop-drop (n + 2) at s ∙ ap (λ (k : ℕ). drop k s) past);
-        long = ap (λ (k : ℕ). length (take k t)) (sym gap) ∙ size ∙ gap;
-        behind = omega arith;
-        within = omega (arith, length-drop n t, length-drop at s);
-      }
-  stood-by {end} false e q = let z : _≡_ {A = ℕ} 0 1 = cc in absurd (omega arith)
-
-  pub stood : {end : ℕ} → lineAt s at ≡ LineRead.Line end → Stood s at end
-  stood q = stood-by _ refl (ap (lineFrom at) (sym (first-law (drop at s))) ∙ sym (line-law s at) ∙ q)
-
-  -- No line stands there.
-  missed-by : (f : FirstLine) → lineFrom at f ≡ LineRead.Missing → f ≡ noLine
-  unfolding lineFrom
-  missed-by (aLine l r) q = let z : _≡_ {A = ℕ} 0 1 = cc in absurd (omega arith)
-  missed-by noLine q = refl
-
-  missed : lineAt s at ≡ LineRead.Missing → firstLine base (drop at s) ≡ noLine
-  missed q = missed-by (firstLine base (drop at s)) (sym (line-law s at) ∙ q)
-
-  -- The lines from a place on, by the first of them.
-  lines-by : {f : FirstLine} → firstLine base (drop at s) ≡ f → lines base (drop at s) ≡ onFirstLine (lines base) (drop at s) f
-  lines-by e = lines-law base (drop at s) ∙ ap (onFirstLine (lines base) (drop at s)) e
-
-  left-over : at ≤ length s → not (empty (drop at s)) ≡ ltb at (length s)
-  left-over h = by (drop at s) refl
+  pub first-lies : {l : Text} {ls : List Text} {rest : Text} → Lie (l ∷ ls) rest → FirstLies l ls rest
+  unfolding onFirstLine
+  first-lies {l} {ls} {rest} h = by (firstLine R (drop at s)) refl
     where
-      by : (t : Text) → drop at s ≡ t → not (empty t) ≡ ltb at (length s)
-      by [] p = sym (le-ltb at (length s) (omega (arith, ap length p, length-drop at s)))
-      by (c ∷ t) p = sym (lt-ltb at (length s) (omega (arith, ap length p, length-drop at s)))
+      by : (f : FirstLine) → firstLine R (drop at s) ≡ f → FirstLies l ls rest
+      by noLine e = none-is-one (sym (ap (λ (x : Lines). x .whole) (lines-by e)) ∙ h .whole)
+      by (aLine k r) e =
+          let whole : k ∷ (lines R r) .whole ≡ l ∷ ls = sym (ap (λ (x : Lines). x .whole) (lines-by e)) ∙ h .whole in
+          let same-line : k ≡ l = head-eq-of-cons-eq whole in
+          let q = behind-line k r e in
+          let there : r ≡ drop (at + length l + 2) s = q .0 ∙ ap (λ (t : Text). drop (at + length t + 2) s) same-line in
+          record {
+            line = e ∙ ap₂ aLine same-line there;
+            whole = ap (λ (t : Text). (lines R t) .whole) (sym there) ∙ tail-eq-of-cons-eq whole;
+            left = ap (λ (t : Text). (lines R t) .rest) (sym there) ∙ sym (ap (λ (x : Lines). x .rest) (lines-by e)) ∙ h .left;
+            within = omega (arith, q .1, ap length same-line);
+          }
 
-  module _ (due : Due) (n : ℕ) (m : Mark) where
-    pub told-rest : at ≤ length s → lineAt s at ≡ LineRead.Missing → told s due n at m ≡ restTold due n (ltb at (length s)) m
-    unfolding walkTold onFirstLine
-    told-rest h q =
-        ap (λ (ls : Lines). walkTold due n at m (ls .whole) (ls .rest)) (lines-by (missed q))
-        ∙ ap (λ (b : Bool). restTold due n b m) (left-over h)
+  pub none-lies : {rest : Text} → Lie [] rest → NoneLies rest
+  unfolding onFirstLine
+  none-lies {rest} h = by (firstLine R (drop at s)) refl
+    where
+      by : (f : FirstLine) → firstLine R (drop at s) ≡ f → NoneLies rest
+      by noLine e = record { none = e; rest-is = sym (ap (λ (x : Lines). x .rest) (lines-by e)) ∙ h .left }
+      by (aLine k r) e = none-is-one (sym (h .whole) ∙ ap (λ (x : Lines). x .whole) (lines-by e))
 
-    module _ {end : ℕ} (q : lineAt s at ≡ LineRead.Line end) where
-      told-line :
-          told s due n at m
-          ≡ onStep (λ next. told s next (n + 1) (end + 2) (noted due next m (end + 2))) n (step base due (take (end - at) (drop at s)))
-      unfolding walkTold onFirstLine
-      told-line =
-          let p = stood q in
-          let past : at + length (take (end - at) (drop at s)) + 2 ≡ end + 2 = omega (arith, p .long, p .behind) in
-          ap (λ (ls : Lines). walkTold due n at m (ls .whole) (ls .rest)) (lines-by (p .line))
-          ∙ ap (λ (k : ℕ). onStep (λ next. walkTold next (n + 1) k (noted due next m k) ((lines base (drop (end + 2) s)) .whole) ((lines base (drop (end + 2) s)) .rest)) n (step base due (take (end - at) (drop at s)))) past
+-- # The records
 
-      pub told-stop : {number field : ℕ} → step base due (take (end - at) (drop at s)) ≡ Next.Stops number field → told s due n at m ≡ ReadAnswer.Refused (refusal number n field)
-      told-stop e = told-line ∙ ap (onStep (λ next. told s next (n + 1) (end + 2) (noted due next m (end + 2))) n) e
+-- What is told at the end of an accepted log.
+abbrev pub lateTold : ℕ → ℕ → ℕ → Reading → ReadAnswer
+lateTold records first claims (accepted log) = ReadAnswer.Accepted records first claims
+lateTold records first claims (refused r) = ReadAnswer.Refused r
 
-      pub told-next : {next : Due} → step base due (take (end - at) (drop at s)) ≡ Next.Goes next → told s due n at m ≡ told s next (n + 1) (end + 2) (noted due next m (end + 2))
-      told-next e = told-line ∙ ap (onStep (λ next. told s next (n + 1) (end + 2) (noted due next m (end + 2))) n) e
+late-put : (records first claims : ℕ) (due : Due) (l : Text) (r : Reading) → lateTold records first claims (put due l r) ≡ lateTold records first claims r
+unfolding put
+late-put records first claims due l (accepted log) = refl
+late-put records first claims due l (refused r) = refl
+
+-- One line of the walk.
+module _ (R : Rules) (due : Due) (n : ℕ) (l : Text) (ls : List Text) (rest : Text) where
+  walk-law : walk R due n (l ∷ ls) rest ≡ onNext (λ next. walk R next (n + 1) ls rest) n due l (step R due l)
+  unfolding walk
+  walk-law = refl
+
+  pub walk-goes : {next : Due} → step R due l ≡ Next.Goes next → walk R due n (l ∷ ls) rest ≡ put due l (walk R next (n + 1) ls rest)
+  unfolding onNext
+  walk-goes e = walk-law ∙ ap (onNext (λ next. walk R next (n + 1) ls rest) n due l) e
+
+  pub walk-stops : {number field : ℕ} → step R due l ≡ Next.Stops number field → walk R due n (l ∷ ls) rest ≡ refused (refusal number n field)
+  unfolding onNext
+  walk-stops e = walk-law ∙ ap (onNext (λ next. walk R next (n + 1) ls rest) n due l) e
+
+-- One line of what is noted.
+module _ (R : Rules) (s : Text) (due : Due) (at : ℕ) (l : Text) (ls : List Text) where
+  noted-law : notedFrom R s due at (l ∷ ls) ≡ notedNext (λ next. notedFrom R s next (at + length l + 2) ls) due (contactAt R s at) (step R due l)
+  unfolding notedFrom
+  noted-law = refl
+
+  pub noted-goes : {next : Due} → step R due l ≡ Next.Goes next → notedFrom R s due at (l ∷ ls) ≡ notedLine due (contactAt R s at) (notedFrom R s next (at + length l + 2) ls)
+  unfolding notedNext
+  noted-goes e = noted-law ∙ ap (notedNext (λ next. notedFrom R s next (at + length l + 2) ls) due (contactAt R s at)) e
+
+  pub noted-stops : {number field : ℕ} → step R due l ≡ Next.Stops number field → notedFrom R s due at (l ∷ ls) ≡ []
+  unfolding notedNext
+  noted-stops e = noted-law ∙ ap (notedNext (λ next. notedFrom R s next (at + length l + 2) ls) due (contactAt R s at)) e
+
+step-kept : (R : Rules) (j : ℕ) (l : Text) → recordRule R l ≡ keeps → step R (Due.Record (suc j)) l ≡ Next.Goes (recordsDue j)
+unfolding step afterRecord
+step-kept R j l e = let k : suc j - 1 ≡ j = omega arith in ap (afterRecord (suc j)) e ∙ rw k
+
+step-broken : (R : Rules) (j f : ℕ) (l : Text) → recordRule R l ≡ breaks f → step R (Due.Record (suc j)) l ≡ Next.Stops 5 f
+unfolding step afterRecord
+step-broken R j f l e = ap (afterRecord (suc j)) e
+
+step-ended : (R : Rules) (l : Text) → step R Due.End l ≡ Next.Stops 6 0
+unfolding step
+step-ended R l = refl
+
+-- The two tellings of so many records agree, on the answer and on what is noted.
+module _ (R : Rules) (s : Text) (records first claims : ℕ) where
+  pub record Late (j n at : ℕ) (ls : List Text) (rest : Text) : Type 0 where
+    pub answer : recordsTold R s records first claims j n at ≡ lateTold records first claims (walk R (recordsDue j) n ls rest)
+    pub contacts : contactsFrom R s j at ≡ notedFrom R s (recordsDue j) at ls
+
+  -- Behind the last record.
+  pub end-told : (n at : ℕ) {b : Bool} → ltb at (length s) ≡ b → recordsTold R s records first claims 0 n at ≡ cond b (ReadAnswer.Refused (refusal 6 n 0)) (ReadAnswer.Accepted records first claims)
+  unfolding recordsTold
+  end-told n at e = rw e
+
+  end-late : (n at : ℕ) (rest : Text) → at ≤ length s → drop at s ≡ rest → Late 0 n at [] rest
+  unfolding recordsDue walk atRest contactsFrom notedFrom
+  end-late n at [] h e =
+      record { answer = end-told n at (le-ltb at (length s) (omega (arith, ap length e, length-drop at s))); contacts = refl }
+  end-late n at (c ∷ rest) h e =
+      record { answer = end-told n at (lt-ltb at (length s) (omega (arith, ap length e, length-drop at s))); contacts = refl }
+
+  more-late : (n at : ℕ) (l : Text) (ls : List Text) (rest : Text) → at < length s → Late 0 n at (l ∷ ls) rest
+  unfolding recordsDue contactsFrom
+  more-late n at l ls rest h =
+      record {
+        answer = end-told n at (lt-ltb at (length s) h) ∙ ap (lateTold records first claims) (sym (walk-stops R Due.End n l ls rest (step-ended R l)));
+        contacts = sym (noted-stops R s Due.End at l ls (step-ended R l));
+      }
+
+  -- One record more.
+  next-told : (j n at : ℕ) {r : RecordRead} → recordAt R s at ≡ r → recordsTold R s records first claims (suc j) n at ≡ recordNext (λ c. recordsTold R s records first claims j (n + 1) (behind c)) n r
+  unfolding recordsTold
+  next-told j n at e = ap (recordNext (λ c. recordsTold R s records first claims j (n + 1) (behind c)) n) e
+
+  next-noted : (j at : ℕ) {r : RecordRead} → recordAt R s at ≡ r → contactsFrom R s (suc j) at ≡ contactNext (λ c. contactsFrom R s j (behind c)) r
+  unfolding contactsFrom
+  next-noted j at e = ap (contactNext (λ c. contactsFrom R s j (behind c))) e
+
+  pub next-kept : (j n at : ℕ) {c : Contact} → recordAt R s at ≡ RecordRead.Kept c → recordsTold R s records first claims (suc j) n at ≡ recordsTold R s records first claims j (n + 1) (behind c)
+  unfolding recordNext
+  next-kept j n at e = next-told j n at e
+
+  pub next-stops : (j n at : ℕ) {number field : ℕ} → recordAt R s at ≡ RecordRead.Stops number field → recordsTold R s records first claims (suc j) n at ≡ ReadAnswer.Refused (refusal number n field)
+  unfolding recordNext
+  next-stops j n at e = next-told j n at e
+
+  pub noted-kept : (j at : ℕ) {c : Contact} → recordAt R s at ≡ RecordRead.Kept c → contactsFrom R s (suc j) at ≡ c ∷ contactsFrom R s j (behind c)
+  unfolding contactNext
+  noted-kept j at e = next-noted j at e
+
+  pub noted-ends : (j at : ℕ) {number field : ℕ} → recordAt R s at ≡ RecordRead.Stops number field → contactsFrom R s (suc j) at ≡ []
+  unfolding contactNext
+  noted-ends j at e = next-noted j at e
+
+  -- No line stands where a record is due.
+  missing-late : (j n at : ℕ) (rest : Text) → at ≤ length s → firstLine R (drop at s) ≡ noLine → drop at s ≡ rest → Late (suc j) n at [] rest
+  unfolding recordsDue walk atRest notedFrom dueAt lineless
+  missing-late j n at [] h g e =
+      let r : recordAt R s at ≡ RecordRead.Stops 6 0 = sym (due-by R s at g) ∙ rw (le-ltb at (length s) (omega (arith, ap length e, length-drop at s))) in
+      record { answer = next-stops j n at r; contacts = noted-ends j at r }
+  missing-late j n at (c ∷ rest) h g e =
+      let r : recordAt R s at ≡ RecordRead.Stops 2 0 = sym (due-by R s at g) ∙ rw (lt-ltb at (length s) (omega (arith, ap length e, length-drop at s))) in
+      record { answer = next-stops j n at r; contacts = noted-ends j at r }
+
+  -- A line stands there.
+  module _ (j n at : ℕ) (l : Text) (ls : List Text) (rest : Text) (g : firstLine R (drop at s) ≡ aLine l (drop (at + length l + 2) s)) where
+    broken-late : (f : ℕ) → recordRule R l ≡ breaks f → Late (suc j) n at (l ∷ ls) rest
+    unfolding recordsDue dueAt toldBy
+    broken-late f e =
+        let r : recordAt R s at ≡ RecordRead.Stops 5 f = sym (due-by R s at g) ∙ ap (toldBy (contactAt R s at)) e in
+        record {
+          answer = next-stops j n at r ∙ ap (lateTold records first claims) (sym (walk-stops R (Due.Record (suc j)) n l ls rest (step-broken R j f l e)));
+          contacts = noted-ends j at r ∙ sym (noted-stops R s (Due.Record (suc j)) at l ls (step-broken R j f l e));
+        }
+
+    kept-late : recordRule R l ≡ keeps → Late j (n + 1) (at + length l + 2) ls rest → Late (suc j) n at (l ∷ ls) rest
+    unfolding recordsDue dueAt toldBy notedLine
+    kept-late e h =
+        let r : recordAt R s at ≡ RecordRead.Kept (contactAt R s at) = sym (due-by R s at g) ∙ ap (toldBy (contactAt R s at)) e in
+        let there : behind (contactAt R s at) ≡ at + length l + 2 = omega (arith, taken-end R s at l (drop (at + length l + 2) s) g e) in
+        record {
+          answer =
+              next-kept j n at r
+              ∙ ap (recordsTold R s records first claims j (n + 1)) there
+              ∙ h .answer
+              ∙ sym (late-put records first claims (Due.Record (suc j)) l (walk R (recordsDue j) (n + 1) ls rest))
+              ∙ ap (lateTold records first claims) (sym (walk-goes R (Due.Record (suc j)) n l ls rest (step-kept R j l e)));
+          contacts =
+              noted-kept j at r
+              ∙ ap (λ (i : ℕ). contactAt R s at ∷ contactsFrom R s j i) there
+              ∙ ap (λ (cs : List Contact). contactAt R s at ∷ cs) (h .contacts)
+              ∙ sym (noted-goes R s (Due.Record (suc j)) at l ls (step-kept R j l e));
+        }
+
+  line-late : (j n at : ℕ) (l : Text) (ls : List Text) (rest : Text) (r : RecordRule) → firstLine R (drop at s) ≡ aLine l (drop (at + length l + 2) s) → recordRule R l ≡ r → Late j (n + 1) (at + length l + 2) ls rest → Late (suc j) n at (l ∷ ls) rest
+  line-late j n at l ls rest keeps g e h = kept-late j n at l ls rest g e h
+  line-late j n at l ls rest (breaks f) g e h = broken-late j n at l ls rest g f e
+
+  pub late : (ls : List Text) (j n at : ℕ) (rest : Text) → at ≤ length s → Lie R s at ls rest → Late j n at ls rest
+  late [] zero n at rest h k = end-late n at rest h ((none-lies R s at k) .rest-is)
+  late [] (suc j) n at rest h k = missing-late j n at rest h ((none-lies R s at k) .none) ((none-lies R s at k) .rest-is)
+  late (l ∷ ls) zero n at rest h k = more-late n at l ls rest (omega (arith, (first-lies R s at k) .within))
+  late (l ∷ ls) (suc j) n at rest h k =
+      let q = first-lies R s at k in
+      line-late j n at l ls rest (recordRule R l) (q .line) refl
+      (late ls j (n + 1) (at + length l + 2) rest (q .within) (record { whole = q .whole; left = q .left }))

@@ -1,9 +1,12 @@
--- A line of a log: where it ends.
+-- A line of a log: where it ends, and how many semicolons it has.
 -- Assumes nothing.
 use Prim.Native.Nat.{ℕ, _+_}
+use mathlib.Core.Bool.{cond}
+use mathlib.Core.List.{[], _∷_}
+use lib.Dec.{eqb}
 use lib.ListN.{length, drop}
-use Rattle.rules.specs.Text.{Text}
-use Rattle.rules.specs.Rules.{base}
+use Rattle.rules.specs.Text.{Text, semicolon}
+use Rattle.rules.specs.Rules.{Rules}
 use Rattle.rules.specs.Reading.{FirstLine, aLine, noLine, firstLine}
 use Rattle.reader.specs.declared.LineRead.{LineRead}
 use Rattle.reader.specs.declared.LineRead.the-variants as LineRead
@@ -13,6 +16,11 @@ unfoldable pub lineFrom : ℕ → FirstLine → LineRead
 lineFrom at (aLine l rest) = LineRead.Line (at + length l)
 lineFrom at noLine = LineRead.Missing
 
-unfoldable pub lineAt : Text → ℕ → LineRead
-unfolding lineFrom firstLine base
-lineAt s at = lineFrom at (firstLine base (drop at s))
+unfoldable pub lineAt : Rules → Text → ℕ → LineRead
+unfolding lineFrom firstLine
+lineAt R s at = lineFrom at (firstLine R (drop at s))
+
+-- How many semicolons a text has: one less than it has parts.
+unfoldable pub semicolonsIn : Text → ℕ
+semicolonsIn [] = 0
+semicolonsIn (c ∷ s) = cond (eqb c semicolon) 1 0 + semicolonsIn s

@@ -1,19 +1,29 @@
--- What is answered of a log as a whole.
+-- What is answered of a log as a whole, and of its two parts: what stands in front of the records, and the records.
 -- Assumes nothing.
-use Prim.Native.Nat.{ℕ, _-_}
+use Prim.Native.Nat.{ℕ, zero, suc, _+_, _-_}
 use mathlib.Core.Bool.{Bool, true, false, cond}
-use mathlib.Core.List.{map}
-use lib.Dec.{eqb}
+use mathlib.Core.List.{List, [], _∷_, map}
+use lib.Dec.{eqb, ltb}
 use lib.ListN.{length, take}
 use Rattle.rules.specs.declared.Due.{Due}
 use Rattle.rules.specs.declared.Due.the-variants.{Identifier, Keyword, Remarks, Remark, Record, End}
+use Rattle.rules.specs.declared.Next.{Next}
+use Rattle.rules.specs.declared.Next.the-variants.{Goes, Stops}
 use Rattle.rules.specs.Text.{Text}
-use Rattle.rules.specs.Rules.{base}
+use Rattle.rules.specs.Rules.{Rules}
 use Rattle.rules.specs.Log.{Log, linesOf, ended, recordLine}
-use Rattle.rules.specs.Reading.{Reading, accepted, refused, refusal, read}
-use Rattle.reader.specs.declared.Mark.{Mark}
+use Rattle.rules.specs.Reading.{Reading, accepted, lines, read, refusal, refused, step}
+use Rattle.reader.specs.declared.Contact.{Contact}
+use Rattle.reader.specs.declared.CountRead.{CountRead}
+use Rattle.reader.specs.declared.CountRead.the-variants as CountRead
+use Rattle.reader.specs.declared.HeadRead.{HeadRead}
+use Rattle.reader.specs.declared.HeadRead.the-variants as HeadRead
 use Rattle.reader.specs.declared.ReadAnswer.{ReadAnswer}
 use Rattle.reader.specs.declared.ReadAnswer.the-variants as ReadAnswer
+use Rattle.reader.specs.declared.RecordRead.{RecordRead}
+use Rattle.reader.specs.declared.RecordRead.the-variants as RecordRead
+use Rattle.reader.specs.Contact.{behind}
+use Rattle.reader.specs.Record.{recordAt}
 
 -- Where the nine claims begin: their lines stand behind 27, the identifier's and those of 26 keywords.
 unfoldable pub claimsStart : Log → ℕ
@@ -28,39 +38,72 @@ readTold end (accepted log) =
     ReadAnswer.Accepted (length (log .records)) (end - length (ended (map recordLine (log .records)))) (claimsStart log)
 readTold end (refused r) = ReadAnswer.Refused r
 
-unfoldable pub readOf : Text → ReadAnswer
-unfolding readTold read base
-readOf s = readTold (length s) (read base s)
+unfoldable pub readOf : Rules → Text → ReadAnswer
+unfolding readTold read
+readOf R s = readTold (length s) (read R s)
 
--- # The walk over the lines, with what is noted on the way
+-- # In front of the records
 
--- The count line says how many records there are, and the first begins behind it.
-unfoldable pub counted : Due → Mark → ℕ → Mark
-counted Identifier m at = m
-counted (Keyword k) m at = m
-counted Remarks m at = m
-counted Remark m at = m
-counted (Record n) m at = record { records = n; first = at; claims = m .claims }
-counted End m at = record { records = 0; first = at; claims = m .claims }
+-- Something is due that stands in front of them.
+abbrev pub early : Due → Bool
+early Identifier = true
+early (Keyword k) = true
+early Remarks = true
+early Remark = true
+early (Record n) = false
+early End = false
 
--- The claims begin behind the line of the keyword that comes after 25.
-unfoldable pub noted : Due → Due → Mark → ℕ → Mark
-unfolding counted
-noted Identifier next m at = m
-noted (Keyword k) next m at =
-    cond (eqb k 25) (record { records = m .records; first = m .first; claims = at }) m
-noted Remarks next m at = m
-noted Remark next m at = counted next m at
-noted (Record n) next m at = m
-noted End next m at = m
+-- The count line says how many records there are.
+unfoldable pub countedBy : Due → CountRead
+countedBy Identifier = CountRead.Further
+countedBy (Keyword k) = CountRead.Further
+countedBy Remarks = CountRead.Further
+countedBy Remark = CountRead.Further
+countedBy (Record n) = CountRead.Counted n
+countedBy End = CountRead.Counted 0
 
--- No line stands where one is due; whether bytes are left.
-unfoldable pub restTold : Due → ℕ → Bool → Mark → ReadAnswer
-restTold Identifier n left m = ReadAnswer.Refused (refusal 2 n 0)
-restTold (Keyword k) n left m = ReadAnswer.Refused (refusal 2 n 0)
-restTold Remarks n left m = ReadAnswer.Refused (refusal 2 n 0)
-restTold Remark n left m = ReadAnswer.Refused (refusal 2 n 0)
-restTold (Record k) n true m = ReadAnswer.Refused (refusal 2 n 0)
-restTold (Record k) n false m = ReadAnswer.Refused (refusal 6 n 0)
-restTold End n true m = ReadAnswer.Refused (refusal 6 n 0)
-restTold End n false m = ReadAnswer.Accepted (m .records) (m .first) (m .claims)
+-- The claims begin behind the line of the keyword that comes after 25, and else where they were found to begin.
+unfoldable pub claimsBy : Due → ℕ → ℕ → ℕ
+claimsBy Identifier claims at = claims
+claimsBy (Keyword k) claims at = cond (eqb k 25) at claims
+claimsBy Remarks claims at = claims
+claimsBy Remark claims at = claims
+claimsBy (Record n) claims at = claims
+claimsBy End claims at = claims
+
+-- A line that is taken, behind which the next begins at a place: the count line is the last of the head.
+unfoldable pub headCount : HeadRead → ℕ → ℕ → ℕ → CountRead → HeadRead
+headCount more n at claims (CountRead.Counted records) = HeadRead.Head records at claims (n + 1)
+headCount more n at claims CountRead.Further = more
+
+unfoldable pub headNext : (Due → HeadRead) → ℕ → ℕ → ℕ → Next → HeadRead
+unfolding headCount countedBy
+headNext more n at claims (Goes next) = headCount (more next) n at claims (countedBy next)
+headNext more n at claims (Stops number field) = HeadRead.Refused (refusal number n field)
+
+-- What is told of these lines, the first of which has this number, begins at a place and is due as said.
+unfoldable pub headFrom : Rules → Due → ℕ → ℕ → ℕ → List Text → HeadRead
+unfolding headNext claimsBy step
+headFrom R due n at claims [] = HeadRead.Refused (refusal 2 n 0)
+headFrom R due n at claims (l ∷ ls) =
+    headNext (λ next. headFrom R next (n + 1) (at + length l + 2) (claimsBy due claims (at + length l + 2)) ls) n (at + length l + 2) claims (step R due l)
+
+unfoldable pub headOf : Rules → Text → HeadRead
+unfolding headFrom lines
+headOf R s =
+    let byLine = headFrom R Identifier 1 0 0 ((lines R s) .whole) in
+    cond (ltb (R .longestLog) (length s)) (HeadRead.Refused (refusal 1 0 0)) byLine
+
+-- # The records
+
+-- Where the first record begins and the claims do; then of so many records from the line of this number on, that begins at a place.
+unfoldable pub recordNext : (Contact → ReadAnswer) → ℕ → RecordRead → ReadAnswer
+recordNext more n (RecordRead.Kept c) = more c
+recordNext more n (RecordRead.Stops number field) = ReadAnswer.Refused (refusal number n field)
+
+unfoldable pub recordsTold : Rules → Text → ℕ → ℕ → ℕ → ℕ → ℕ → ℕ → ReadAnswer
+unfolding recordNext recordAt
+recordsTold R s records first claims zero n at =
+    cond (ltb at (length s)) (ReadAnswer.Refused (refusal 6 n 0)) (ReadAnswer.Accepted records first claims)
+recordsTold R s records first claims (suc left) n at =
+    recordNext (λ c. recordsTold R s records first claims left (n + 1) (behind c)) n (recordAt R s at)

@@ -1,24 +1,22 @@
-// The reader of logs: lines, what is due at each, and the answers that the floors above ask for.
+// The reader of logs: lines, the one record reader, what is due at each line, and the answers that the floors above ask for.
 
 ghost use mathlib.Core.Path.{_≡_};
-ghost use Prim.Native.Nat.{_+_};
-ghost use lib.ListN.{drop, length};
-ghost use Rattle.rules.specs.Text.{allowed, span};
-ghost use Rattle.rules.specs.Text.{parts};
-ghost use Rattle.fields.specs.Field.{inField};
-ghost use Rattle.reader.specs.Line.{lineAt};
-ghost use Rattle.rules.specs.Text.{same};
-ghost use Rattle.rules.specs.Fields.{errorCall};
-ghost use mathlib.Core.List.{[]};
-ghost use lib.ListN.{getD};
-ghost use Rattle.reader.specs.Record.{brokenAt, datedOf, scoredAt, recordOf};
-use rules::Due;
-use rules::Next;
-use rules::Refusal;
+ghost use mathlib.Core.Bool.{true};
+ghost use Prim.Native.Nat.{_+_, _≤_, _<_};
+ghost use lib.ListN.{drop, length, set};
+ghost use Rattle.rules.specs.Text.{allowed, begins, same, span};
 ghost use Rattle.rules.specs.Rules.{base};
+ghost use Rattle.rules.specs.Fields.{errorCall};
 ghost use Rattle.rules.specs.Arguments.{entries};
-ghost use Rattle.reader.specs.Read.{readOf, counted, noted, restTold};
-ghost use Rattle.rules.specs.Reading.{recordsDue, countRule, keywordDue, whole, step};
+ghost use Rattle.rules.specs.Log.{crlf};
+ghost use Rattle.rules.specs.Reading.{countRule, keywordDue, recordsDue, step, whole};
+ghost use Rattle.fields.specs.Field.{inField, textAt};
+ghost use Rattle.figures.specs.Figure.{numberAt};
+ghost use Rattle.reader.specs.Line.{lineAt, semicolonsIn};
+ghost use Rattle.reader.specs.Contact.{fieldStart, lastEnd};
+ghost use Rattle.reader.specs.Record.{brokenAt, brokenFrom, datedAt, parsedAt, recordAt, recordOn, scoreRule};
+ghost use Rattle.reader.specs.Read.{claimsBy, countedBy, early, headOf, readOf, recordsTold};
+ghost use Rattle.reader.specs.Noted.{contactsFrom, contactsRead, listed};
 use fields::CallRead;
 use fields::ExchangeRead;
 use fields::LocatorRead;
@@ -31,6 +29,11 @@ use figures::NumberRead;
 use figures::TimeRead;
 use header::ArgumentRead;
 use header::KeywordRead;
+use rules::Due;
+use rules::Next;
+use rules::Refusal;
+
+// # Lines
 
 pub fn is_allowed(b: u8) -> bool
     ensures { λ r. ⌜ r ≡ allowed b ⌝ }
@@ -41,8 +44,8 @@ pub fn is_allowed(b: u8) -> bool
     b <= 127
 }
 
-// The place behind the allowed characters from here on.
-pub fn allowed_run(s: &[u8], at: usize) -> usize
+// The place behind the allowed characters from here on, looked at one by one.
+fn allowed_tail(s: &[u8], at: usize) -> usize
     ensures { λ r. ⌜ r ≡ at + span allowed (drop at (now (s .entry))) ⌝ }
 {
     let mut i = at;
@@ -55,6 +58,48 @@ pub fn allowed_run(s: &[u8], at: usize) -> usize
     i
 }
 
+// The place behind the allowed characters from here on, looked at four by four.
+pub fn allowed_run(s: &[u8], at: usize) -> usize
+    ensures { λ r. ⌜ r ≡ at + span allowed (drop at (now (s .entry))) ⌝ }
+{
+    if s.len() <= at {
+        return at;
+    }
+    let mut i = at;
+    while i + 3 < s.len() {
+        if !is_allowed(s[i]) {
+            return i;
+        }
+        if !is_allowed(s[i + 1]) {
+            return i + 1;
+        }
+        if !is_allowed(s[i + 2]) {
+            return i + 2;
+        }
+        if !is_allowed(s[i + 3]) {
+            return i + 3;
+        }
+        i += 4;
+    }
+    allowed_tail(s, i)
+}
+
+// CR LF stand at this place.
+fn line_ends(s: &[u8], at: usize) -> bool
+    ensures { λ r. ⌜ r ≡ begins crlf (drop at (now (s .entry))) ⌝ }
+{
+    if s.len() <= at {
+        return false;
+    }
+    if s.len() - at < 2 {
+        return false;
+    }
+    if s[at] != 13 {
+        return false;
+    }
+    s[at + 1] == 10
+}
+
 // Whether a line stands at a place, and where it ends, before its CR LF.
 pub enum LineRead {
     Line(usize),
@@ -62,26 +107,16 @@ pub enum LineRead {
 }
 
 pub fn line_end(s: &[u8], at: usize) -> LineRead
-    ensures { λ r. ⌜ r ≡ lineAt (now (s .entry)) at ⌝ }
+    ensures { λ r. ⌜ r ≡ lineAt base (now (s .entry)) at ⌝ }
 {
     let end = allowed_run(s, at);
-    if 75 < end - at {
+    if rules::longest_line() < end - at {
         return LineRead::Missing;
     }
-    if s.len() <= end {
-        return LineRead::Missing;
+    if line_ends(s, end) {
+        return LineRead::Line(end);
     }
-    if s[end] != 13 {
-        return LineRead::Missing;
-    }
-    let last = end + 1;
-    if s.len() <= last {
-        return LineRead::Missing;
-    }
-    if s[last] != 10 {
-        return LineRead::Missing;
-    }
-    LineRead::Line(end)
+    LineRead::Missing
 }
 
 // The place behind the field that begins here: a semicolon stands there, or the line ends.
@@ -98,9 +133,9 @@ pub fn field_end(s: &[u8], at: usize) -> usize
     i
 }
 
-// How many semicolons a line has: one less than it has parts.
+// How many semicolons a line has.
 pub fn semicolons(line: &[u8]) -> usize
-    ensures { λ r. ⌜ r + 1 ≡ length (parts (now (line .entry))) ⌝ }
+    ensures { λ r. ⌜ r ≡ semicolonsIn (now (line .entry)) ⌝ }
 {
     let mut n = 0;
     let mut i = 0;
@@ -113,29 +148,32 @@ pub fn semicolons(line: &[u8]) -> usize
     n
 }
 
-// Whether a record keeps the rules, or which field breaks one; 0 for a wrong number of semicolons.
-pub enum RecordRead {
-    Kept,
-    Broken(u32),
+// # The record reader
+
+// Where the parts of a record begin and end, what they say, and where the record ends.
+pub struct Contact {
+    pub call: usize,
+    pub callend: usize,
+    pub exchange: usize,
+    pub exchangeend: usize,
+    pub locator: usize,
+    pub locatorend: usize,
+    pub points: usize,
+    pub pointsend: usize,
+    pub worth: u64,
+    pub error: bool,
+    pub country: bool,
+    pub end: usize,
 }
 
-// A field is bad: it is told where the number of semicolons is right.
-pub fn broken(line: &[u8], field: u32) -> RecordRead
-    ensures { λ r. ⌜ r ≡ brokenAt (now (line .entry)) field ⌝ }
+// The call of the third field from this place on is ERROR, whatever stands in front of it.
+fn third_is_error(s: &[u8], at: usize) -> bool
+    requires { ⌜ at ≤ length (now s) ⌝ }
+    ensures { λ r. ⌜ r ≡ same (textAt (now (s .entry)) (fieldStart (now (s .entry)) at 2)) errorCall ⌝ }
 {
-    if semicolons(line) == 14 {
-        return RecordRead::Broken(field);
-    }
-    RecordRead::Broken(0)
-}
-
-// The call of the line's third field is ERROR, whatever stands before it.
-fn third_is_error(line: &[u8]) -> bool
-    ensures { λ r. ⌜ r ≡ same (getD (parts (now (line .entry))) 2 []) errorCall ⌝ }
-{
-    let first = field_end(line, 0);
-    let second = field_end(line, first + 1);
-    let CallRead::Call { end: _, error } = fields::call(line, second + 1) else {
+    let first = field_end(s, at);
+    let second = field_end(s, first + 1);
+    let CallRead::Call { end: _, error } = fields::call(s, second + 1) else {
         return false;
     };
     error
@@ -147,113 +185,220 @@ pub enum DatedRead {
     Bad,
 }
 
-fn dated(line: &[u8]) -> DatedRead
-    ensures { λ r. ⌜ r ≡ datedOf (now (line .entry)) ⌝ }
+fn dated(s: &[u8], at: usize) -> DatedRead
+    requires { ⌜ at ≤ length (now s) ⌝ }
+    ensures { λ r. ⌜ r ≡ datedAt (now (s .entry)) at ⌝ }
 {
-    let read = figures::date(line, 0);
+    let read = figures::date(s, at);
     match read {
         DateRead::Date(end) => DatedRead::Dated(end),
         DateRead::Bad => DatedRead::Bad,
         DateRead::Empty => {
-            if third_is_error(line) {
-                return DatedRead::Dated(0);
+            if third_is_error(s, at) {
+                return DatedRead::Dated(at);
             }
             DatedRead::Bad
         }
     }
 }
 
-// Where the points of a record end, if they may stand there: an ERROR record has none.
-pub enum PointsRead {
-    Points(usize),
-    Bad,
-}
-
-fn scored(line: &[u8], at: usize, error: bool) -> PointsRead
-    ensures { λ r. ⌜ r ≡ scoredAt error (now (line .entry)) at ⌝ }
+// The points of a record, if they may stand there: an ERROR record has none.
+fn scored(s: &[u8], at: usize, error: bool) -> NumberRead
+    ensures { λ r. ⌜ r ≡ numberAt (scoreRule base error) (now (s .entry)) at ⌝ }
 {
-    let NumberRead::Number(worth, end) = figures::points(line, at) else {
-        return PointsRead::Bad;
+    let NumberRead::Number(worth, end) = figures::points(s, at) else {
+        return NumberRead::Bad;
     };
     if !error {
-        return PointsRead::Points(end);
+        return NumberRead::Number(worth, end);
     }
     if worth == 0 {
-        return PointsRead::Points(end);
+        return NumberRead::Number(worth, end);
     }
-    PointsRead::Bad
+    NumberRead::Bad
 }
 
-// The fifteen fields, each taken where the one before it ends: a field that cannot be read stops the line there.
-pub fn record(line: &[u8]) -> RecordRead
-    ensures { λ r. ⌜ r ≡ recordOf (now (line .entry)) ⌝ }
+// The end of the last field, behind which no semicolon stands.
+fn last_end(s: &[u8], at: usize) -> usize
+    ensures { λ r. ⌜ r ≡ lastEnd (now (s .entry)) at ⌝ }
 {
-    let DatedRead::Dated(date) = dated(line) else {
-        return broken(line, 1);
+    if s.len() <= at {
+        return at;
+    }
+    if s[at] != 68 {
+        return at;
+    }
+    at + 1
+}
+
+// The fields of a record where they lie, or the first of the fourteen in front that breaks its rule. What stands behind the last is for the
+// caller to look at.
+pub enum Parsed {
+    Fields(Contact),
+    Bad(u32),
+}
+
+// Each field is taken where the one before it ends: a field that cannot be read stops the line there.
+pub fn parse(s: &[u8], at: usize) -> Parsed
+    ensures { λ r. ⌜ r ≡ parsedAt base (now (s .entry)) at ⌝ }
+{
+    if s.len() <= at {
+        return Parsed::Bad(1);
+    }
+    let DatedRead::Dated(date) = dated(s, at) else {
+        return Parsed::Bad(1);
     };
-    let TimeRead::Time(_, time) = figures::time(line, date + 1) else {
-        return broken(line, 2);
+    let TimeRead::Time(_, time) = figures::time(s, date + 1) else {
+        return Parsed::Bad(2);
     };
-    let CallRead::Call { end: call, error } = fields::call(line, time + 1) else {
-        return broken(line, 3);
+    let call = time + 1;
+    let CallRead::Call {
+        end: callend,
+        error,
+    } = fields::call(s, call)
+    else {
+        return Parsed::Bad(3);
     };
-    let ModeRead::Mode(mode) = fields::mode(line, call + 1) else {
-        return broken(line, 4);
+    let ModeRead::Mode(mode) = fields::mode(s, callend + 1) else {
+        return Parsed::Bad(4);
     };
-    let ReportRead::Report(sent) = fields::report(line, mode + 1) else {
-        return broken(line, 5);
+    let ReportRead::Report(sent) = fields::report(s, mode + 1) else {
+        return Parsed::Bad(5);
     };
-    let SerialRead::Serial(sentnumber) = fields::serial(line, sent + 1) else {
-        return broken(line, 6);
+    let SerialRead::Serial(sentnumber) = fields::serial(s, sent + 1) else {
+        return Parsed::Bad(6);
     };
-    let ReportRead::Report(received) = fields::report(line, sentnumber + 1) else {
-        return broken(line, 7);
+    let ReportRead::Report(received) = fields::report(s, sentnumber + 1) else {
+        return Parsed::Bad(7);
     };
-    let SerialRead::Serial(receivednumber) = fields::serial(line, received + 1) else {
-        return broken(line, 8);
+    let SerialRead::Serial(receivednumber) = fields::serial(s, received + 1) else {
+        return Parsed::Bad(8);
     };
-    let ExchangeRead::Exchange(exchange) = fields::exchange(line, receivednumber + 1) else {
-        return broken(line, 9);
+    let exchange = receivednumber + 1;
+    let ExchangeRead::Exchange(exchangeend) = fields::exchange(s, exchange) else {
+        return Parsed::Bad(9);
     };
-    let LocatorRead::Locator(locator) = fields::locator_or_empty(line, exchange + 1) else {
-        return broken(line, 10);
+    let locator = exchangeend + 1;
+    let LocatorRead::Locator(locatorend) = fields::locator_or_empty(s, locator) else {
+        return Parsed::Bad(10);
     };
-    let PointsRead::Points(points) = scored(line, locator + 1, error) else {
-        return broken(line, 11);
+    let points = locatorend + 1;
+    let NumberRead::Number(worth, pointsend) = scored(s, points, error) else {
+        return Parsed::Bad(11);
     };
     let MarkRead::Mark {
         set: _,
         end: newexchange,
-    } = fields::mark(line, points + 1, 78)
+    } = fields::mark(s, pointsend + 1, 78)
     else {
-        return broken(line, 12);
+        return Parsed::Bad(12);
     };
     let MarkRead::Mark {
         set: _,
         end: newsquare,
-    } = fields::mark(line, newexchange + 1, 78)
+    } = fields::mark(s, newexchange + 1, 78)
     else {
-        return broken(line, 13);
+        return Parsed::Bad(13);
     };
     let MarkRead::Mark {
-        set: _,
+        set: country,
         end: newcountry,
-    } = fields::mark(line, newsquare + 1, 78)
+    } = fields::mark(s, newsquare + 1, 78)
     else {
-        return broken(line, 14);
+        return Parsed::Bad(14);
     };
-    let MarkRead::Mark {
-        set: _,
-        end: duplicate,
-    } = fields::mark(line, newcountry + 1, 68)
-    else {
-        return broken(line, 15);
-    };
-    if duplicate == line.len() {
-        return RecordRead::Kept;
-    }
-    RecordRead::Broken(0)
+    let end = last_end(s, newcountry + 1);
+    Parsed::Fields(Contact {
+        call,
+        callend,
+        exchange,
+        exchangeend,
+        locator,
+        locatorend,
+        points,
+        pointsend,
+        worth,
+        error,
+        country,
+        end,
+    })
 }
+
+// What is told where a record is due: where its parts lie, or the refusal's number and field.
+pub enum RecordRead {
+    Kept(Contact),
+    Stops { number: u32, field: u32 },
+}
+
+// A field of a line is bad: it is told where the number of semicolons is right.
+fn broken(line: &[u8], field: u32) -> RecordRead
+    ensures { λ r. ⌜ r ≡ brokenAt (now (line .entry)) field ⌝ }
+{
+    if semicolons(line) == 14 {
+        return RecordRead::Stops { number: 5, field };
+    }
+    RecordRead::Stops {
+        number: 5,
+        field: 0,
+    }
+}
+
+// A record line by itself.
+pub fn record(line: &[u8]) -> RecordRead
+    ensures { λ r. ⌜ r ≡ recordOn base (now (line .entry)) ⌝ }
+{
+    let read = parse(line, 0);
+    match read {
+        Parsed::Bad(field) => broken(line, field),
+        Parsed::Fields(c) => {
+            if c.end == line.len() {
+                return RecordRead::Kept(c);
+            }
+            broken(line, 15)
+        }
+    }
+}
+
+// Why the line at this place of a log is no record, where this would be its first bad field.
+fn broken_at(s: &[u8], at: usize, field: u32) -> RecordRead
+    ensures { λ r. ⌜ r ≡ brokenFrom base (now (s .entry)) at field ⌝ }
+{
+    let LineRead::Line(end) = line_end(s, at) else {
+        if at < s.len() {
+            return RecordRead::Stops {
+                number: 2,
+                field: 0,
+            };
+        }
+        return RecordRead::Stops {
+            number: 6,
+            field: 0,
+        };
+    };
+    broken(&s[at..end], field)
+}
+
+// The record that is due at a place of a log. Where fifteen fields are right and CR LF stand behind them, they are a line.
+pub fn record_at(s: &[u8], at: usize) -> RecordRead
+    ensures { λ r. ⌜ r ≡ recordAt base (now (s .entry)) at ⌝ }
+{
+    let mut field = 15;
+    let read = parse(s, at);
+    match read {
+        Parsed::Bad(bad) => {
+            field = bad;
+        }
+        Parsed::Fields(c) => {
+            if line_ends(s, c.end) {
+                return RecordRead::Kept(c);
+            }
+        }
+    }
+    // asked in one place, since it is the longest way and the rarest
+    broken_at(s, at, field)
+}
+
+// # The steps
 
 // So many records are due.
 fn records_due(n: usize) -> Due
@@ -348,11 +493,8 @@ fn record_step(n: usize, line: &[u8]) -> Next
 {
     let read = record(line);
     match read {
-        RecordRead::Broken(field) => Next::Stops {
-            number: 5,
-            field: field,
-        },
-        RecordRead::Kept => {
+        RecordRead::Stops { number, field } => Next::Stops { number, field },
+        RecordRead::Kept(_) => {
             if n == 0 {
                 return Next::Goes(Due::End);
             }
@@ -361,8 +503,9 @@ fn record_step(n: usize, line: &[u8]) -> Next
     }
 }
 
-// What follows from a line where this is due: what is due next, or the refusal's number and field.
-pub fn step(due: Due, line: &[u8]) -> Next
+// What follows from a line in front of the records. None is due there, so that this needs no record reader.
+fn head_step(due: Due, line: &[u8]) -> Next
+    requires { ⌜ early due ≡ true ⌝ }
     ensures { λ r. ⌜ r ≡ step base due (now (line .entry)) ⌝ }
 {
     match due {
@@ -370,7 +513,10 @@ pub fn step(due: Due, line: &[u8]) -> Next
         Due::Keyword(k) => keyword_step(k, line),
         Due::Remarks => whole_step(b"[Remarks]", line, Due::Remark),
         Due::Remark => remark_step(line),
-        Due::Record(n) => record_step(n, line),
+        Due::Record(_) => Next::Stops {
+            number: 6,
+            field: 0,
+        },
         Due::End => Next::Stops {
             number: 6,
             field: 0,
@@ -378,56 +524,121 @@ pub fn step(due: Due, line: &[u8]) -> Next
     }
 }
 
-// How many records a log has and where the first begins, once its count line is read; and where the first of the nine claims does, once the line in
-// front of it is read.
-pub struct Mark {
-    pub records: usize,
-    pub first: usize,
-    pub claims: usize,
-}
-
-// What is noted of the count line, behind which the first record begins.
-fn counted(next: Due, mark: Mark, at: usize) -> Mark
-    ensures { λ r. ⌜ r ≡ counted next mark at ⌝ }
+// What follows from a line where this is due: what is due next, or the refusal's number and field.
+pub fn step(due: Due, line: &[u8]) -> Next
+    ensures { λ r. ⌜ r ≡ step base due (now (line .entry)) ⌝ }
 {
-    match next {
-        Due::Record(n) => Mark {
-            records: n,
-            first: at,
-            claims: mark.claims,
+    match due {
+        Due::Record(n) => record_step(n, line),
+        Due::End => Next::Stops {
+            number: 6,
+            field: 0,
         },
-        Due::End => Mark {
-            records: 0,
-            first: at,
-            claims: mark.claims,
-        },
-        Due::Identifier => mark,
-        Due::Keyword(_) => mark,
-        Due::Remarks => mark,
-        Due::Remark => mark,
+        Due::Identifier => head_step(due, line),
+        Due::Keyword(_) => head_step(due, line),
+        Due::Remarks => head_step(due, line),
+        Due::Remark => head_step(due, line),
     }
 }
 
-// What is noted of a line, behind which the next begins: the claims begin behind the line of the keyword that comes after 25.
-fn noted(due: Due, next: Due, mark: Mark, at: usize) -> Mark
-    ensures { λ r. ⌜ r ≡ noted due next mark at ⌝ }
+// # A log as a whole
+
+// How many records are due behind the count line, or that it is not read yet.
+pub enum CountRead {
+    Counted(usize),
+    Further,
+}
+
+fn counted_by(next: Due) -> CountRead
+    ensures { λ r. ⌜ r ≡ countedBy next ⌝ }
+{
+    match next {
+        Due::Record(n) => CountRead::Counted(n),
+        Due::End => CountRead::Counted(0),
+        Due::Identifier => CountRead::Further,
+        Due::Keyword(_) => CountRead::Further,
+        Due::Remarks => CountRead::Further,
+        Due::Remark => CountRead::Further,
+    }
+}
+
+// Where the claims begin, behind a line where this was due: behind the line of the keyword that comes after 25.
+fn claims_by(due: Due, claims: usize, at: usize) -> usize
+    ensures { λ r. ⌜ r ≡ claimsBy due claims at ⌝ }
 {
     match due {
-        Due::Remark => counted(next, mark, at),
         Due::Keyword(k) => {
             if k == 25 {
-                return Mark {
-                    records: mark.records,
-                    first: mark.first,
-                    claims: at,
-                };
+                return at;
             }
-            mark
+            claims
         }
-        Due::Identifier => mark,
-        Due::Remarks => mark,
-        Due::Record(_) => mark,
-        Due::End => mark,
+        Due::Identifier => claims,
+        Due::Remarks => claims,
+        Due::Remark => claims,
+        Due::Record(_) => claims,
+        Due::End => claims,
+    }
+}
+
+// What is told in front of the records: how many there are, where the first begins, where the claims do, and the first record's line.
+pub enum HeadRead {
+    Head {
+        records: usize,
+        first: usize,
+        claims: usize,
+        line: u32,
+    },
+    Refused(Refusal),
+}
+
+fn head(log: &[u8]) -> HeadRead
+    ensures { λ r. ⌜ r ≡ headOf base (now (log .entry)) ⌝ }
+{
+    if rules::longest_log() < log.len() {
+        return HeadRead::Refused(Refusal {
+            number: 1,
+            line: 0,
+            field: 0,
+        });
+    }
+    let mut due = Due::Identifier;
+    let mut claims = 0;
+    let mut at = 0;
+    let mut line: u32 = 1;
+    loop {
+        let LineRead::Line(end) = line_end(log, at) else {
+            return HeadRead::Refused(Refusal {
+                number: 2,
+                line,
+                field: 0,
+            });
+        };
+        let after = head_step(due, &log[at..end]);
+        match after {
+            Next::Stops { number, field } => {
+                return HeadRead::Refused(Refusal {
+                    number,
+                    line,
+                    field,
+                });
+            }
+            Next::Goes(next) => {
+                at = end + 2;
+                line += 1;
+                let count = counted_by(next);
+                if let CountRead::Counted(records) = count {
+                    return HeadRead::Head {
+                        records,
+                        first: at,
+                        claims,
+                        line,
+                    };
+                }
+                claims = claims_by(due, claims, at);
+                due = next;
+            }
+        }
     }
 }
 
@@ -441,82 +652,130 @@ pub enum ReadAnswer {
     Refused(Refusal),
 }
 
-// No line stands where one is due: the log is at its end where no byte is left.
-fn at_rest(due: Due, line: u32, left: bool, mark: Mark) -> ReadAnswer
-    ensures { λ r. ⌜ r ≡ restTold due line left mark ⌝ }
+// A place of the record of this number, from 0, where the list has room for it.
+fn note(list: &mut [u16], i: usize, place: usize)
+    requires { ⌜ place ≤ base .longestLog ⌝ }
+    ensures { λ r. ⌜ now (list .exit) ≡ set (now (list .entry)) i place ⌝ }
 {
-    let missing = ReadAnswer::Refused(Refusal {
-        number: 2,
-        line: line,
-        field: 0,
-    });
-    let misplaced = ReadAnswer::Refused(Refusal {
-        number: 6,
-        line: line,
-        field: 0,
-    });
-    match due {
-        Due::Record(_) => {
-            if left {
-                return missing;
-            }
-            misplaced
-        }
-        Due::End => {
-            if left {
-                return misplaced;
-            }
-            ReadAnswer::Accepted {
-                records: mark.records,
-                first: mark.first,
-                claims: mark.claims,
-            }
-        }
-        Due::Identifier => missing,
-        Due::Keyword(_) => missing,
-        Due::Remarks => missing,
-        Due::Remark => missing,
+    if i < list.len() {
+        list[i] = place as u16;
     }
 }
 
-// Reads a log, line by line, in one pass.
-pub fn read(log: &[u8]) -> ReadAnswer
-    ensures { λ r. ⌜ r ≡ readOf (now (log .entry)) ⌝ }
+// The records, the first of which begins at a place, on a line of this number.
+fn survey_records(
+    log: &[u8],
+    records: usize,
+    first: usize,
+    claims: usize,
+    before: u32,
+    calls: &mut [u16],
+    exchanges: &mut [u16],
+    points: &mut [u16],
+    pointsends: &mut [u16],
+    ends: &mut [u16],
+) -> ReadAnswer
+    requires { ⌜ (before ≤ first + 1) × (first ≤ length (now log)) × (length (now log) ≤ base .longestLog) ⌝ }
+    ensures answer { λ r. ⌜ r ≡ recordsTold base (now (log .entry)) records first claims records before first ⌝ }
+    ensures calls { λ r. ⌜ now (calls .exit) ≡ listed (λ c. c .call) (contactsFrom base (now (log .entry)) records first) (now (calls .entry)) ⌝ }
+    ensures exchanges { λ r. ⌜ now (exchanges .exit) ≡ listed (λ c. c .exchange) (contactsFrom base (now (log .entry)) records first) (now (exchanges .entry)) ⌝ }
+    ensures points { λ r. ⌜ now (points .exit) ≡ listed (λ c. c .points) (contactsFrom base (now (log .entry)) records first) (now (points .entry)) ⌝ }
+    ensures pointsends { λ r. ⌜ now (pointsends .exit) ≡ listed (λ c. c .pointsend) (contactsFrom base (now (log .entry)) records first) (now (pointsends .entry)) ⌝ }
+    ensures ends { λ r. ⌜ now (ends .exit) ≡ listed (λ c. c .end) (contactsFrom base (now (log .entry)) records first) (now (ends .entry)) ⌝ }
 {
-    if 65535 < log.len() {
-        return ReadAnswer::Refused(Refusal {
-            number: 1,
-            line: 0,
-            field: 0,
-        });
-    }
-    let mut due = Due::Identifier;
-    let mut mark = Mark {
-        records: 0,
-        first: 0,
-        claims: 0,
-    };
-    let mut at = 0;
-    let mut line: u32 = 1;
-    loop {
-        let LineRead::Line(end) = line_end(log, at) else {
-            return at_rest(due, line, at < log.len(), mark);
-        };
-        let after = step(due, &log[at..end]);
-        match after {
-            Next::Stops { number, field } => {
+    let mut at = first;
+    let mut line = before;
+    let mut i = 0;
+    while i < records {
+        let told = record_at(log, at);
+        match told {
+            RecordRead::Stops { number, field } => {
                 return ReadAnswer::Refused(Refusal {
-                    number: number,
-                    line: line,
-                    field: field,
+                    number,
+                    line,
+                    field,
                 });
             }
-            Next::Goes(next) => {
-                at = end + 2;
+            RecordRead::Kept(c) => {
+                note(calls, i, c.call);
+                note(exchanges, i, c.exchange);
+                note(points, i, c.points);
+                note(pointsends, i, c.pointsend);
+                note(ends, i, c.end);
+                at = c.end + 2;
                 line += 1;
-                mark = noted(due, next, mark, at);
-                due = next;
+                i += 1;
             }
         }
     }
+    if at < log.len() {
+        return ReadAnswer::Refused(Refusal {
+            number: 6,
+            line,
+            field: 0,
+        });
+    }
+    ReadAnswer::Accepted {
+        records,
+        first,
+        claims,
+    }
+}
+
+// Reads a log in one pass, and notes in each list, as far as it goes, one place of each record that it comes to.
+pub fn survey(
+    log: &[u8],
+    calls: &mut [u16],
+    exchanges: &mut [u16],
+    points: &mut [u16],
+    pointsends: &mut [u16],
+    ends: &mut [u16],
+) -> ReadAnswer
+    ensures answer { λ r. ⌜ r ≡ readOf base (now (log .entry)) ⌝ }
+    ensures calls { λ r. ⌜ now (calls .exit) ≡ listed (λ c. c .call) (contactsRead base (now (log .entry))) (now (calls .entry)) ⌝ }
+    ensures exchanges { λ r. ⌜ now (exchanges .exit) ≡ listed (λ c. c .exchange) (contactsRead base (now (log .entry))) (now (exchanges .entry)) ⌝ }
+    ensures points { λ r. ⌜ now (points .exit) ≡ listed (λ c. c .points) (contactsRead base (now (log .entry))) (now (points .entry)) ⌝ }
+    ensures pointsends { λ r. ⌜ now (pointsends .exit) ≡ listed (λ c. c .pointsend) (contactsRead base (now (log .entry))) (now (pointsends .entry)) ⌝ }
+    ensures ends { λ r. ⌜ now (ends .exit) ≡ listed (λ c. c .end) (contactsRead base (now (log .entry))) (now (ends .entry)) ⌝ }
+{
+    let told = head(log);
+    match told {
+        HeadRead::Refused(refusal) => ReadAnswer::Refused(refusal),
+        HeadRead::Head {
+            records,
+            first,
+            claims,
+            line,
+        } => survey_records(
+            log,
+            records,
+            first,
+            claims,
+            line,
+            calls,
+            exchanges,
+            points,
+            pointsends,
+            ends,
+        ),
+    }
+}
+
+// Reads a log, with nothing noted.
+pub fn read(log: &[u8]) -> ReadAnswer
+    ensures { λ r. ⌜ r ≡ readOf base (now (log .entry)) ⌝ }
+{
+    let mut calls = [0u16; 0];
+    let mut exchanges = [0u16; 0];
+    let mut points = [0u16; 0];
+    let mut pointsends = [0u16; 0];
+    let mut ends = [0u16; 0];
+    survey(
+        log,
+        &mut calls,
+        &mut exchanges,
+        &mut points,
+        &mut pointsends,
+        &mut ends,
+    )
 }

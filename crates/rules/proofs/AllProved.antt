@@ -1,34 +1,54 @@
--- The three demands, all of them: what `specs/Demands.antt` states is proved.
+-- The three demands, all of them: what `specs/Demands.antt` states is proved, of any rules under which the claims that are recomputed have room
+-- in their places, and so of the base rules.
 -- Assumes nothing.
-use Rattle.rules.specs.Demands.{TheThreeDemands}
-use Rattle.rules.proofs.Refusals.{every-input, refused-with, refused-judging, refused-writing, refused-view}
-use Rattle.rules.proofs.Format.{accepted-exactly, accepted-format}
-use Rattle.rules.proofs.Classes.{four-counts-add-up, classes-as-defined}
-use Rattle.rules.proofs.Bounds.{total-is-bounded}
-use Rattle.rules.proofs.WritingLaws.{writing-changes, writing-keeps-points}
-use Rattle.rules.proofs.WritingStable.{writing-is-stable}
-use Rattle.rules.proofs.WritingRefused.{writing-is-refused-for-length}
-use Rattle.rules.proofs.Struck.{struck-is-accepted}
-use Rattle.rules.proofs.Falls.{striking-rule-for-any-sameness, striking-rule-for-the-base}
+use Rattle.rules.specs.Rules.{Rules, base}
+use Rattle.rules.specs.Demands.{TheThreeDemands, TheBaseKeepsThem}
+use Rattle.rules.proofs.Bounds.{total-is-bounded, the-most-total}
+use Rattle.rules.proofs.Classes.{four-counts, calls-byte-for-byte, classes-as-defined}
+use Rattle.rules.proofs.Falls.{striking-rule}
+use Rattle.rules.proofs.Format.{accepted-when-written, accepted-format}
+use Rattle.rules.proofs.GivenCalls.{given-exactly-when, zero-when-accepted, line-and-field-told}
 use Rattle.rules.proofs.PremiseNeeded.{premise-is-needed}
+use Rattle.rules.proofs.Refusals.{every-input, refused-with, refused-reading, refused-judging, refused-writing, refused-view}
+use Rattle.rules.proofs.Struck.{struck-is-accepted}
+use Rattle.rules.proofs.TotalLaws.{totals-as-defined}
+use Rattle.rules.proofs.WritingLaws.{writing-changes}
+use Rattle.rules.proofs.WritingSets.{writing-sets-the-named}
+use Rattle.rules.proofs.WritingStable.{ClaimsHaveRoom, stable, base-has-room}
 
-pub the-three-demands : TheThreeDemands
+pub of-any-rules : (R : Rules) → ClaimsHaveRoom R → TheThreeDemands R
+of-any-rules R room =
+    record {
+      everyInputGetsAnAnswer = every-input R;
+      refusedWithNumberLineField = refused-with R;
+      givenExactlyWhen = given-exactly-when R;
+      zeroWhenAccepted = zero-when-accepted R;
+      lineAndFieldToldRightly = line-and-field-told R;
+      aRefusalChangesNothing =
+          record {
+            reading = refused-reading R;
+            judging = refused-judging R;
+            writing = refused-writing R;
+            viewing = refused-view R;
+          };
+      acceptedExactlyWhenWritten = accepted-when-written R;
+      acceptedExactlyWhenFormat = accepted-format R;
+      classesAndMarksAsDefined = classes-as-defined R;
+      totalsAsDefined = totals-as-defined R;
+      fourCountsAddUp = four-counts R;
+      totalIsBounded = total-is-bounded R;
+      writingChangesOnlyTheNamed = writing-changes R;
+      writingSetsTheNamed = writing-sets-the-named R;
+      writingBackIsStable = stable R room;
+      struckIsAccepted = struck-is-accepted R;
+      strikingRule = striking-rule R;
+    }
+
+pub the-three-demands : TheBaseKeepsThem
 the-three-demands =
     record {
-      everyInputGetsAnAnswer = every-input;
-      refusedWithNumberLineField = refused-with;
-      aRefusalChangesNothing = record { judging = refused-judging; writing = refused-writing; viewing = refused-view };
-      acceptedExactlyWhenWritten = accepted-exactly;
-      acceptedExactlyWhenFormat = accepted-format;
-      classesAndMarksAsDefined = classes-as-defined;
-      fourCountsAddUp = four-counts-add-up;
-      totalIsBounded = total-is-bounded;
-      writingChangesOnlyTheNamed = writing-changes;
-      writingKeepsPoints = writing-keeps-points;
-      writingBackIsStable = writing-is-stable;
-      writingIsRefusedForLength = writing-is-refused-for-length;
-      struckIsAccepted = struck-is-accepted;
-      strikingRuleForAnySameness = striking-rule-for-any-sameness;
-      strikingRuleForTheBase = striking-rule-for-the-base;
+      theThreeDemands = of-any-rules base base-has-room;
+      callsAreComparedByteForByte = calls-byte-for-byte;
+      theMostTotal = the-most-total;
       premiseIsNeeded = premise-is-needed;
     }

@@ -18,11 +18,11 @@ use Rattle.rules.specs.Fields.{Qso, isError, pointsRule, fieldRules}
 use Rattle.rules.specs.Arguments.{Rule, anything, countBonusMultiplier, Entry, entries, each, count, bonus, multiplier, part, meets}
 use Rattle.rules.specs.Log.{Log, argumentIn, argument, argumentRules, conjunction, recordRules, valid}
 use Rattle.rules.specs.Judging.{is, classOf, square, isNew, claimsCountry, verdictOf, creditedAfter, verdictsAfter, verdicts, countOf, creditedPoints, Declared, declared, multipliers, totalsOf, totals, totalsOfLog}
-use Rattle.rules.specs.Demands.{TotalIsBounded}
+use Rattle.rules.specs.Demands.{mostTotal, TotalIsBounded}
 use Rattle.rules.proofs.Tests.{so}
 use Rattle.rules.proofs.NumberLaws.{number-from, number-below}
 use Rattle.rules.proofs.Passing.{first, second}
-use Rattle.rules.proofs.Format.{accepted-exactly}
+use Rattle.rules.proofs.Format.{accepted-when-written}
 use Rattle.rules.proofs.Classes.{ofClass, length-verdictsAfter}
 use Rattle.rules.proofs.Distinct.{tally}
 use Rattle.rules.proofs.ValidLogs.{points-ruled, arguments-valid, count-valid, records-valid}
@@ -225,39 +225,10 @@ module _ (R : Rules) where
     unfolding totalsOfLog
     log-within = totals-within (declared log) (log .records) declared-within (count-valid R log v) (records-valid R log v)
 
--- The same in the numbers of the base rules: "It is at most 998,404,684,715,196".
-pub record WithinBase (t : Totals) : Type 0 where
-  pub credited : t .credited ≤ 999
-  pub voids : t .voids ≤ 999
-  pub duplicates : t .duplicates ≤ 999
-  pub errors : t .errors ≤ 999
-  pub points : t .points ≤ 998_999_001
-  pub squares : t .squares ≤ 999
-  pub exchanges : t .exchanges ≤ 999
-  pub countries : t .countries ≤ 999
-  pub squarebonus : t .squarebonus ≤ 9_989_001
-  pub exchangebonus : t .exchangebonus ≤ 9_989_001
-  pub countrybonus : t .countrybonus ≤ 9_989_001
-  pub total : t .total ≤ 998_404_684_715_196
+pub total-is-bounded : (R : Rules) → TotalIsBounded R
+unfolding mostTotal
+total-is-bounded R s log e = log-within R log (accepted-when-written R s log .0 e .0) .total
 
-pub base-within : (log : Log) → T (valid base log) → WithinBase (totalsOfLog base log)
-unfolding base
-base-within log v =
-    let w = log-within base log v in
-    record {
-      credited = w .credited;
-      voids = w .voids;
-      duplicates = w .duplicates;
-      errors = w .errors;
-      points = w .points;
-      squares = le-trans (w .squares) (w .credited);
-      exchanges = le-trans (w .exchanges) (w .credited);
-      countries = le-trans (w .countries) (w .credited);
-      squarebonus = w .squarebonus;
-      exchangebonus = w .exchangebonus;
-      countrybonus = w .countrybonus;
-      total = w .total;
-    }
-
-pub total-is-bounded : TotalIsBounded
-total-is-bounded s log e = base-within log (accepted-exactly s log .0 e .0) .total
+pub the-most-total : mostTotal base ≡ 998_404_684_715_196
+unfolding mostTotal base
+the-most-total = refl

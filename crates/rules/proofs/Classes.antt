@@ -17,8 +17,8 @@ use Rattle.rules.specs.Text.{Text, same, empty}
 use Rattle.rules.specs.Fields.{Qso, isError}
 use Rattle.rules.specs.Log.{Log}
 use Rattle.rules.specs.Judging.{classNumber, is, some, claimsPoints, classOf, square, isNew, claimsCountry, countOf, verdictOf, creditedAfter, verdictsAfter, verdicts, totalsOf, totals, totalsOfLog}
-use Rattle.rules.specs.Demands.{FourCountsAddUp, ClassesAndMarksAsDefined, AsTheDocumentDefines, SomeEarlierCredited, sameCallAs, qsoAt, verdictAt, classAt}
-use Rattle.rules.proofs.Passing.{both, first, second, one-of, left, right, failed, decided}
+use Rattle.rules.specs.Demands.{FourCountsAddUp, CallsAreComparedByteForByte, ClassesAndMarksAsDefined, AsTheDocumentDefines, SomeEarlierCredited, sameCallAs, qsoAt, verdictAt, classAt}
+use Rattle.rules.proofs.Passing.{both, first, second, one-of, left, right, failed, decided, same→equal, equal→same}
 
 -- A class is one of the four.
 one-class : (c : Class) → cond (is Credited c) 1 0 + cond (is Void c) 1 0 + cond (is Duplicate c) 1 0 + cond (is Error c) 1 0 ≡ 1
@@ -48,17 +48,9 @@ module _ (R : Rules) where
   unfolding verdicts
   length-verdicts qs = length-verdictsAfter [] qs
 
-  pub four-counts : (log : Log) →
-      (totalsOfLog R log) .credited
-      + (totalsOfLog R log) .voids
-      + (totalsOfLog R log) .duplicates
-      + (totalsOfLog R log) .errors
-      ≡ length (log .records)
+  pub four-counts : FourCountsAddUp R
   unfolding totalsOfLog totals totalsOf
   four-counts log = counts-add-up (verdicts R (log .records)) ∙ length-verdicts (log .records)
-
-pub four-counts-add-up : FourCountsAddUp
-four-counts-add-up = four-counts base
 
 -- A class is another exactly when the test says so.
 pub is→equal : (a b : Class) → T (is a b) → b ≡ a
@@ -305,5 +297,9 @@ module _ (R : Rules) where
         (λ t. inl (as-defined .credited .1 (n, no-earlier (sameCallAs R) .0 t, c)))
         (decided repeats)
 
-pub classes-as-defined : ClassesAndMarksAsDefined
-classes-as-defined = as-defined base
+pub calls-byte-for-byte : CallsAreComparedByteForByte
+unfolding base
+calls-byte-for-byte call other = (same→equal call other, equal→same call other)
+
+pub classes-as-defined : (R : Rules) → ClassesAndMarksAsDefined R
+classes-as-defined R = as-defined R

@@ -17,10 +17,10 @@ use Rattle.rules.specs.Rules.{Rules, base}
 use Rattle.rules.specs.Fields.{Qso, isError}
 use Rattle.rules.specs.Arguments.{among}
 use Rattle.rules.specs.Log.{Log}
-use Rattle.rules.specs.Judging.{Declared, declared, multipliers, is, some, classOf, claimsPoints, square, isNew, claimsCountry, verdictOf, creditedAfter, verdictsAfter, verdicts, verdictsOfLog, countOf, creditedPoints, totalsOf, totals, totalsOfLog}
+use Rattle.rules.specs.Judging.{Declared, declared, multipliers, is, some, sameCall, classOf, claimsPoints, square, isNew, claimsCountry, verdictOf, creditedAfter, verdictsAfter, verdicts, verdictsOfLog, countOf, creditedPoints, totalsOf, totals, totalsOfLog}
 use Rattle.rules.specs.Striking.{Places, later, kept, strike, struckWorth}
-use Rattle.rules.specs.Demands.{DuplicatesClaimNothing, StrikesCheaply, SamenessOfCalls, StrikingRuleForAnySameness, StrikingRuleForTheBase}
-use Rattle.rules.proofs.Passing.{both, first, second, left, right, one-of, failed, equal-tests, same→equal, equal→same}
+use Rattle.rules.specs.Demands.{DuplicatesClaimNothing, StrikesCheaply, StrikingRule}
+use Rattle.rules.proofs.Passing.{both, first, second, left, right, one-of, failed, equal-tests}
 use Rattle.rules.proofs.Classes.{is→equal, by-duplicate, by-credited}
 use Rattle.rules.proofs.Distinct.{tally, fresh, news, lost, news-fall, news-kept}
 use Rattle.rules.proofs.Strikes.{nothing-promoted, strikes-rightly}
@@ -32,7 +32,7 @@ worthy q = not (isError q) && claimsPoints q
 
 module _ (R : Rules) where
   abbrev repeats : List Qso → Qso → Bool
-  repeats credited q = some (λ e. R .sameCall (e .call) (q .call)) credited
+  repeats credited q = some (λ e. sameCall R (e .call) (q .call)) credited
 
   -- Every record that is worthy is credited, and no other.
   abbrev Clean : List Qso → List Qso → Type 0
@@ -105,9 +105,9 @@ module _ (R : Rules) where
   more-repeats less credited q c b f e r = by (is Credited c) (is Credited b) e
     where
       by : (x y : Bool) → (T x → T y) → T (repeats (cond x (q ∷ less) less) r) → T (repeats (cond y (q ∷ credited) credited) r)
-      by true true e t = ⊎-elim (left (R .sameCall (q .call) (r .call)) (repeats credited r)) (λ u. right (R .sameCall (q .call) (r .call)) (repeats credited r) (f r u)) (one-of (R .sameCall (q .call) (r .call)) (repeats less r) t)
+      by true true e t = ⊎-elim (left (sameCall R (q .call) (r .call)) (repeats credited r)) (λ u. right (sameCall R (q .call) (r .call)) (repeats credited r) (f r u)) (one-of (sameCall R (q .call) (r .call)) (repeats less r) t)
       by true false e t = absurd (e tt)
-      by false true e t = right (R .sameCall (q .call) (r .call)) (repeats credited r) (f r t)
+      by false true e t = right (sameCall R (q .call) (r .call)) (repeats credited r) (f r t)
       by false false e t = f r t
 
   skipped : (less credited : List Qso) (q : Qso) (b : Class) →
@@ -333,19 +333,5 @@ module _ (R : Rules) where
               (mul-le-mul-right (multipliers d) (sum-fall-is-bounded d struck qs));
         }
 
-pub striking-rule-for-any-sameness : StrikingRuleForAnySameness
-striking-rule-for-any-sameness R L log struck v =
-    (strikes-rightly R (L .transitive) log struck v, strikes-cheaply R log struck)
-
--- "byte for byte" is a sameness of calls.
-pub sameness-of-base : SamenessOfCalls base
-unfolding base
-sameness-of-base =
-    record {
-      reflexive = λ a. equal→same a a refl;
-      symmetric = λ a b s. equal→same b a (sym (same→equal a b s));
-      transitive = λ a b c s t. equal→same a c (same→equal a b s ∙ same→equal b c t);
-    }
-
-pub striking-rule-for-the-base : StrikingRuleForTheBase
-striking-rule-for-the-base = striking-rule-for-any-sameness base sameness-of-base
+pub striking-rule : (R : Rules) → StrikingRule R
+striking-rule R log struck v = (strikes-rightly R log struck v, strikes-cheaply R log struck)

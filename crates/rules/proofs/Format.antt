@@ -61,10 +61,10 @@ pub render-law : (log : Log) → render log ≡ ended (linesOf log)
 unfolding render
 render-law log = refl
 
-byLine : Rules → Lines → Reading
+unfoldable pub byLine : Rules → Lines → Reading
 byLine R ls = walk R Identifier 1 (ls .whole) (ls .rest)
 
-read-law : (R : Rules) (s : Text) → read R s ≡ cond (ltb (R .longestLog) (length s)) (refused (refusal 1 0 0)) (byLine R (lines R s))
+pub read-law : (R : Rules) (s : Text) → read R s ≡ cond (ltb (R .longestLog) (length s)) (refused (refusal 1 0 0)) (byLine R (lines R s))
 unfolding read byLine
 read-law R s = refl
 
@@ -109,9 +109,11 @@ module _ (R : Rules) (s : Text) (log : Log) where
     λ w. read-as (of-valid R log (so (valid R log) (w .0))) (w .1),
   )
 
-pub accepted-exactly : AcceptedExactlyWhenWritten
+pub accepted-exactly : AcceptedExactlyWhenWritten base
 accepted-exactly s log = accepted-when-written base s log
 
-pub accepted-format : AcceptedExactlyWhenFormat
-accepted-format s =
-    (λ p. (p .0, accepted-exactly s (p .0) .0 (p .1)), λ p. (p .0, accepted-exactly s (p .0) .1 (p .1)))
+pub accepted-format : (R : Rules) → AcceptedExactlyWhenFormat R
+accepted-format R s = (
+  λ p. (p .0, accepted-when-written R s (p .0) .0 (p .1)),
+  λ p. (p .0, accepted-when-written R s (p .0) .1 (p .1)),
+)

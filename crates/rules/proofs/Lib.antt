@@ -7,6 +7,11 @@ pub mod LogLaws
 pub mod WalkLaws
 pub mod Format
 pub mod Refusals
+pub mod GivenLines
+pub mod GivenStops
+pub mod GivenRows
+pub mod GivenRefusals
+pub mod GivenCalls
 pub mod Struck
 pub mod WritingLaws
 pub mod WrittenValid
@@ -23,5 +28,8 @@ pub mod WrittenVerdicts
 pub mod WrittenClaims
 pub mod Bounds
 pub mod WritingStable
-pub mod WritingRefused
+pub mod WritingAnswer
+pub mod WritingSets
+pub mod TotalLaws
+pub mod OneAnswer
 pub mod AllProved

@@ -62,7 +62,7 @@ module _ (R : Rules) where
             ∙ cc (p .1, p .2);
       }
 
-  first-shorter : (s l rest : Text) → firstLine R s ≡ aLine l rest → length rest < length s
+  pub first-shorter : (s l rest : Text) → firstLine R s ≡ aLine l rest → length rest < length s
   unfolding crlf
   first-shorter s l rest e = rw ((first-is s l rest e) .text) (simp length-append (omega arith))
 

@@ -11,7 +11,7 @@ use Rattle.rules.specs.Judging.{totalsOfLog}
 use Rattle.rules.specs.Reading.{Reading, accepted, refused, read}
 use Rattle.rules.specs.Striking.{Places, strike}
 use Rattle.rules.specs.Demands.{PremiseIsNeeded}
-use Rattle.rules.specs.Table.{promoted}
+use Rattle.rules.specs.TableLogs.{promoted}
 
 -- The log that is read; nothing where the text is refused.
 logOf : Reading → Log

@@ -15,18 +15,18 @@ use Rattle.rules.specs.declared.Due.the-variants.{Identifier, Keyword, R
 use Rattle.rules.specs.declared.Next.{Next}
 use Rattle.rules.specs.declared.Next.the-variants.{Goes, Stops}
 use Rattle.rules.specs.Text.{Text, bytes, digit, span, same, begins, parts, value, numberFrom}
-use Rattle.rules.specs.Rules.{Rules, base}
+use Rattle.rules.specs.Rules.{Rules}
 use Rattle.rules.specs.Fields.{fieldRules, qsoOf}
 use Rattle.rules.specs.Arguments.{Entry, entries, meets}
 use Rattle.rules.specs.Log.{Log, identifier, remarksLine, countStart, keywordStart}
 use Rattle.rules.specs.Reading.{RecordRule, keeps, breaks, firstBroken, recordRule, recordsDue, whole, argumentOn, keywordLine, keywordDue, countRule, afterRecord, step, Reading, accepted, refused, refusal, atRest, put, onNext, lines, walk, read}
-use Rattle.rules.specs.Answers.{totalsOfJudgement, numbersOfJudgement, bytesOfWriting, startOfView, viewed, over}
-use Rattle.rules.specs.Demands.{EveryInputGetsAnAnswer, OfALine, RefusedWithNumberLineField, RefusedJudgingChangesNothing, RefusedWritingChangesNothing, RefusedViewIsEmpty}
+use Rattle.rules.specs.Answers.{recordsOfReading, totalsOfJudgement, numbersOfJudgement, bytesOfWriting, startOfView, viewed, over}
+use Rattle.rules.specs.Demands.{EveryInputGetsAnAnswer, OfALine, RefusedWithNumberLineField, RefusedJudgingChangesNothing, RefusedWritingChangesNothing, RefusedViewIsEmpty, RefusedReadingHasNoRecords}
 
-pub every-input : EveryInputGetsAnAnswer
-every-input s = by (read base s) refl
+pub every-input : (R : Rules) → EveryInputGetsAnAnswer R
+every-input R s = by (read R s) refl
   where
-    by : (a : Reading) → read base s ≡ a → ((log : Log) × (read base s ≡ accepted log)) ⊎ ((r : Refusal) × (read base s ≡ refused r))
+    by : (a : Reading) → read R s ≡ a → ((log : Log) × (read R s ≡ accepted log)) ⊎ ((r : Refusal) × (read R s ≡ refused r))
     by (accepted log) e = inl (log, e)
     by (refused r) e = inr (r, e)
 
@@ -172,23 +172,27 @@ module _ (R : Rules) where
           told-placed s a
           (later-placed (1 + n) (n + 1) a (omega arith) (walk-placed Identifier 1 ((lines R s) .whole) ((lines R s) .rest) (omega arith)))
 
-pub refused-with : RefusedWithNumberLineField
-refused-with s r e = named (subst (λ (a : Reading). Told base s a) e (read-placed base s))
+pub refused-with : (R : Rules) → RefusedWithNumberLineField R
+refused-with R s r e = named (subst (λ (a : Reading). Told R s a) e (read-placed R s))
   where
-    named : Told base s (refused r) → (r ≡ refusal 1 0 0) ⊎ OfALine (length ((lines base s) .whole)) r
+    named : Told R s (refused r) → (r ≡ refusal 1 0 0) ⊎ OfALine (length ((lines R s) .whole)) r
     named (inl p) = inl p
     named (inr (low, high, (two, six, field, alone))) =
         inr (record { number = (two, six); line = (low, high); field = field; inFiveAlone = alone })
 
 -- What a refused call leaves.
-pub refused-judging : RefusedJudgingChangesNothing
+pub refused-reading : (R : Rules) → RefusedReadingHasNoRecords R
+unfolding recordsOfReading
+refused-reading R s r e = rw e
+
+pub refused-judging : (R : Rules) → RefusedJudgingChangesNothing R
 unfolding totalsOfJudgement numbersOfJudgement over
-refused-judging s slice r e = rw e (refl, refl)
+refused-judging R s slice r e = rw e (refl, refl)
 
-pub refused-writing : RefusedWritingChangesNothing
+pub refused-writing : (R : Rules) → RefusedWritingChangesNothing R
 unfolding bytesOfWriting over
-refused-writing s slice r e = rw e (refl, refl)
+refused-writing R s slice r e = rw e (refl, refl)
 
-pub refused-view : RefusedViewIsEmpty
+pub refused-view : (R : Rules) → RefusedViewIsEmpty R
 unfolding startOfView viewed
-refused-view s k r e = rw e (refl, refl)
+refused-view R s k r e = rw e (refl, refl)

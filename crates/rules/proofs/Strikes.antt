@@ -13,10 +13,10 @@ use Rattle.rules.specs.Text.{Text}
 use Rattle.rules.specs.Rules.{Rules}
 use Rattle.rules.specs.Fields.{Qso, isError}
 use Rattle.rules.specs.Log.{Log, valid}
-use Rattle.rules.specs.Judging.{claimsPoints}
+use Rattle.rules.specs.Judging.{claimsPoints, sameCall}
 use Rattle.rules.specs.Striking.{Places, kept, strike, placeAfter}
 use Rattle.rules.specs.Demands.{SomeEarlierCredited, sameCallAs, qsoAt, classAt, StrikesRightly}
-use Rattle.rules.proofs.Passing.{failed, decided}
+use Rattle.rules.proofs.Passing.{failed, decided, same→equal, equal→same}
 use Rattle.rules.proofs.ValidLogs.{rules-of, points-ruled, error-claims-nothing, records-valid}
 use Rattle.rules.proofs.Classes.{as-defined, credited-or-repeats}
 use Rattle.rules.proofs.KeptPlaces.{kept-at, kept-fits, places-ordered, origin}
@@ -89,61 +89,64 @@ module _ (R : Rules) where
       let ruled = points-ruled R q (rules-of R (log .records) i _ h (records-valid R log v)) in
       failed (isError q) .1 (λ e. error-claims-nothing R q ruled e c)
 
-  -- Of the sameness of calls no more is needed than that it passes on.
-  module _ (passes : (a b c : Text) → T (R .sameCall a b) → T (R .sameCall b c) → T (R .sameCall a c)) where
-    -- A record that is no error and claims points bars the later ones of its call: it is credited, or an earlier one of its call is.
-    bars : (qs : List Qso) (i j : ℕ) →
-        i < j →
-        j < length qs →
-        T (not (isError (qsoAt qs i))) →
-        T (claimsPoints (qsoAt qs i)) →
-        T (sameCallAs R (qsoAt qs i) (qsoAt qs j)) →
-        SomeEarlierCredited R qs (sameCallAs R) j
-    bars qs i j h k n c t =
-        ⊎-elim
-        (λ e. (i, h, e, t))
-        (λ w. (w .0, omega arith, w .2, passes _ _ _ (w .3) t))
-        (credited-or-repeats R qs i (omega arith) n c)
+  -- Sameness passes on, since it is that of two texts.
+  passes : (a b c : Text) → T (sameCall R a b) → T (sameCall R b c) → T (sameCall R a c)
+  passes a b c s t =
+      equal→same (R .home a) (R .home c) (same→equal (R .home a) (R .home b) s ∙ same→equal (R .home b) (R .home c) t)
 
-    module _ (qs : List Qso) (struck : Places) (j : ℕ) (h : j < length qs) (n : T (not (struck j))) where
-      pub still-credited : classAt R qs j ≡ Credited → classAt R (kept struck qs) (placeAfter struck j) ≡ Credited
-      still-credited c =
-          let d = as-defined R qs j h .credited .0 c in
-          credited-left qs struck j h n (d .0) (d .2) (λ i w. d .1 (bars qs i j (w .0) h (w .2) (w .3) (w .4)))
+  -- A record that is no error and claims points bars the later ones of its call: it is credited, or an earlier one of its call is.
+  bars : (qs : List Qso) (i j : ℕ) →
+      i < j →
+      j < length qs →
+      T (not (isError (qsoAt qs i))) →
+      T (claimsPoints (qsoAt qs i)) →
+      T (sameCallAs R (qsoAt qs i) (qsoAt qs j)) →
+      SomeEarlierCredited R qs (sameCallAs R) j
+  bars qs i j h k n c t =
+      ⊎-elim
+      (λ e. (i, h, e, t))
+      (λ w. (w .0, omega arith, w .2, passes _ _ _ (w .3) t))
+      (credited-or-repeats R qs i (omega arith) n c)
 
-      -- No error claims points.
-      abbrev ErrorsClaimNothing : Type 0
-      ErrorsClaimNothing = (i : ℕ) → i < length qs → T (claimsPoints (qsoAt qs i)) → T (not (isError (qsoAt qs i)))
+  module _ (qs : List Qso) (struck : Places) (j : ℕ) (h : j < length qs) (n : T (not (struck j))) where
+    pub still-credited : classAt R qs j ≡ Credited → classAt R (kept struck qs) (placeAfter struck j) ≡ Credited
+    still-credited c =
+        let d = as-defined R qs j h .credited .0 c in
+        credited-left qs struck j h n (d .0) (d .2) (λ i w. d .1 (bars qs i j (w .0) h (w .2) (w .3) (w .4)))
 
-      pub promoted-exactly : ErrorsClaimNothing →
-          classAt R qs j ≡ Duplicate →
-          (classAt R (kept struck qs) (placeAfter struck j) ≡ Credited)
-          ↔ (T (claimsPoints (qsoAt qs j))
-          × ((i : ℕ) → i < j → T (sameCallAs R (qsoAt qs i) (qsoAt qs j)) → T (claimsPoints (qsoAt qs i)) → T (struck i)))
-      promoted-exactly errors c = (
-        λ p.
-            let left = kept struck qs in
-            let place = placeAfter struck j in
-            let same = same-record qs struck j h n in
-            let there = fits qs struck j h n in
-            let d = as-defined R left place there .credited .0 p in (
-              rw same at (d .2),
-              λ i k t u.
-                  ⊎-elim (λ s. s) (λ m.
-                  let e : qsoAt left (placeAfter struck i) ≡ qsoAt qs i = kept-at _ struck qs i (omega arith) m in
-                  absurd (d .1 (bars left (placeAfter struck i) place (places-ordered struck i j k m) there
-                  (rw e (errors i (omega arith) u)) (rw e u) (rw (e, same) t)))) (decided (struck i)),
-            ),
-        λ w.
-            credited-left qs struck j h n (as-defined R qs j h .duplicate .0 c .0) (w .0)
-            (λ i v. failed (struck i) .0 (v .1) (w .1 i (v .0) (v .4) (v .3))),
-      )
+    -- No error claims points.
+    abbrev ErrorsClaimNothing : Type 0
+    ErrorsClaimNothing = (i : ℕ) → i < length qs → T (claimsPoints (qsoAt qs i)) → T (not (isError (qsoAt qs i)))
 
-    module _ (log : Log) (struck : Places) where
-      pub strikes-rightly : T (valid R log) → StrikesRightly R log struck
-      unfolding strike
-      strikes-rightly v =
-          record {
-            stillCredited = λ j h n c. still-credited (log .records) struck j h n c;
-            promoted = λ j h n c. promoted-exactly (log .records) struck j h n (errors-claim-nothing log v) c;
-          }
+    pub promoted-exactly : ErrorsClaimNothing →
+        classAt R qs j ≡ Duplicate →
+        (classAt R (kept struck qs) (placeAfter struck j) ≡ Credited)
+        ↔ (T (claimsPoints (qsoAt qs j))
+        × ((i : ℕ) → i < j → T (sameCallAs R (qsoAt qs i) (qsoAt qs j)) → T (claimsPoints (qsoAt qs i)) → T (struck i)))
+    promoted-exactly errors c = (
+      λ p.
+          let left = kept struck qs in
+          let place = placeAfter struck j in
+          let same = same-record qs struck j h n in
+          let there = fits qs struck j h n in
+          let d = as-defined R left place there .credited .0 p in (
+            rw same at (d .2),
+            λ i k t u.
+                ⊎-elim (λ s. s) (λ m.
+                let e : qsoAt left (placeAfter struck i) ≡ qsoAt qs i = kept-at _ struck qs i (omega arith) m in
+                absurd (d .1 (bars left (placeAfter struck i) place (places-ordered struck i j k m) there
+                (rw e (errors i (omega arith) u)) (rw e u) (rw (e, same) t)))) (decided (struck i)),
+          ),
+      λ w.
+          credited-left qs struck j h n (as-defined R qs j h .duplicate .0 c .0) (w .0)
+          (λ i v. failed (struck i) .0 (v .1) (w .1 i (v .0) (v .4) (v .3))),
+    )
+
+  module _ (log : Log) (struck : Places) where
+    pub strikes-rightly : T (valid R log) → StrikesRightly R log struck
+    unfolding strike
+    strikes-rightly v =
+        record {
+          stillCredited = λ j h n c. still-credited (log .records) struck j h n c;
+          promoted = λ j h n c. promoted-exactly (log .records) struck j h n (errors-claim-nothing log v) c;
+        }

@@ -18,7 +18,7 @@ use Rattle.rules.specs.Demands.{StruckIsAccepted}
 use Rattle.rules.proofs.Tests.{so, holds, and-l, and-r, and-i}
 use Rattle.rules.proofs.LogLaws.{every-append, every-front, every-back, every-more, every-first, every-others, length-ended-more, length-ended-append, front, lines-split, length-count, fewer-counted}
 use Rattle.rules.proofs.NumberLaws.{digits-shorter}
-use Rattle.rules.proofs.Format.{Rightly, valid-of, of-valid, render-law, accepted-exactly}
+use Rattle.rules.proofs.Format.{Rightly, valid-of, of-valid, render-law, accepted-when-written}
 
 module _ (R : Rules) where
   -- The second list is no longer than the first, in records and in bytes, and keeps the rules if the first does.
@@ -99,7 +99,7 @@ module _ (R : Rules) where
   struck-valid log struck v =
       holds (valid-of R (strike struck log) (struck-rightly log struck (of-valid R log (so (valid R log) v))))
 
-pub struck-is-accepted : StruckIsAccepted
-struck-is-accepted s log struck e =
-    let w = accepted-exactly s log .0 e in
-    accepted-exactly (render (strike struck log)) (strike struck log) .1 (struck-valid base log struck (w .0), refl)
+pub struck-is-accepted : (R : Rules) → StruckIsAccepted R
+struck-is-accepted R s log struck e =
+    let w = accepted-when-written R s log .0 e in
+    accepted-when-written R (render (strike struck log)) (strike struck log) .1 (struck-valid R log struck (w .0), refl)

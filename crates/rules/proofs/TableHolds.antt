@@ -6,7 +6,10 @@ use mathlib.Core.Path.{_≡_, refl, sym, ap, _∙_}
 use mathlib.Core.Logic.{⊎-elim}
 use mathlib.Core.List.{List, _∷_, _++_, map, List·Memᴰ, List·Memᴰ·head, List·Memᴰ·tail, List·Memᴰ·append-cases, head-eq-of-cons-eq, tail-eq-of-cons-eq}
 use Rattle.rules.specs.Cases.{Case, answer}
-use Rattle.rules.specs.Table.{lineCases, argumentCases, fieldCases, dueCases, case12Cases, readingCases, lendingCases, squareCases, wrongTurnCases, table}
+use Rattle.rules.specs.TableArguments.{lineCases, argumentCases, argumentCharacterCases, bandCases, keywordCases, dueCases}
+use Rattle.rules.specs.TableFields.{fieldCases, fieldCharacterCases, calendarCases}
+use Rattle.rules.specs.TableLogs.{case12Cases, readingCases, lendingCases, squareCases, wrongTurnCases, wideCases, samenessCases, valueCases, limitCases}
+use Rattle.rules.specs.Table.{table}
 
 -- Each case of the list is answered as it says.
 abbrev pub Holds : List Case → Type 0
@@ -24,8 +27,9 @@ computed (d ∷ cs) e c (List·Memᴰ·head p) =
     ap (λ (x : Case). answer (x .asked)) p ∙ head-eq-of-cons-eq e ∙ sym (ap (λ (x : Case). x .says) p)
 computed (d ∷ cs) e c (List·Memᴰ·tail m) = computed cs (tail-eq-of-cons-eq e) c m
 
-both : {a b : List Case} → Holds a → Holds b → Holds (a ++ b)
-both {a} {b} f g c m = ⊎-elim (f c) (g c) (List·Memᴰ·append-cases a m)
+infixl 20 _also_
+_also_ : {a b : List Case} → Holds a → Holds b → Holds (a ++ b)
+_also_ {a} {b} f g c m = ⊎-elim (f c) (g c) (List·Memᴰ·append-cases a m)
 
 lineCases-hold : answers lineCases ≡ says lineCases
 unfolding answer lineCases
@@ -35,13 +39,33 @@ argumentCases-hold : answers argumentCases ≡ says argumentCases
 unfolding answer argumentCases
 argumentCases-hold = refl
 
-fieldCases-hold : answers fieldCases ≡ says fieldCases
-unfolding answer fieldCases
-fieldCases-hold = refl
+argumentCharacterCases-hold : answers argumentCharacterCases ≡ says argumentCharacterCases
+unfolding answer argumentCharacterCases
+argumentCharacterCases-hold = refl
+
+bandCases-hold : answers bandCases ≡ says bandCases
+unfolding answer bandCases
+bandCases-hold = refl
+
+keywordCases-hold : answers keywordCases ≡ says keywordCases
+unfolding answer keywordCases
+keywordCases-hold = refl
 
 dueCases-hold : answers dueCases ≡ says dueCases
 unfolding answer dueCases
 dueCases-hold = refl
+
+fieldCases-hold : answers fieldCases ≡ says fieldCases
+unfolding answer fieldCases
+fieldCases-hold = refl
+
+fieldCharacterCases-hold : answers fieldCharacterCases ≡ says fieldCharacterCases
+unfolding answer fieldCharacterCases
+fieldCharacterCases-hold = refl
+
+calendarCases-hold : answers calendarCases ≡ says calendarCases
+unfolding answer calendarCases
+calendarCases-hold = refl
 
 case12Cases-hold : answers case12Cases ≡ says case12Cases
 unfolding answer case12Cases
@@ -63,7 +87,40 @@ wrongTurnCases-hold : answers wrongTurnCases ≡ says wrongTurnCases
 unfolding answer wrongTurnCases
 wrongTurnCases-hold = refl
 
+wideCases-hold : answers wideCases ≡ says wideCases
+unfolding answer wideCases
+wideCases-hold = refl
+
+samenessCases-hold : answers samenessCases ≡ says samenessCases
+unfolding answer samenessCases
+samenessCases-hold = refl
+
+valueCases-hold : answers valueCases ≡ says valueCases
+unfolding answer valueCases
+valueCases-hold = refl
+
+limitCases-hold : answers limitCases ≡ says limitCases
+unfolding answer limitCases
+limitCases-hold = refl
+
 pub table-holds : Holds table
 unfolding table
 table-holds =
-    both (both (both (both (both (both (both (both (computed lineCases lineCases-hold) (computed argumentCases argumentCases-hold)) (computed fieldCases fieldCases-hold)) (computed dueCases dueCases-hold)) (computed case12Cases case12Cases-hold)) (computed readingCases readingCases-hold)) (computed lendingCases lendingCases-hold)) (computed squareCases squareCases-hold)) (computed wrongTurnCases wrongTurnCases-hold)
+    computed lineCases lineCases-hold
+    also computed argumentCases argumentCases-hold
+    also computed argumentCharacterCases argumentCharacterCases-hold
+    also computed bandCases bandCases-hold
+    also computed keywordCases keywordCases-hold
+    also computed dueCases dueCases-hold
+    also computed fieldCases fieldCases-hold
+    also computed fieldCharacterCases fieldCharacterCases-hold
+    also computed calendarCases calendarCases-hold
+    also computed case12Cases case12Cases-hold
+    also computed readingCases readingCases-hold
+    also computed lendingCases lendingCases-hold
+    also computed squareCases squareCases-hold
+    also computed wrongTurnCases wrongTurnCases-hold
+    also computed wideCases wideCases-hold
+    also computed samenessCases samenessCases-hold
+    also computed valueCases valueCases-hold
+    also computed limitCases limitCases-hold

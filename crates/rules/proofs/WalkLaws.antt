@@ -76,11 +76,11 @@ keeps-goes m keeps next e = let n : suc m - 1 ≡ m = omega arith in (refl, cc)
 keeps-goes m (breaks field) next e = let z : _≡_ {A = ℕ} 0 1 = cc in absurd (omega arith)
 
 module _ (R : Rules) where
-  step-record : (m : ℕ) (l : Text) → recordRule R l ≡ keeps → step R (Record (suc m)) l ≡ Goes (recordsDue m)
+  pub step-record : (m : ℕ) (l : Text) → recordRule R l ≡ keeps → step R (Record (suc m)) l ≡ Goes (recordsDue m)
   unfolding step afterRecord
   step-record m l e = let n : suc m - 1 ≡ m = omega arith in ap (afterRecord (suc m)) e ∙ rw n
 
-  step-record-goes : (m : ℕ) (l : Text) (next : Due) → step R (Record (suc m)) l ≡ Goes next → (recordRule R l ≡ keeps) × (recordsDue m ≡ next)
+  pub step-record-goes : (m : ℕ) (l : Text) (next : Due) → step R (Record (suc m)) l ≡ Goes next → (recordRule R l ≡ keeps) × (recordsDue m ≡ next)
   unfolding step
   step-record-goes m l next e = keeps-goes m (recordRule R l) next e
 
@@ -151,7 +151,7 @@ module _ (R : Rules) where
   unfolding countRule
   count-at t n e = ap (λ (k : ℕ). cond (numberFrom 0 (R .mostRecords) (take k t) && same (drop k t) (bytes "]")) (Goes (recordsDue (value (take k t)))) (Stops 4 0)) e
 
-  count-goes : (m : ℕ) → leb m (R .mostRecords) ≡ true → countRule R (digits m ++ bytes "]") ≡ Goes (recordsDue m)
+  pub count-goes : (m : ℕ) → leb m (R .mostRecords) ≡ true → countRule R (digits m ++ bytes "]") ≡ Goes (recordsDue m)
   count-goes m e =
       let t = digits m ++ bytes "]" in
       let n : span digit t ≡ length (digits m) = span-run digit (digits m) 93 [] (digits-all m) refl in
@@ -159,22 +159,22 @@ module _ (R : Rules) where
       let last : drop (length (digits m)) t ≡ bytes "]" = drop-append-seam (digits m) (bytes "]") in
       count-at t (length (digits m)) n ∙ rw (first, last, digits-from 0 (R .mostRecords) m (omega arith) (leb-true m (R .mostRecords) e), same-refl (bytes "]"), value-digits m)
 
-  step-count : (m : ℕ) → leb m (R .mostRecords) ≡ true → step R Remark (countLine m) ≡ Goes (recordsDue m)
+  pub step-count : (m : ℕ) → leb m (R .mostRecords) ≡ true → step R Remark (countLine m) ≡ Goes (recordsDue m)
   unfolding step countLine countStart begins
   step-count m e = count-goes m e
 
-  step-remark : (l : Text) → remarkRule l ≡ true → step R Remark l ≡ Goes Remark
+  pub step-remark : (l : Text) → remarkRule l ≡ true → step R Remark l ≡ Goes Remark
   unfolding step remarkRule
   step-remark l e = ap (λ (b : Bool). cond b (countRule R (drop (length countStart) l)) (Goes Remark)) (not-true (begins countStart l) e)
 
   -- A line that is taken where a remark or the count line is due is the one or the other.
-  record IsCount (l : Text) (next : Due) : Type 0 where
-    count : ℕ
-    line : l ≡ countLine count
-    fits : leb count (R .mostRecords) ≡ true
-    due : recordsDue count ≡ next
+  pub record IsCount (l : Text) (next : Due) : Type 0 where
+    pub count : ℕ
+    pub line : l ≡ countLine count
+    pub fits : leb count (R .mostRecords) ≡ true
+    pub due : recordsDue count ≡ next
 
-  is-count : (l : Text) (next : Due) → begins countStart l ≡ true → countRule R (drop (length countStart) l) ≡ Goes next → IsCount l next
+  pub is-count : (l : Text) (next : Due) → begins countStart l ≡ true → countRule R (drop (length countStart) l) ≡ Goes next → IsCount l next
   unfolding countRule countLine
   is-count l next b e =
       let t = drop (length countStart) l in
@@ -260,7 +260,7 @@ module _ (R : Rules) where
         none = k .none;
       })
 
-  step-begun : (l : Text) (b : Bool) → begins countStart l ≡ b → step R Remark l ≡ cond b (countRule R (drop (length countStart) l)) (Goes Remark)
+  pub step-begun : (l : Text) (b : Bool) → begins countStart l ≡ b → step R Remark l ≡ cond b (countRule R (drop (length countStart) l)) (Goes Remark)
   unfolding step
   step-begun l b e = ap (λ (c : Bool). cond c (countRule R (drop (length countStart) l)) (Goes Remark)) e
 
@@ -286,15 +286,15 @@ module _ (R : Rules) where
 -- # Keywords
 
 -- What is due where these keywords are left, after so many.
-abbrev dueOf : List Entry → ℕ → Due
+abbrev pub dueOf : List Entry → ℕ → Due
 dueOf [] k = Remarks
 dueOf (e ∷ es) k = Keyword k
 
-drop-next : {A : Type 0} {a : A} {l : List A} (k : ℕ) (all : List A) → drop k all ≡ a ∷ l → drop (k + 1) all ≡ l
+pub drop-next : {A : Type 0} {a : A} {l : List A} (k : ℕ) (all : List A) → drop k all ≡ a ∷ l → drop (k + 1) all ≡ l
 drop-next k all e = sym (drop-drop 1 k all) ∙ ap (drop 1) e
 
 module _ (R : Rules) where
-  whole-goes : (due : Text) (next : Due) → whole due due next ≡ Goes next
+  pub whole-goes : (due : Text) (next : Due) → whole due due next ≡ Goes next
   unfolding whole
   whole-goes due next = rw (same-refl due)
 
@@ -302,7 +302,7 @@ module _ (R : Rules) where
   unfolding whole
   whole-went due l on next e = let p = one-test (same l due) on next 3 0 e in (same-eq l due (p .0), p .1)
 
-  keyword-goes : (e : Entry) (t : Text) (next : Due) → meets R (e .rule) t ≡ true → keywordLine R e (keywordStart e ++ t) next ≡ Goes next
+  pub keyword-goes : (e : Entry) (t : Text) (next : Due) → meets R (e .rule) t ≡ true → keywordLine R e (keywordStart e ++ t) next ≡ Goes next
   unfolding keywordLine argumentOn
   keyword-goes e t next m = rw (begins-front (keywordStart e) t, drop-append-seam (keywordStart e) t, m)
 
@@ -310,16 +310,16 @@ module _ (R : Rules) where
   unfolding argumentOn
   argument-on e t = drop-append-seam (keywordStart e) t
 
-  record IsKeyword (e : Entry) (l : Text) (on next : Due) : Type 0 where
-    line : l ≡ keywordStart e ++ argumentOn e l
-    rule : meets R (e .rule) (argumentOn e l) ≡ true
-    due : on ≡ next
+  pub record IsKeyword (e : Entry) (l : Text) (on next : Due) : Type 0 where
+    pub line : l ≡ keywordStart e ++ argumentOn e l
+    pub rule : meets R (e .rule) (argumentOn e l) ≡ true
+    pub due : on ≡ next
 
   two-tests : (b m : Bool) (on next : Due) → cond b (cond m (Goes on) (Stops 4 0)) (Stops 3 0) ≡ Goes next → (b ≡ true) × (m ≡ true) × (on ≡ next)
   two-tests true m on next e = let p = one-test m on next 4 0 e in (refl, p .0, p .1)
   two-tests false m on next e = let z : _≡_ {A = ℕ} 0 1 = cc in absurd (omega arith)
 
-  keyword-went : (e : Entry) (l : Text) (on next : Due) → keywordLine R e l on ≡ Goes next → IsKeyword e l on next
+  pub keyword-went : (e : Entry) (l : Text) (on next : Due) → keywordLine R e l on ≡ Goes next → IsKeyword e l on next
   unfolding keywordLine argumentOn
   keyword-went e l on next g =
       let p = two-tests (begins (keywordStart e) l) (meets R (e .rule) (argumentOn e l)) on next g in
@@ -330,7 +330,7 @@ module _ (R : Rules) where
   due-keyword e [] k l = refl
   due-keyword e (f ∷ es) k l = refl
 
-  step-keyword : (e : Entry) (es : List Entry) (k : ℕ) (l : Text) → drop k entries ≡ e ∷ es → step R (Keyword k) l ≡ keywordLine R e l (dueOf es (k + 1))
+  pub step-keyword : (e : Entry) (es : List Entry) (k : ℕ) (l : Text) → drop k entries ≡ e ∷ es → step R (Keyword k) l ≡ keywordLine R e l (dueOf es (k + 1))
   unfolding step
   step-keyword e es k l h = ap (λ (x : List Entry). keywordDue R x k l) h ∙ due-keyword e es k l
 
@@ -397,7 +397,7 @@ module _ (R : Rules) where
         rules = r .rules;
       })
 
-  step-remarks-went : (l : Text) (next : Due) → step R Remarks l ≡ Goes next → (l ≡ remarksLine) × (Remark ≡ next)
+  pub step-remarks-went : (l : Text) (next : Due) → step R Remarks l ≡ Goes next → (l ≡ remarksLine) × (Remark ≡ next)
   unfolding step
   step-remarks-went l next e = whole-went remarksLine l Remark next e
 
@@ -442,7 +442,7 @@ module _ (R : Rules) where
     pub fits : leb (length (log .records)) (R .mostRecords) ≡ true
     pub rules : recordRules R (log .records) ≡ true
 
-  step-identifier-went : (l : Text) (next : Due) → step R Identifier l ≡ Goes next → (l ≡ identifier) × (Keyword 0 ≡ next)
+  pub step-identifier-went : (l : Text) (next : Due) → step R Identifier l ≡ Goes next → (l ≡ identifier) × (Keyword 0 ≡ next)
   unfolding step
   step-identifier-went l next e = whole-went identifier l (Keyword 0) next e
 
@@ -450,7 +450,7 @@ module _ (R : Rules) where
   unfolding withLine
   with-identifier l log = refl
 
-  first-keyword : dueOf entries 0 ≡ Keyword 0
+  pub first-keyword : dueOf entries 0 ≡ Keyword 0
   unfolding entries
   first-keyword = refl
 

@@ -1,4 +1,4 @@
--- Writing back changes only the claims, points and marks that are named for it, and points on duplicates alone.
+-- Writing back changes only the claims, points and marks that are named for it.
 -- Assumes nothing.
 use Prim.Native.Nat.{ℕ, zero, suc}
 use mathlib.Core.Path.{_≡_, refl, ap, ap₂}
@@ -10,12 +10,12 @@ use Rattle.rules.specs.declared.Class.the-variants.{Credited, Void, Dupl
 use Rattle.rules.specs.declared.Verdict.{Verdict}
 use Rattle.rules.specs.declared.Totals.{Totals}
 use Rattle.rules.specs.Text.{Text, all, same, digits, parts, joined}
-use Rattle.rules.specs.Rules.{base}
+use Rattle.rules.specs.Rules.{Rules}
 use Rattle.rules.specs.Fields.{Qso}
 use Rattle.rules.specs.Arguments.{Entry, entries, every}
 use Rattle.rules.specs.Judging.{classNumber, is, zeroTotals, verdictsOfLog, totalsOfLog}
 use Rattle.rules.specs.Writing.{recounted, Claim, claims, claimed, writtenArguments, writtenRecord, writtenRecords, writtenBack, unclaimedRecord, unclaimed}
-use Rattle.rules.specs.Demands.{WritingChangesOnlyTheNamed, WritingKeepsPoints}
+use Rattle.rules.specs.Demands.{WritingChangesOnlyTheNamed}
 use Rattle.rules.proofs.Tests.{and-r, and-i}
 use Rattle.rules.proofs.TextLaws.{plain, Some, parts-some, parts-plain, parts-joined}
 use Rattle.rules.proofs.FieldLaws.{Plain, digits-plain}
@@ -109,28 +109,9 @@ records-again [] qs = refl
 records-again (v ∷ vs) [] = refl
 records-again (v ∷ vs) (q ∷ qs) = ap {B = List Qso} (λ r. unclaimedRecord q ∷ r) (records-again vs qs)
 
-pub writing-changes : WritingChangesOnlyTheNamed
+pub writing-changes : (R : Rules) → WritingChangesOnlyTheNamed R
 unfolding unclaimed writtenBack
-writing-changes log =
+writing-changes R log =
     ap₂ (λ (ts : List Text) (qs : List Qso). record { arguments = ts; remarks = log .remarks; records = qs })
-    (arguments-again (claims digits (totalsOfLog base log)) (claims (λ n. []) zeroTotals) entries (log .arguments) (later-claims (λ n. []) (totalsOfLog base log) zeroTotals))
-    (records-again (verdictsOfLog base log) (log .records))
-
--- Points.
-not-duplicate : (c : Class) → (c ≡ Duplicate → ⊥) → is Duplicate c ≡ false
-unfolding is classNumber
-not-duplicate Credited h = refl
-not-duplicate Void h = refl
-not-duplicate Duplicate h = absurd (h refl)
-not-duplicate Error h = refl
-
-points-kept : (vs : List Verdict) (qs : List Qso) (j : ℕ) (v : Verdict) (q : Qso) → ((getD vs j v) .class ≡ Duplicate → ⊥) → (getD (writtenRecords vs qs) j q) .points ≡ (getD qs j q) .points
-unfolding writtenRecords writtenRecord
-points-kept [] qs j v q h = refl
-points-kept (w ∷ vs) [] j v q h = refl
-points-kept (w ∷ vs) (p ∷ qs) zero v q h = rw (not-duplicate (w .class) h)
-points-kept (w ∷ vs) (p ∷ qs) (suc j) v q h = points-kept vs qs j v q h
-
-pub writing-keeps-points : WritingKeepsPoints
-unfolding writtenBack verdictsOfLog
-writing-keeps-points log j h = points-kept (verdictsOfLog base log) (log .records) j _ _ h
+    (arguments-again (claims digits (totalsOfLog R log)) (claims (λ n. []) zeroTotals) entries (log .arguments) (later-claims (λ n. []) (totalsOfLog R log) zeroTotals))
+    (records-again (verdictsOfLog R log) (log .records))

@@ -103,12 +103,12 @@ points-kept [] qs = refl
 points-kept (v ∷ vs) [] = refl
 points-kept (v ∷ vs) (q ∷ qs) = ap₂ _+_ (class-points (v .class) (q .points)) (points-kept vs qs)
 
-totals-of-written : (d : Declared) (vs : List Verdict) (qs : List Qso) → totalsOf d (writtenRecords vs qs) vs ≡ totalsOf d qs vs
+totals-of-written : (R : Rules) (d : Declared) (vs : List Verdict) (qs : List Qso) → totalsOf R d (writtenRecords vs qs) vs ≡ totalsOf R d qs vs
 unfolding totalsOf
-totals-of-written d vs qs = rw (points-kept vs qs)
+totals-of-written R d vs qs = rw (points-kept vs qs)
 
 module _ (R : Rules) (log : Log) where
-  totals-by-verdicts : (l : Log) → totalsOfLog R l ≡ totalsOf (declared l) (l .records) (verdictsOfLog R l)
+  totals-by-verdicts : (l : Log) → totalsOfLog R l ≡ totalsOf R (declared l) (l .records) (verdictsOfLog R l)
   unfolding totalsOfLog totals verdictsOfLog
   totals-by-verdicts l = refl
 
@@ -119,7 +119,7 @@ module _ (R : Rules) (log : Log) where
   pub totals-kept : totalsOfLog R (writtenBack R log) ≡ totalsOfLog R log
   totals-kept =
       totals-by-verdicts (writtenBack R log)
-      ∙ rw (declared-kept R log, written-verdicts R log, written-records) (totals-of-written (declared log) (verdictsOfLog R log) (log .records))
+      ∙ rw (declared-kept R log, written-verdicts R log, written-records) (totals-of-written R (declared log) (verdictsOfLog R log) (log .records))
       ∙ sym (totals-by-verdicts log)
 
 -- Writing with given totals and verdicts.

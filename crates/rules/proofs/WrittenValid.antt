@@ -28,15 +28,15 @@ use Rattle.rules.proofs.WritingLaws.{parts-recounted}
 
 -- What has room in the places of the claims.
 pub record HaveRoom (t : Totals) : Type 0 where
-  pub credited : t .credited ≤ 9_999
-  pub points : t .points < 1_000_000_000
-  pub squares : t .squares ≤ 9_999
-  pub squarebonus : t .squarebonus < 10_000_000
-  pub exchanges : t .exchanges ≤ 9_999
-  pub exchangebonus : t .exchangebonus < 10_000_000
-  pub countries : t .countries ≤ 9_999
-  pub countrybonus : t .countrybonus < 10_000_000
-  pub total : t .total < 1_000_000_000_000_000
+  pub credited : t .credited ≤ base .mostCount
+  pub points : t .points < 10 ^ base .claimedPointsDigits
+  pub squares : t .squares ≤ base .mostCount
+  pub squarebonus : t .squarebonus < 10 ^ base .claimedBonusDigits
+  pub exchanges : t .exchanges ≤ base .mostCount
+  pub exchangebonus : t .exchangebonus < 10 ^ base .claimedBonusDigits
+  pub countries : t .countries ≤ base .mostCount
+  pub countrybonus : t .countrybonus < 10 ^ base .claimedBonusDigits
+  pub total : t .total < 10 ^ base .claimedTotalDigits
 
 -- A keyword line: its argument keeps its rule, and it keeps the rule of lines.
 record Good (e : Entry) (t : Text) : Type 0 where
@@ -47,7 +47,7 @@ record Good (e : Entry) (t : Text) : Type 0 where
 line-of : (k t : Text) → all allowed k ≡ true → length k ≤ 6 → all allowed t ≡ true → length t ≤ 69 → lineRule base (k ++ t) ≡ true
 unfolding lineRule base
 line-of k t a h b g =
-    and-i (le-leb (length (k ++ t)) 75 (simp length-append (omega arith))) (all-append allowed k t a b)
+    and-i (le-leb (length (k ++ t)) (base .longestLine) (simp length-append (omega arith))) (all-append allowed k t a b)
 
 -- Texts that keep rules have the room of the rules.
 abbrev RulesFit : List ℕ → List (Text → Bool) → Type 0
@@ -78,19 +78,19 @@ from-fits least most k h t e =
 
 count-fits : (t : Text) → count base t ≡ true → Fits 4 t
 unfolding count base
-count-fits t e = from-fits 0 9999 3 (omega arith) t e
+count-fits t e = from-fits 0 (base .mostCount) 3 (omega arith) t e
 
 bonus-fits : (t : Text) → bonus base t ≡ true → Fits 4 t
 unfolding bonus base
-bonus-fits t e = from-fits 0 9999 3 (omega arith) t e
+bonus-fits t e = from-fits 0 (base .mostBonus) 3 (omega arith) t e
 
 multiplier-fits : (t : Text) → multiplier base t ≡ true → Fits 2 t
 unfolding multiplier base
-multiplier-fits t e = from-fits 1 99 1 (omega arith) t e
+multiplier-fits t e = from-fits 1 (base .mostMultiplier) 1 (omega arith) t e
 
-digits-count : (n : ℕ) → n ≤ 9_999 → count base (digits n) ≡ true
+digits-count : (n : ℕ) → n ≤ base .mostCount → count base (digits n) ≡ true
 unfolding count base
-digits-count n h = digits-from 0 9999 n (omega arith) h
+digits-count n h = digits-from 0 (base .mostCount) n (omega arith) h
 
 -- An argument with another count keeps the rules of its parts, and is not too long.
 record Recounted (fs : List (Text → Bool)) (most : ℕ) (t : Text) : Type 0 where
@@ -121,13 +121,13 @@ module _ (word : Text) (characters : all allowed (word ++ bytes "=") ≡ true) (
   unfolding keywordStart
   word-line rule t a h = line-of (word ++ bytes "=") t characters short a h
 
-  two-parts : n ≤ 9_999 → (t : Text) → Good (at word countAndMultiplier) t → Good (at word countAndMultiplier) (recounted (digits n) t)
+  two-parts : n ≤ base .mostCount → (t : Text) → Good (at word countAndMultiplier) t → Good (at word countAndMultiplier) (recounted (digits n) t)
   unfolding meets
   two-parts h t g =
       let k = recounted-rightly (count base) (multiplier base ∷ []) (4 ∷ 2 ∷ []) (digits n) t (count-fits, (multiplier-fits, tt)) (digits-plain (digits n) (digits-all n)) (digits-count n h) (g .rule) in
       record { rule = k .rule; line = word-line countAndMultiplier (recounted (digits n) t) (k .characters) (omega (arith, k .short)) }
 
-  three-parts : n ≤ 9_999 → (t : Text) → Good (at word countBonusMultiplier) t → Good (at word countBonusMultiplier) (recounted (digits n) t)
+  three-parts : n ≤ base .mostCount → (t : Text) → Good (at word countBonusMultiplier) t → Good (at word countBonusMultiplier) (recounted (digits n) t)
   unfolding meets
   three-parts h t g =
       let k = recounted-rightly (count base) (bonus base ∷ multiplier base ∷ []) (4 ∷ 4 ∷ 2 ∷ []) (digits n) t (count-fits, (bonus-fits, (multiplier-fits, tt))) (digits-plain (digits n) (digits-all n)) (digits-count n h) (g .rule) in
@@ -137,15 +137,15 @@ module _ (word : Text) (characters : all allowed (word ++ bytes "=") ≡ true) (
   whole-number rule k h g e =
       record { rule = e; line = word-line rule (digits n) (digits-allowed (digits n) (digits-all n)) (omega (arith, digits-length k n g)) }
 
-  points-claim : n < 1_000_000_000 → Good (at word claimedPoints) (digits n)
+  points-claim : n < 10 ^ base .claimedPointsDigits → Good (at word claimedPoints) (digits n)
   unfolding meets base
   points-claim h = whole-number claimedPoints 8 (omega arith) (omega arith) (digits-of 8 n (omega arith))
 
-  bonus-claim : n < 10_000_000 → Good (at word claimedBonus) (digits n)
+  bonus-claim : n < 10 ^ base .claimedBonusDigits → Good (at word claimedBonus) (digits n)
   unfolding meets base
   bonus-claim h = whole-number claimedBonus 6 (omega arith) (omega arith) (digits-of 6 n (omega arith))
 
-  total-claim : n < 1_000_000_000_000_000 → Good (at word claimedTotal) (digits n)
+  total-claim : n < 10 ^ base .claimedTotalDigits → Good (at word claimedTotal) (digits n)
   unfolding meets base
   total-claim h = whole-number claimedTotal 14 (omega arith) (omega arith) (digits-of 14 n (omega arith))
 
@@ -426,7 +426,7 @@ module _ (log : Log) (h : HaveRoom (totalsOfLog base log)) where
       let k : ArgumentsKept entries ((writtenBack base log) .arguments) = rw (written-arguments log) (arguments-keep (claims digits (totalsOfLog base log)) entries (log .arguments) (entries-keep (totalsOfLog base log) h) (f .arguments)) in
       (kept-front (writtenBack base log) (record { first = f .first; arguments = k; behind = rw (written-remarks log) (f .behind) }), k .rules)
 
-  written-rightly : Rightly base log → length (render (writtenBack base log)) ≤ 65_535 → Rightly base (writtenBack base log)
+  written-rightly : Rightly base log → length (render (writtenBack base log)) ≤ base .longestLog → Rightly base (writtenBack base log)
   written-rightly r s =
       let new = writtenBack base log in
       let qs = log .records in
@@ -437,7 +437,7 @@ module _ (log : Log) (h : HaveRoom (totalsOfLog base log)) where
       let f = front-still before (r .rulesOfArguments) in
       let line : lineRule base (countLine (length (new .records))) ≡ true = rw number (every-first (lineRule base) (countLine (length qs)) (map recordLine qs) behind) in
       record {
-        short = unfold base in s;
+        short = s;
         lineRules = rw (lines-split new) (every-append (lineRule base) (front new) (countLine (length (new .records)) ∷ map recordLine (new .records)) (f .0) (every-more (lineRule base) (countLine (length (new .records))) (map recordLine (new .records)) line (records-lines (new .records) rules)));
         rulesOfArguments = f .1;
         remarkRules = rw (written-remarks log) (r .remarkRules);
@@ -446,5 +446,5 @@ module _ (log : Log) (h : HaveRoom (totalsOfLog base log)) where
       }
 
   -- The log that is written back from a valid log is valid, if it is not too long.
-  pub written-valid : T (valid base log) → length (render (writtenBack base log)) ≤ 65_535 → T (valid base (writtenBack base log))
+  pub written-valid : T (valid base log) → length (render (writtenBack base log)) ≤ base .longestLog → T (valid base (writtenBack base log))
   written-valid v s = holds (valid-of base (writtenBack base log) (written-rightly (of-valid base log (so (valid base log) v)) s))

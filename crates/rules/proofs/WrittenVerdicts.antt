@@ -11,7 +11,7 @@ use Rattle.rules.specs.Text.{Text, bytes, same}
 use Rattle.rules.specs.Rules.{Rules}
 use Rattle.rules.specs.Fields.{Qso, isError}
 use Rattle.rules.specs.Log.{Log}
-use Rattle.rules.specs.Judging.{is, classNumber, some, classOf, claimsPoints, square, isNew, claimsCountry, verdictOf, creditedAfter, verdictsAfter, verdicts, verdictsOfLog}
+use Rattle.rules.specs.Judging.{is, classNumber, some, sameCall, classOf, claimsPoints, square, isNew, claimsCountry, verdictOf, creditedAfter, verdictsAfter, verdicts, verdictsOfLog}
 use Rattle.rules.specs.Writing.{writtenRecord, writtenRecords, writtenBack}
 use Rattle.rules.proofs.Classes.{classBy}
 
@@ -42,8 +42,8 @@ module _ (R : Rules) where
     class-same : classOf R ds r ≡ classOf R cs q
     unfolding classOf isError claimsPoints
     class-same =
-        rw (calls, alike (λ c x l. R .sameCall c (q .call)))
-        (same-class (isError q) (some (λ e. R .sameCall (e .call) (q .call)) cs) (claimsPoints r) (claimsPoints q)
+        rw (calls, alike (λ c x l. sameCall R c (q .call)))
+        (same-class (isError q) (some (λ e. sameCall R (e .call) (q .call)) cs) (claimsPoints r) (claimsPoints q)
         (λ n. rw (points n)))
 
     exchange-same : isNew (λ e. e .exchange) ds r ≡ isNew (λ e. e .exchange) cs q

@@ -1,23 +1,25 @@
 -- What the table of cases asks, and how an answer is put in numbers.
 -- Assumes nothing.
 use Prim.Native.Nat.{ℕ}
+use Prim.Native.String.{String}
 use mathlib.Core.Bool.{Bool, true, false}
-use mathlib.Core.List.{List, [], _∷_, _++_, map}
-use lib.ListN.{length}
+use mathlib.Core.List.{List, [], _∷_, _++_, map, flatMap}
+use lib.ListN.{length, set}
 use Rattle.rules.specs.declared.Refusal.{Refusal}
 use Rattle.rules.specs.declared.Totals.{Totals}
 use Rattle.rules.specs.declared.Due.{Due}
 use Rattle.rules.specs.declared.Next.{Next}
 use Rattle.rules.specs.declared.Next.the-variants.{Goes, Stops}
-use Rattle.rules.specs.Text.{Text}
+use Rattle.rules.specs.Text.{Text, bytes}
 use Rattle.rules.specs.Rules.{base}
+use Rattle.rules.specs.Fields.{dayExists, fullYear}
 use Rattle.rules.specs.Arguments.{Rule, meets}
 use Rattle.rules.specs.Log.{Log, render, valid}
-use Rattle.rules.specs.Judging.{verdictNumber, verdictsOfLog, totalsOfLog}
-use Rattle.rules.specs.Writing.{writtenBack}
+use Rattle.rules.specs.Judging.{declared, verdictNumber, verdictsOfLog, totalsOfLog}
+use Rattle.rules.specs.Writing.{writtenBack, unclaimed}
 use Rattle.rules.specs.Reading.{FirstLine, aLine, noLine, firstLine, RecordRule, keeps, breaks, recordRule, Reading, accepted, refused, read, step}
-use Rattle.rules.specs.Answers.{view, refusalOfView, startOfView, viewed, judge, refusalOfJudgement, totalsOfJudgement, numbersOfJudgement, write, refusalOfWriting, bytesOfWriting, refusalOfReading, recordsOfReading}
-use Rattle.rules.specs.Striking.{Places, strike}
+use Rattle.rules.specs.Answers.{view, refusalOfView, startOfView, viewed, judge, refusalOfJudgement, totalsOfJudgement, numbersOfJudgement, write, refusalOfWriting, bytesOfWriting, refusalOfReading, recordsOfReading, over}
+use Rattle.rules.specs.Striking.{Places, strike, placeAfter, struckWorth}
 use Rattle.rules.specs.Desk.{desk}
 
 pub data Question : Type 0 where
@@ -25,6 +27,9 @@ pub data Question : Type 0 where
   hasLine : Text → Question
   -- of a line where this is due: 0 where it is taken, else the number and the field of the refusal
   leads : Due → Text → Question
+  -- of two digits: the year; of a year, a month and a day: 1 where the day is in the calendar, else 0
+  isYear : ℕ → Question
+  hasDay : ℕ → ℕ → ℕ → Question
   -- of an argument: 1 where it keeps its rule, else 0
   meetsRule : Rule → Text → Question
   -- of a record line: 0 where it is taken, else 5 and the field
@@ -33,6 +38,8 @@ pub data Question : Type 0 where
   isRead : Text → Question
   -- of an accepted log: whether it is valid and written as the text
   isLog : Text → Question
+  -- of an accepted log: 1 where it is valid after this change, else 0
+  isValidWith : (Log → Log) → Text → Question
   -- of a log and a slice of so many bytes: number, line, field and verdicts
   isJudged : ℕ → Text → Question
   -- of a log: the twelve totals; what the desk program writes
@@ -40,11 +47,21 @@ pub data Question : Type 0 where
   isShown : Text → Question
   -- of a log and a slice of so many bytes: number, line, field, and the bytes written
   isWritten : ℕ → Text → Question
+  -- of a log and a slice that holds this: what the slice holds after judging, and after writing
+  leavesJudging : List ℕ → Text → Question
+  leavesWriting : List ℕ → Text → Question
+  -- of an accepted log: its bytes with nothing in the places that writing back may change
+  isUnclaimed : Text → Question
   -- of a log and a keyword's number: number, line, field, start, and the argument
   isViewed : ℕ → Text → Question
   -- of a log with records struck: its total, and its verdicts; of a log written back and then struck
   isStruck : Places → Text → Question
   isWrittenAndStruck : Places → Text → Question
+  -- of a log with records struck: its bytes, and what the struck records are worth at the most
+  isStruckTo : Places → Text → Question
+  isWorth : Places → Text → Question
+  -- of struck places and a place: the place that the record there has afterwards
+  comesToStand : Places → ℕ → Question
 
 abbrev truth : Bool → List ℕ
 truth true = 1 ∷ []
@@ -95,22 +112,47 @@ unfolding read base render strike totalsOfLog verdictsOfLog verdictNumber
 afterStrike struck log = ofLog judgedIn (read base (render (strike struck log)))
 
 unfoldable pub answer : Question → List ℕ
-unfolding firstLine step meets recordRule read refusalOfReading recordsOfReading valid render judge refusalOfJudgement numbersOfJudgement totalsOfJudgement desk write refusalOfWriting bytesOfWriting view refusalOfView startOfView viewed afterStrike writtenBack base
+unfolding firstLine step dayExists fullYear meets recordRule read refusalOfReading recordsOfReading valid render judge refusalOfJudgement numbersOfJudgement totalsOfJudgement desk write refusalOfWriting bytesOfWriting over unclaimed view refusalOfView startOfView viewed afterStrike writtenBack strike struckWorth declared verdictsOfLog placeAfter base
 answer (hasLine s) = lineIn (firstLine base s)
 answer (leads due l) = nextIn (step base due l)
+answer (isYear yy) = fullYear yy ∷ []
+answer (hasDay year month day) = truth (dayExists year month day)
 answer (meetsRule rule t) = truth (meets base rule t)
 answer (isRecord l) = recordIn (recordRule base l)
 answer (isRead s) = let r = read base s in paper (refusalOfReading r) ++ recordsOfReading r ∷ []
 answer (isLog s) = ofLog (λ log. truth (valid base log) ++ render log) (read base s)
+answer (isValidWith change s) = ofLog (λ log. truth (valid base (change log))) (read base s)
 answer (isJudged room s) = let j = judge base room s in paper (refusalOfJudgement j) ++ numbersOfJudgement j
 answer (comesTo s) = sums (totalsOfJudgement (judge base 999 s))
 answer (isShown s) = desk base s
 answer (isWritten room s) = let w = write base room s in paper (refusalOfWriting w) ++ bytesOfWriting w
+answer (leavesJudging slice s) = over (numbersOfJudgement (judge base (length slice) s)) slice
+answer (leavesWriting slice s) = over (bytesOfWriting (write base (length slice) s)) slice
+answer (isUnclaimed s) = ofLog (λ log. render (unclaimed log)) (read base s)
 answer (isViewed k s) = let v = view base k s in paper (refusalOfView v) ++ startOfView v ∷ viewed v
 answer (isStruck struck s) = ofLog (λ log. afterStrike struck log) (read base s)
 answer (isWrittenAndStruck struck s) = ofLog (λ log. afterStrike struck (writtenBack base log)) (read base s)
+answer (isStruckTo struck s) = ofLog (λ log. render (strike struck log)) (read base s)
+answer (isWorth struck s) =
+    ofLog (λ log. struckWorth (declared log) struck (log .records) (verdictsOfLog base log) ∷ []) (read base s)
+answer (comesToStand struck n) = placeAfter struck n ∷ []
 
 -- A question and what is to be answered.
 pub record Case : Type 0 where
   pub asked : Question
   pub says : List ℕ
+
+abbrev pub case : Question → List ℕ → Case
+case asked says = record { asked = asked; says = says }
+
+-- The same answer to a question of each of these texts.
+abbrev pub ask : (Text → Question) → List ℕ → List Text → List Case
+ask question says ts = map (λ t. case (question t) says) ts
+
+abbrev pub texts : List String → List Text
+texts ss = map bytes ss
+
+-- The text with each of these characters at each of these places, the first of which is 0.
+unfoldable pub varied : Text → List ℕ → List ℕ → List Text
+unfolding flatMap
+varied t places codes = flatMap (λ place. map (λ c. set t place c) codes) places

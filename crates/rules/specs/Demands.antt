@@ -1,34 +1,38 @@
 -- The three demands of document 00, sentence by sentence, as statements over the definitions. They are proved elsewhere; here one reads what
 -- is claimed. `A ↔ B` is "A exactly when B", `A ⊎ B` "A or B", `A → ⊥` "not A", `T b` "the test b holds".
 -- Assumes nothing.
-use Prim.Native.Nat.{ℕ, _+_, _*_, _≤_, _<_}
+use Prim.Native.Nat.{ℕ, zero, suc, _+_, _*_, _-_, _^_, _≤_, _<_}
+use Prim.Native.String.{String}
 use mathlib.Core.Path.{_≡_}
 use mathlib.Core.Logic.{_⊎_, _↔_}
-use mathlib.Core.Bool.{Bool, false, not}
-use mathlib.Core.List.{List, []}
+use mathlib.Core.Bool.{Bool, false, cond, not}
+use mathlib.Core.List.{List, [], _∷_}
 use lib.Dec.{T}
-use lib.ListN.{length, getD}
+use lib.ListN.{length, getD, take, drop}
 use Rattle.rules.specs.declared.Refusal.{Refusal}
 use Rattle.rules.specs.declared.Class.{Class}
 use Rattle.rules.specs.declared.Class.the-variants.{Credited, Void, Duplicate, Error}
 use Rattle.rules.specs.declared.Verdict.{Verdict}
-use Rattle.rules.specs.Text.{Text, same, empty}
+use Rattle.rules.specs.declared.Totals.{Totals}
+use Rattle.rules.specs.Text.{Text, bytes, same, empty, parts, value, digits}
 use Rattle.rules.specs.Rules.{Rules, base}
-use Rattle.rules.specs.Fields.{Qso, isError}
-use Rattle.rules.specs.Log.{Log, valid, render, IsWrittenAs, FollowsTheFormat}
-use Rattle.rules.specs.Judging.{claimsPoints, square, claimsCountry, verdicts, multipliers, declared, verdictsOfLog, totalsOfLog, zeroTotals}
+use Rattle.rules.specs.Fields.{Qso, isError, fieldsOf}
+use Rattle.rules.specs.Arguments.{among}
+use Rattle.rules.specs.Log.{Log, argument, valid, render, IsWrittenAs, FollowsTheFormat}
+use Rattle.rules.specs.Judging.{Declared, is, claimsPoints, sameCall, square, exchangeOf, claimsCountry, verdicts, multipliers, declared, verdictsOfLog, totalsOfLog, zeroTotals}
 use Rattle.rules.specs.Writing.{writtenBack, unclaimed}
 use Rattle.rules.specs.Reading.{accepted, refused, refusal, lines, read}
-use Rattle.rules.specs.Answers.{unseen, view, startOfView, viewed, unjudged, judge, totalsOfJudgement, numbersOfJudgement, written, unwritten, write, bytesOfWriting, over}
+use Rattle.rules.specs.Answers.{recordsOfReading, unseen, view, startOfView, viewed, unjudged, judge, totalsOfJudgement, numbersOfJudgement, written, unwritten, write, bytesOfWriting, over}
+use Rattle.rules.specs.Given.{GivenExactlyWhen, ZeroWhenAccepted, LineAndFieldToldRightly}
 use Rattle.rules.specs.Striking.{Places, strike, placeAfter, struckWorth}
 
 -- # Demand 1
 
 -- "Every input gets an answer." What is answered is a function of the text, of the keyword's number and of the slice, with no condition on
 -- them: "No caller has to check first." Of a text, the answer is the log that it is, or a refusal.
-abbrev pub EveryInputGetsAnAnswer : Type 0
-EveryInputGetsAnAnswer =
-    (s : Text) → ((log : Log) × (read base s ≡ accepted log)) ⊎ ((r : Refusal) × (read base s ≡ refused r))
+abbrev pub EveryInputGetsAnAnswer : Rules → Type 0
+EveryInputGetsAnAnswer R =
+    (s : Text) → ((log : Log) × (read R s ≡ accepted log)) ⊎ ((r : Refusal) × (read R s ≡ refused r))
 
 -- "A file that breaks the rules is refused with a number, a line and a field": 1 with no line and no field, where it is too long; otherwise 2
 -- to 6 with a line of the text, or the one that is missing behind them, and with a field, one of fifteen or none, in 5 alone.
@@ -38,47 +42,52 @@ pub record OfALine (lines : ℕ) (r : Refusal) : Type 0 where
   pub field : r .field ≤ 15
   pub inFiveAlone : (r .number ≡ 5 → ⊥) → r .field ≡ 0
 
-abbrev pub RefusedWithNumberLineField : Type 0
-RefusedWithNumberLineField =
+abbrev pub RefusedWithNumberLineField : Rules → Type 0
+RefusedWithNumberLineField R =
     (s : Text) (r : Refusal) →
-    read base s ≡ refused r →
-    (r ≡ refusal 1 0 0) ⊎ OfALine (length ((lines base s) .whole)) r
+    read R s ≡ refused r →
+    (r ≡ refusal 1 0 0) ⊎ OfALine (length ((lines R s) .whole)) r
 
 -- "the totals are then zero and lent memory is as it was handed over", of each call that can be refused.
-abbrev pub RefusedJudgingChangesNothing : Type 0
-RefusedJudgingChangesNothing =
+abbrev pub RefusedJudgingChangesNothing : Rules → Type 0
+RefusedJudgingChangesNothing R =
     (s : Text) (slice : List ℕ) (r : Refusal) →
-    judge base (length slice) s ≡ unjudged r →
-    (totalsOfJudgement (judge base (length slice) s) ≡ zeroTotals)
-    × (over (numbersOfJudgement (judge base (length slice) s)) slice ≡ slice)
+    judge R (length slice) s ≡ unjudged r →
+    (totalsOfJudgement (judge R (length slice) s) ≡ zeroTotals)
+    × (over (numbersOfJudgement (judge R (length slice) s)) slice ≡ slice)
 
-abbrev pub RefusedWritingChangesNothing : Type 0
-RefusedWritingChangesNothing =
+abbrev pub RefusedWritingChangesNothing : Rules → Type 0
+RefusedWritingChangesNothing R =
     (s : Text) (slice : List ℕ) (r : Refusal) →
-    write base (length slice) s ≡ unwritten r →
-    (length (bytesOfWriting (write base (length slice) s)) ≡ 0)
-    × (over (bytesOfWriting (write base (length slice) s)) slice ≡ slice)
+    write R (length slice) s ≡ unwritten r →
+    (length (bytesOfWriting (write R (length slice) s)) ≡ 0)
+    × (over (bytesOfWriting (write R (length slice) s)) slice ≡ slice)
 
-abbrev pub RefusedViewIsEmpty : Type 0
-RefusedViewIsEmpty =
+abbrev pub RefusedViewIsEmpty : Rules → Type 0
+RefusedViewIsEmpty R =
     (s : Text) (k : ℕ) (r : Refusal) →
-    view base k s ≡ unseen r →
-    (startOfView (view base k s) ≡ 0) × (viewed (view base k s) ≡ [])
+    view R k s ≡ unseen r →
+    (startOfView (view R k s) ≡ 0) × (viewed (view R k s) ≡ [])
+
+abbrev pub RefusedReadingHasNoRecords : Rules → Type 0
+RefusedReadingHasNoRecords R =
+    (s : Text) (r : Refusal) → read R s ≡ refused r → recordsOfReading (read R s) ≡ 0
 
 -- One statement of it: whatever is refused changes nothing and shows nothing.
-pub record ARefusalChangesNothing : Type 0 where
-  pub judging : RefusedJudgingChangesNothing
-  pub writing : RefusedWritingChangesNothing
-  pub viewing : RefusedViewIsEmpty
+pub record ARefusalChangesNothing (R : Rules) : Type 0 where
+  pub reading : RefusedReadingHasNoRecords R
+  pub judging : RefusedJudgingChangesNothing R
+  pub writing : RefusedWritingChangesNothing R
+  pub viewing : RefusedViewIsEmpty R
 
 -- # Demand 2
 
 -- "A file is accepted exactly when it follows the format as document 01 fixes it", and it is read as the log that it is written from.
-abbrev pub AcceptedExactlyWhenWritten : Type 0
-AcceptedExactlyWhenWritten = (s : Text) (log : Log) → (read base s ≡ accepted log) ↔ IsWrittenAs base s log
+abbrev pub AcceptedExactlyWhenWritten : Rules → Type 0
+AcceptedExactlyWhenWritten R = (s : Text) (log : Log) → (read R s ≡ accepted log) ↔ IsWrittenAs R s log
 
-abbrev pub AcceptedExactlyWhenFormat : Type 0
-AcceptedExactlyWhenFormat = (s : Text) → ((log : Log) × (read base s ≡ accepted log)) ↔ FollowsTheFormat base s
+abbrev pub AcceptedExactlyWhenFormat : Rules → Type 0
+AcceptedExactlyWhenFormat R = (s : Text) → ((log : Log) × (read R s ≡ accepted log)) ↔ FollowsTheFormat R s
 
 -- The record and the verdict at a place of a list, the first of which is 0.
 abbrev pub qsoAt : List Qso → ℕ → Qso
@@ -115,13 +124,17 @@ SomeEarlierCredited R qs f j =
     (i : ℕ) × (i < j) × (classAt R qs i ≡ Credited) × T (f (qsoAt qs i) (qsoAt qs j))
 
 abbrev pub sameCallAs : Rules → Qso → Qso → Bool
-sameCallAs R e q = R .sameCall (e .call) (q .call)
+sameCallAs R e q = sameCall R (e .call) (q .call)
+
+-- "the same call, byte for byte"
+abbrev pub CallsAreComparedByteForByte : Type 0
+CallsAreComparedByteForByte = (call other : Text) → T (sameCall base call other) ↔ (call ≡ other)
 
 abbrev pub sameSquareAs : Qso → Qso → Bool
 sameSquareAs e q = same (square e) (square q)
 
-abbrev pub sameExchangeAs : Qso → Qso → Bool
-sameExchangeAs e q = same (e .exchange) (q .exchange)
+abbrev pub sameExchangeAs : Rules → Qso → Qso → Bool
+sameExchangeAs R e q = same (exchangeOf R e) (exchangeOf R q)
 
 -- "Each record's class, each mark and the total are those the document defines": the classes and marks of the record at a place, in terms of
 -- the classes before it.
@@ -143,68 +156,168 @@ pub record AsTheDocumentDefines (R : Rules) (qs : List Qso) (j : ℕ) : Type 0 w
   pub newExchange :
       T ((verdictAt R qs j) .exchange)
       ↔ ((classAt R qs j ≡ Credited)
-      × T (not (empty ((qsoAt qs j) .exchange)))
-      × (SomeEarlierCredited R qs sameExchangeAs j → ⊥))
+      × T (not (empty (exchangeOf R (qsoAt qs j))))
+      × (SomeEarlierCredited R qs (sameExchangeAs R) j → ⊥))
   pub newCountry : T ((verdictAt R qs j) .country) ↔ ((classAt R qs j ≡ Credited) × T (claimsCountry (qsoAt qs j)))
 
-abbrev pub ClassesAndMarksAsDefined : Type 0
-ClassesAndMarksAsDefined = (qs : List Qso) (j : ℕ) → j < length qs → AsTheDocumentDefines base qs j
+abbrev pub ClassesAndMarksAsDefined : Rules → Type 0
+ClassesAndMarksAsDefined R = (qs : List Qso) (j : ℕ) → j < length qs → AsTheDocumentDefines R qs j
 
--- "So four counts .. add up to N", and "It is at most 998,404,684,715,196", of every log that is accepted.
-abbrev pub FourCountsAddUp : Type 0
-FourCountsAddUp =
+-- "and the total": the sum of a number over the first so many places, and how many of them pass a test.
+unfoldable pub sumOver : ℕ → (ℕ → ℕ) → ℕ
+sumOver zero f = 0
+sumOver (suc n) f = f 0 + sumOver n (λ j. f (suc j))
+
+abbrev pub howMany : ℕ → (ℕ → Bool) → ℕ
+howMany n test = sumOver n (λ j. cond (test j) 1 0)
+
+-- "So four counts, each defined over the list of records"; "Countries are counted by the claimed New-DXCC marks on credited records. P is the
+-- sum of credited points. A bonus is the number of new ones times the declared bonus. Total = (P + three bonuses) x the three declared
+-- multipliers of CWWLs, CExcs and CDXCs".
+pub record TotalsAre (R : Rules) (d : Declared) (qs : List Qso) (t : Totals) : Type 0 where
+  pub credited : t .credited ≡ howMany (length qs) (λ j. is Credited (classAt R qs j))
+  pub voids : t .voids ≡ howMany (length qs) (λ j. is Void (classAt R qs j))
+  pub duplicates : t .duplicates ≡ howMany (length qs) (λ j. is Duplicate (classAt R qs j))
+  pub errors : t .errors ≡ howMany (length qs) (λ j. is Error (classAt R qs j))
+  pub points :
+      t .points ≡ sumOver (length qs) (λ j. cond (is Credited (classAt R qs j)) (value ((qsoAt qs j) .points)) 0)
+  pub squares : t .squares ≡ howMany (length qs) (λ j. (verdictAt R qs j) .square)
+  pub exchanges : t .exchanges ≡ howMany (length qs) (λ j. (verdictAt R qs j) .exchange)
+  pub countries : t .countries ≡ howMany (length qs) (λ j. (verdictAt R qs j) .country)
+  pub squarebonus : t .squarebonus ≡ t .squares * d .squareBonus
+  pub exchangebonus : t .exchangebonus ≡ t .exchanges * d .exchangeBonus
+  pub countrybonus : t .countrybonus ≡ t .countries * d .countryBonus
+  pub total :
+      t .total
+      ≡ (t .points + t .squarebonus + t .exchangebonus + t .countrybonus)
+      * (d .squareMultiplier * d .exchangeMultiplier * d .countryMultiplier)
+
+-- "CWWLs, CExcs, CDXCs: count, bonus, multiplier"
+abbrev pub Declares : Log → String → ℕ → ℕ → Type 0
+Declares log keyword bonus multiplier =
+    (count second third : Text) →
+    parts (argument log (bytes keyword)) ≡ count ∷ second ∷ third ∷ [] →
+    (bonus ≡ value second) × (multiplier ≡ value third)
+
+pub record DeclaredIs (log : Log) (d : Declared) : Type 0 where
+  pub squares : Declares log "CWWLs" (d .squareBonus) (d .squareMultiplier)
+  pub exchanges : Declares log "CExcs" (d .exchangeBonus) (d .exchangeMultiplier)
+  pub countries : Declares log "CDXCs" (d .countryBonus) (d .countryMultiplier)
+
+abbrev pub TotalsAsDefined : Rules → Type 0
+TotalsAsDefined R =
+    (log : Log) → TotalsAre R (declared log) (log .records) (totalsOfLog R log) × DeclaredIs log (declared log)
+
+-- "So four counts .. add up to N", and "It is at most ..", of every log that is accepted.
+abbrev pub FourCountsAddUp : Rules → Type 0
+FourCountsAddUp R =
     (log : Log) →
-    (totalsOfLog base log) .credited
-    + (totalsOfLog base log) .voids
-    + (totalsOfLog base log) .duplicates
-    + (totalsOfLog base log) .errors
+    (totalsOfLog R log) .credited
+    + (totalsOfLog R log) .voids
+    + (totalsOfLog R log) .duplicates
+    + (totalsOfLog R log) .errors
     ≡ length (log .records)
 
-abbrev pub TotalIsBounded : Type 0
-TotalIsBounded =
-    (s : Text) (log : Log) → read base s ≡ accepted log → (totalsOfLog base log) .total ≤ 998_404_684_715_196
+-- The most that so many records can come to, each with the most points and all three bonuses at their most, times three multipliers.
+unfoldable pub mostTotal : Rules → ℕ
+mostTotal R =
+    (R .mostRecords * (10 ^ R .pointsDigits - 1)
+    + R .mostRecords * R .mostBonus
+    + R .mostRecords * R .mostBonus
+    + R .mostRecords * R .mostBonus)
+    * (R .mostMultiplier * R .mostMultiplier * R .mostMultiplier)
 
--- "Writing back changes only the claims, points and marks named there": without them the two logs are one; and the points change on
--- duplicates alone.
-abbrev pub WritingChangesOnlyTheNamed : Type 0
-WritingChangesOnlyTheNamed = (log : Log) → unclaimed (writtenBack base log) ≡ unclaimed log
+abbrev pub TotalIsBounded : Rules → Type 0
+TotalIsBounded R = (s : Text) (log : Log) → read R s ≡ accepted log → (totalsOfLog R log) .total ≤ mostTotal R
 
-abbrev pub WritingKeepsPoints : Type 0
-WritingKeepsPoints =
-    (log : Log) (j : ℕ) →
-    (classAt base (log .records) j ≡ Duplicate → ⊥) →
-    (qsoAt ((writtenBack base log) .records) j) .points ≡ (qsoAt (log .records) j) .points
+-- "Writing back changes only the claims, points and marks named there": without them the two logs are one.
+abbrev pub WritingChangesOnlyTheNamed : Rules → Type 0
+WritingChangesOnlyTheNamed R = (log : Log) → unclaimed (writtenBack R log) ≡ unclaimed log
+
+-- And the named become what they are named to become. A text is the one where something holds, and else the other.
+abbrev pub IsWhere : Type 0 → Text → Text → Text → Type 0
+IsWhere P text one other = (P → text ≡ one) × ((P → ⊥) → text ≡ other)
+
+-- "In each record New-Exchange and New-WWL become the judged marks, New-DXCC is kept on credited records and emptied elsewhere, the last field
+-- is `D` exactly on duplicates, and a duplicate's points become 0"; the ten fields in front of them are copied.
+pub record RecordIsSet (v : Verdict) (before after : Qso) : Type 0 where
+  pub copied : take 10 (fieldsOf after) ≡ take 10 (fieldsOf before)
+  pub points : IsWhere (v .class ≡ Duplicate) (after .points) (bytes "0") (before .points)
+  pub newExchange : IsWhere (T (v .exchange)) (after .newExchange) (bytes "N") []
+  pub newSquare : IsWhere (T (v .square)) (after .newSquare) (bytes "N") []
+  pub newCountry : IsWhere (v .class ≡ Credited) (after .newCountry) (before .newCountry) []
+  pub duplicate : IsWhere (v .class ≡ Duplicate) (after .duplicate) (bytes "D") []
+
+-- A count becomes this number, and what stands behind it, bonus and multiplier, is kept; a whole claim becomes this number.
+abbrev pub CountBecomes : Log → Log → String → ℕ → Type 0
+CountBecomes before after keyword n =
+    parts (argument after (bytes keyword)) ≡ digits n ∷ drop 1 (parts (argument before (bytes keyword)))
+
+abbrev pub ClaimBecomes : Log → String → ℕ → Type 0
+ClaimBecomes after keyword n = argument after (bytes keyword) ≡ digits n
+
+-- "the counts in CQSOs, CWWLs, CExcs, CDXCs, and CQSOP, CWWLB, CExcB, CDXCB and CToSc, become the recomputed ones."
+pub record ClaimsAreSet (t : Totals) (before after : Log) : Type 0 where
+  pub contacts : CountBecomes before after "CQSOs" (t .credited)
+  pub points : ClaimBecomes after "CQSOP" (t .points)
+  pub squares : CountBecomes before after "CWWLs" (t .squares)
+  pub squarebonus : ClaimBecomes after "CWWLB" (t .squarebonus)
+  pub exchanges : CountBecomes before after "CExcs" (t .exchanges)
+  pub exchangebonus : ClaimBecomes after "CExcB" (t .exchangebonus)
+  pub countries : CountBecomes before after "CDXCs" (t .countries)
+  pub countrybonus : ClaimBecomes after "CDXCB" (t .countrybonus)
+  pub total : ClaimBecomes after "CToSc" (t .total)
+
+unfoldable pub theNine : List Text
+theNine =
+    bytes "CQSOs"
+    ∷ bytes "CQSOP"
+    ∷ bytes "CWWLs"
+    ∷ bytes "CWWLB"
+    ∷ bytes "CExcs"
+    ∷ bytes "CExcB"
+    ∷ bytes "CDXCs"
+    ∷ bytes "CDXCB"
+    ∷ bytes "CToSc"
+    ∷ []
+
+-- "Every byte is copied but these"
+pub record NamedAreSet (R : Rules) (before after : Log) : Type 0 where
+  pub claims : ClaimsAreSet (totalsOfLog R before) before after
+  pub otherArguments :
+      (keyword : Text) → T (not (among theNine keyword)) → argument after keyword ≡ argument before keyword
+  pub remarks : after .remarks ≡ before .remarks
+  pub asMany : length (after .records) ≡ length (before .records)
+  pub eachRecord :
+      (j : ℕ) →
+      j < length (before .records) →
+      RecordIsSet (verdictAt R (before .records) j) (qsoAt (before .records) j) (qsoAt (after .records) j)
+
+abbrev pub WritingSetsTheNamed : Rules → Type 0
+WritingSetsTheNamed R = (log : Log) → T (valid R log) → NamedAreSet R log (writtenBack R log)
 
 -- "and a log so written reads to the same classes and total and is written back unchanged."
-pub record WrittenReadsTheSame (log : Log) (t : Text) : Type 0 where
-  pub reads : read base t ≡ accepted (writtenBack base log)
-  pub sameVerdicts : verdictsOfLog base (writtenBack base log) ≡ verdictsOfLog base log
-  pub sameTotals : totalsOfLog base (writtenBack base log) ≡ totalsOfLog base log
-  pub unchanged : (room : ℕ) → length t ≤ room → write base room t ≡ written t
+pub record WrittenReadsTheSame (R : Rules) (log : Log) (t : Text) : Type 0 where
+  pub reads : read R t ≡ accepted (writtenBack R log)
+  pub sameVerdicts : verdictsOfLog R (writtenBack R log) ≡ verdictsOfLog R log
+  pub sameTotals : totalsOfLog R (writtenBack R log) ≡ totalsOfLog R log
+  pub unchanged : (room : ℕ) → length t ≤ room → write R room t ≡ written t
 
-abbrev pub WritingBackIsStable : Type 0
-WritingBackIsStable =
+abbrev pub WritingBackIsStable : Rules → Type 0
+WritingBackIsStable R =
     (s : Text) (log : Log) (room : ℕ) (t : Text) →
-    read base s ≡ accepted log →
-    write base room s ≡ written t →
-    WrittenReadsTheSame log t
+    read R s ≡ accepted log →
+    write R room s ≡ written t →
+    WrittenReadsTheSame R log t
 
--- An accepted log is refused 8 exactly where what it is written as is too long, for a log or for the slice.
-abbrev pub WritingIsRefusedForLength : Type 0
-WritingIsRefusedForLength =
-    (s : Text) (log : Log) (room : ℕ) →
-    read base s ≡ accepted log →
-    (write base room s ≡ unwritten (refusal 8 0 0))
-    ↔ ((65_535 < length (render (writtenBack base log))) ⊎ (room < length (render (writtenBack base log))))
-
--- # Demand 3, over any sameness of calls
+-- # Demand 3, whatever the home part of a call is
 
 -- "Strike any set of records from an accepted log and correct the count line": what is written so is accepted.
-abbrev pub StruckIsAccepted : Type 0
-StruckIsAccepted =
+abbrev pub StruckIsAccepted : Rules → Type 0
+StruckIsAccepted R =
     (s : Text) (log : Log) (struck : Places) →
-    read base s ≡ accepted log →
-    read base (render (strike struck log)) ≡ accepted (strike struck log)
+    read R s ≡ accepted log →
+    read R (render (strike struck log)) ≡ accepted (strike struck log)
 
 -- The class that a record which is not struck has once the others are.
 abbrev pub classStruck : Rules → Log → Places → ℕ → Class
@@ -259,24 +372,11 @@ pub record StrikesCheaply (R : Rules) (log : Log) (struck : Places) : Type 0 whe
       ≤ (totalsOfLog R (strike struck log)) .total
       + struckWorth (declared log) struck (log .records) (verdictsOfLog R log) * multipliers (declared log)
 
--- The sameness of calls is an equivalence.
-pub record SamenessOfCalls (R : Rules) : Type 0 where
-  pub reflexive : (a : Text) → T (R .sameCall a a)
-  pub symmetric : (a b : Text) → T (R .sameCall a b) → T (R .sameCall b a)
-  pub transitive : (a b c : Text) → T (R .sameCall a b) → T (R .sameCall b c) → T (R .sameCall a c)
-
 abbrev pub StrikingRule : Rules → Type 0
 StrikingRule R =
     (log : Log) (struck : Places) →
     T (valid R log) →
     StrikesRightly R log struck × (DuplicatesClaimNothing R log → StrikesCheaply R log struck)
-
--- What is claimed: of any sameness of calls, and so of the base rules.
-abbrev pub StrikingRuleForAnySameness : Type 0
-StrikingRuleForAnySameness = (R : Rules) → SamenessOfCalls R → StrikingRule R
-
-abbrev pub StrikingRuleForTheBase : Type 0
-StrikingRuleForTheBase = StrikingRule base
 
 -- The premise is needed: some accepted log has a total that rises by a strike.
 abbrev pub PremiseIsNeeded : Type 0
@@ -289,20 +389,28 @@ PremiseIsNeeded =
 
 -- # All of it
 
-pub record TheThreeDemands : Type 0 where
-  pub everyInputGetsAnAnswer : EveryInputGetsAnAnswer
-  pub refusedWithNumberLineField : RefusedWithNumberLineField
-  pub aRefusalChangesNothing : ARefusalChangesNothing
-  pub acceptedExactlyWhenWritten : AcceptedExactlyWhenWritten
-  pub acceptedExactlyWhenFormat : AcceptedExactlyWhenFormat
-  pub classesAndMarksAsDefined : ClassesAndMarksAsDefined
-  pub fourCountsAddUp : FourCountsAddUp
-  pub totalIsBounded : TotalIsBounded
-  pub writingChangesOnlyTheNamed : WritingChangesOnlyTheNamed
-  pub writingKeepsPoints : WritingKeepsPoints
-  pub writingBackIsStable : WritingBackIsStable
-  pub writingIsRefusedForLength : WritingIsRefusedForLength
-  pub struckIsAccepted : StruckIsAccepted
-  pub strikingRuleForAnySameness : StrikingRuleForAnySameness
-  pub strikingRuleForTheBase : StrikingRuleForTheBase
+pub record TheThreeDemands (R : Rules) : Type 0 where
+  pub everyInputGetsAnAnswer : EveryInputGetsAnAnswer R
+  pub refusedWithNumberLineField : RefusedWithNumberLineField R
+  pub givenExactlyWhen : GivenExactlyWhen R
+  pub zeroWhenAccepted : ZeroWhenAccepted R
+  pub lineAndFieldToldRightly : LineAndFieldToldRightly R
+  pub aRefusalChangesNothing : ARefusalChangesNothing R
+  pub acceptedExactlyWhenWritten : AcceptedExactlyWhenWritten R
+  pub acceptedExactlyWhenFormat : AcceptedExactlyWhenFormat R
+  pub classesAndMarksAsDefined : ClassesAndMarksAsDefined R
+  pub totalsAsDefined : TotalsAsDefined R
+  pub fourCountsAddUp : FourCountsAddUp R
+  pub totalIsBounded : TotalIsBounded R
+  pub writingChangesOnlyTheNamed : WritingChangesOnlyTheNamed R
+  pub writingSetsTheNamed : WritingSetsTheNamed R
+  pub writingBackIsStable : WritingBackIsStable R
+  pub struckIsAccepted : StruckIsAccepted R
+  pub strikingRule : StrikingRule R
+
+-- Of the base rules besides: "the same call, byte for byte", "It is at most 998,404,684,715,196", and that the premise is needed.
+pub record TheBaseKeepsThem : Type 0 where
+  pub theThreeDemands : TheThreeDemands base
+  pub callsAreComparedByteForByte : CallsAreComparedByteForByte
+  pub theMostTotal : mostTotal base ≡ 998_404_684_715_196
   pub premiseIsNeeded : PremiseIsNeeded

@@ -147,6 +147,20 @@ unfoldable pub pointsRule : Rules → Qso → Bool
 unfolding numberOf isError same
 pointsRule R q = numberOf (R .pointsDigits) (q .points) && (not (isError q) || same (q .points) (bytes "0"))
 
+-- The rules of the mode, of the two QSO numbers and of the received exchange, each by the record that it stands in.
+abbrev pub modeRule : Rules → Qso → Bool
+modeRule R q = mode (q .mode)
+
+abbrev pub sentNumberRule : Rules → Qso → Bool
+sentNumberRule R q = serial (q .sentNumber)
+
+abbrev pub receivedNumberRule : Rules → Qso → Bool
+receivedNumberRule R q = serial (q .receivedNumber)
+
+-- "Exchange as PExch."
+abbrev pub receivedExchangeRule : Rules → Qso → Bool
+receivedExchangeRule R q = exchange R (q .exchange)
+
 -- Whether each of the fifteen fields keeps its rule, from the first to the last.
 unfoldable pub fieldRules : Rules → Qso → List Bool
 unfolding dateRule timeOfDay call mode report serial exchange emptyOr locator pointsRule same newMark duplicateMark
@@ -154,12 +168,12 @@ fieldRules R q =
     dateRule q
     ∷ timeOfDay (q .time)
     ∷ call (q .call)
-    ∷ mode (q .mode)
+    ∷ modeRule R q
     ∷ report (q .sentReport)
-    ∷ serial (q .sentNumber)
+    ∷ sentNumberRule R q
     ∷ report (q .receivedReport)
-    ∷ serial (q .receivedNumber)
-    ∷ exchange R (q .exchange)
+    ∷ receivedNumberRule R q
+    ∷ receivedExchangeRule R q
     ∷ emptyOr locator (q .locator)
     ∷ pointsRule R q
     ∷ emptyOr (same newMark) (q .newExchange)

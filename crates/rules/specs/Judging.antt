@@ -36,21 +36,29 @@ unfoldable pub claimsPoints : Qso → Bool
 unfolding value
 claimsPoints q = not (eqb (value (q .points)) 0)
 
+-- "has the same call, byte for byte": by the rules of document 01 the home part of a call is the call.
+abbrev pub sameCall : Rules → Text → Text → Bool
+sameCall R call other = same (R .home call) (R .home other)
+
 -- The class of a record after these credited ones:
 -- "Error: the call is ERROR."
 -- "Duplicate: otherwise, if some earlier credited record has the same call, byte for byte."
 -- "Void: otherwise, if points are 0."
 -- "Credited: otherwise."
 unfoldable pub classOf : Rules → List Qso → Qso → Class
-unfolding isError some claimsPoints
+unfolding isError some claimsPoints same
 classOf R credited q =
     cond (isError q) Error
-    (cond (some (λ e. R .sameCall (e .call) (q .call)) credited) Duplicate
+    (cond (some (λ e. sameCall R (e .call) (q .call)) credited) Duplicate
     (cond (claimsPoints q) Credited Void))
 
 -- "a square is the first four characters of the received locator"
 unfoldable pub square : Qso → Text
 square q = take 4 (q .locator)
+
+-- The exchange that counts: any that is received, if it is not empty.
+abbrev pub exchangeOf : Rules → Qso → Text
+exchangeOf R q = q .exchange
 
 -- "Among credited records: .. the first record with it is new; likewise for a non-empty received exchange."
 unfoldable pub isNew : (Qso → Text) → List Qso → Qso → Bool
@@ -70,7 +78,7 @@ verdictOf R credited q =
     let counts = is Credited class in
     record {
       class = class;
-      exchange = counts && isNew (λ e. e .exchange) credited q;
+      exchange = counts && isNew (exchangeOf R) credited q;
       square = counts && isNew square credited q;
       country = counts && claimsCountry q;
     }
@@ -139,18 +147,20 @@ declared log =
 unfoldable pub multipliers : Declared → ℕ
 multipliers d = d .squareMultiplier * d .exchangeMultiplier * d .countryMultiplier
 
--- "A bonus is the number of new ones times the declared bonus. Total = (P + three bonuses) x the three declared multipliers of CWWLs,
--- CExcs and CDXCs; the band multiplier takes no part."
-unfoldable pub totalsOf : Declared → List Qso → List Verdict → Totals
+-- "Total = (P + three bonuses) x the three declared multipliers of CWWLs, CExcs and CDXCs; the band multiplier takes no part": by P and the
+-- numbers of new squares, exchanges and countries.
+abbrev pub totalBy : Rules → Declared → ℕ → ℕ → ℕ → ℕ → ℕ
+totalBy R d p squares exchanges countries =
+    (p + squares * d .squareBonus + exchanges * d .exchangeBonus + countries * d .countryBonus) * multipliers d
+
+-- "A bonus is the number of new ones times the declared bonus."
+unfoldable pub totalsOf : Rules → Declared → List Qso → List Verdict → Totals
 unfolding multipliers countOf is creditedPoints
-totalsOf d qs vs =
+totalsOf R d qs vs =
     let p = creditedPoints qs vs in
     let squares = countOf (λ v. v .square) vs in
     let exchanges = countOf (λ v. v .exchange) vs in
     let countries = countOf (λ v. v .country) vs in
-    let forSquares = squares * d .squareBonus in
-    let forExchanges = exchanges * d .exchangeBonus in
-    let forCountries = countries * d .countryBonus in
     record {
       credited = countOf (λ v. is Credited (v .class)) vs;
       voids = countOf (λ v. is Void (v .class)) vs;
@@ -160,15 +170,15 @@ totalsOf d qs vs =
       squares = squares;
       exchanges = exchanges;
       countries = countries;
-      squarebonus = forSquares;
-      exchangebonus = forExchanges;
-      countrybonus = forCountries;
-      total = (p + forSquares + forExchanges + forCountries) * multipliers d;
+      squarebonus = squares * d .squareBonus;
+      exchangebonus = exchanges * d .exchangeBonus;
+      countrybonus = countries * d .countryBonus;
+      total = totalBy R d p squares exchanges countries;
     }
 
 unfoldable pub totals : Rules → Declared → List Qso → Totals
 unfolding totalsOf verdicts
-totals R d qs = totalsOf d qs (verdicts R qs)
+totals R d qs = totalsOf R d qs (verdicts R qs)
 
 -- What a log is judged to be.
 unfoldable pub verdictsOfLog : Rules → Log → List Verdict

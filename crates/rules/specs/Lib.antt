@@ -8,8 +8,12 @@ pub mod Judging
 pub mod Writing
 pub mod Reading
 pub mod Answers
+pub mod Given
 pub mod Striking
 pub mod Desk
 pub mod Demands
 pub mod Cases
+pub mod TableArguments
+pub mod TableFields
+pub mod TableLogs
 pub mod Table

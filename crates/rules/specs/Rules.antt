@@ -1,9 +1,8 @@
--- The limits, the names and the sameness that a set of rules fixes, and the one set that document 01 fixes.
+-- The limits, the names and the home part of a call that a set of rules fixes, and the one set that document 01 fixes.
 -- Assumes nothing.
 use Prim.Native.Nat.{ℕ}
-use mathlib.Core.Bool.{Bool}
 use mathlib.Core.List.{List, [], _∷_}
-use Rattle.rules.specs.Text.{Text, bytes, same}
+use Rattle.rules.specs.Text.{Text, bytes}
 
 pub record Rules : Type 0 where
   -- the most bytes of a log, and the most characters of a line
@@ -24,8 +23,8 @@ pub record Rules : Type 0 where
   pub claimedTotalDigits : ℕ
   -- the names of the bands
   pub bands : List Text
-  -- two calls count as one
-  pub sameCall : Text → Text → Bool
+  -- the home part of a call: two calls are the same if their home parts are
+  pub home : Text → Text
 
 -- "one of the fifteen names in the table of 001"
 unfoldable pub bandNames : List Text
@@ -48,7 +47,7 @@ bandNames =
     ∷ []
 
 unfoldable pub base : Rules
-unfolding bandNames same
+unfolding bandNames
 base =
     record {
       longestLog = 65535;
@@ -64,5 +63,5 @@ base =
       claimedBonusDigits = 7;
       claimedTotalDigits = 15;
       bands = bandNames;
-      sameCall = same;
+      home = λ call. call;
     }

@@ -1,5 +1,8 @@
 // The vocabulary that the crates share: what is answered, and in which words. What each word means stands in specs/.
 
+ghost use mathlib.Core.Path.{_≡_};
+ghost use Rattle.rules.specs.Rules.{base};
+
 // Why a log is refused, where, and in which field; number 0 says that nothing is refused.
 pub struct Refusal {
     pub number: u32,
@@ -57,4 +60,111 @@ pub enum Due {
 pub enum Next {
     Goes(Due),
     Stops { number: u32, field: u32 },
+}
+
+// # The limits
+
+// Each limit stands here once, and once in the base rules; its function says that the two are one, and whoever asks it knows the limit by the
+// name that it has there. The names alone serve as the lengths of lists.
+
+// The most bytes of a log.
+pub const LONGEST_LOG: usize = 65535;
+
+// The most characters of a line.
+pub const LONGEST_LINE: usize = 75;
+
+// The largest N.
+pub const MOST_RECORDS: usize = 999;
+
+// The largest count, bonus and multiplier.
+pub const MOST_COUNT: u64 = 9999;
+
+pub const MOST_BONUS: u64 = 9999;
+
+pub const MOST_MULTIPLIER: u64 = 99;
+
+// The most characters of an exchange.
+pub const LONGEST_EXCHANGE: usize = 6;
+
+// The most digits: of a record's points, of a distance, and of the claims.
+pub const POINTS_DIGITS: usize = 6;
+
+pub const DISTANCE_DIGITS: usize = 6;
+
+pub const CLAIMED_POINTS_DIGITS: usize = 9;
+
+pub const CLAIMED_BONUS_DIGITS: usize = 7;
+
+pub const CLAIMED_TOTAL_DIGITS: usize = 15;
+
+pub fn longest_log() -> usize
+    ensures { λ r. ⌜ r ≡ base .longestLog ⌝ }
+{
+    LONGEST_LOG
+}
+
+pub fn longest_line() -> usize
+    ensures { λ r. ⌜ r ≡ base .longestLine ⌝ }
+{
+    LONGEST_LINE
+}
+
+pub fn most_records() -> usize
+    ensures { λ r. ⌜ r ≡ base .mostRecords ⌝ }
+{
+    MOST_RECORDS
+}
+
+pub fn most_count() -> u64
+    ensures { λ r. ⌜ r ≡ base .mostCount ⌝ }
+{
+    MOST_COUNT
+}
+
+pub fn most_bonus() -> u64
+    ensures { λ r. ⌜ r ≡ base .mostBonus ⌝ }
+{
+    MOST_BONUS
+}
+
+pub fn most_multiplier() -> u64
+    ensures { λ r. ⌜ r ≡ base .mostMultiplier ⌝ }
+{
+    MOST_MULTIPLIER
+}
+
+pub fn longest_exchange() -> usize
+    ensures { λ r. ⌜ r ≡ base .longestExchange ⌝ }
+{
+    LONGEST_EXCHANGE
+}
+
+pub fn points_digits() -> usize
+    ensures { λ r. ⌜ r ≡ base .pointsDigits ⌝ }
+{
+    POINTS_DIGITS
+}
+
+pub fn distance_digits() -> usize
+    ensures { λ r. ⌜ r ≡ base .distanceDigits ⌝ }
+{
+    DISTANCE_DIGITS
+}
+
+pub fn claimed_points_digits() -> usize
+    ensures { λ r. ⌜ r ≡ base .claimedPointsDigits ⌝ }
+{
+    CLAIMED_POINTS_DIGITS
+}
+
+pub fn claimed_bonus_digits() -> usize
+    ensures { λ r. ⌜ r ≡ base .claimedBonusDigits ⌝ }
+{
+    CLAIMED_BONUS_DIGITS
+}
+
+pub fn claimed_total_digits() -> usize
+    ensures { λ r. ⌜ r ≡ base .claimedTotalDigits ⌝ }
+{
+    CLAIMED_TOTAL_DIGITS
 }

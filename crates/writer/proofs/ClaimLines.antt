@@ -2,31 +2,32 @@
 -- Assumes nothing.
 use Prim.Native.Nat.{ℕ, _≤_}
 use native.Mathlib.Omega.{arith}
+use mathlib.Core.Bool.{Bool, true, false, cond, not, _&&_, _||_}
+use mathlib.Core.List.{List, [], _∷_, _++_, map, append-nil, head-eq-of-cons-eq, tail-eq-of-cons-eq}
 use mathlib.Core.Path.{_≡_, refl, sym, ap, _∙_}
-use mathlib.Core.Bool.{Bool, true, false, cond, not, _||_}
-use mathlib.Core.List.{List, [], _∷_, _++_, append-nil}
 use lib.Dec.{leb, eqb}
 use lib.ListN.{length, take, drop, length-append}
 use lib.Seq.{take-at, drop-at, drop-length, drop-append-seam}
 use borrow.Author.Tests.{not-true, le-leb, eqb-true}
-use Rattle.rules.specs.declared.Totals.{Totals}
-use Rattle.rules.specs.Text.{Text, digit, semicolon, all, span, same, number, numberOf, parts, joined, digits}
-use Rattle.rules.specs.Rules.{Rules, base}
+use Rattle.places.proofs.HeaderHeld.{everyEntry, keyword-count}
+use Rattle.rules.proofs.NumberLaws.{number-from, number-digits}
+use Rattle.rules.proofs.Tests.{never, and-l, and-r, and-i}
+use Rattle.rules.proofs.TextLaws.{parts-some, joined-parts, span-stops, span-run, same-refl}
 use Rattle.rules.specs.Arguments.{Entry, entries, each, count, bonus, multiplier, meets, every}
 use Rattle.rules.specs.Log.{keywordStart, keywordLines, argumentRules}
+use Rattle.rules.specs.Rules.{Rules}
+use Rattle.rules.specs.Text.{Text, digit, semicolon, all, span, same, number, numberOf, parts, joined, digits}
 use Rattle.rules.specs.Writing.{recounted, Claim, claims, claimed, writtenArguments}
-use Rattle.rules.proofs.Tests.{never, and-l, and-r, and-i}
-use Rattle.rules.proofs.TextLaws.{parts-some, joined-parts, span-run}
-use Rattle.rules.proofs.NumberLaws.{number-from, number-digits}
-use Rattle.header.proofs.PartLaws.{whole-span}
-use Rattle.places.proofs.HeaderHeld.{everyEntry, keyword-count}
+use Rattle.rules.specs.declared.Totals.{Totals}
 use Rattle.writer.specs.ClaimsText.{claimNumbers}
 use Rattle.writer.proofs.NumberedLines.{behindNumber, renumbered, keyworded, renumberedLine, renumberedLines}
 
 -- # One argument
 
 none-behind : (t : Text) → all digit t ≡ true → behindNumber t ≡ []
-none-behind t e = ap (λ (n : ℕ). drop n t) (whole-span digit t e) ∙ drop-length t
+none-behind t e =
+    let whole : span digit t ≡ length t = sym (span-stops digit t semicolon [] refl) ∙ span-run digit t semicolon [] e refl in
+    ap (λ (n : ℕ). drop n t) whole ∙ drop-length t
 
 -- A number that is the whole argument gives way to another.
 whole-renumbered : (most n : ℕ) (t : Text) → numberOf most t ≡ true → digits n ≡ renumbered n t
@@ -44,14 +45,14 @@ first-renumbered new u (v ∷ us) d =
     let n : span digit (u ++ rest) ≡ length u = span-run digit u semicolon (joined (v ∷ us)) d refl in
     sym (ap (λ (r : Text). new ++ r) (ap (λ (k : ℕ). drop k (u ++ rest)) n ∙ drop-append-seam u rest))
 
-count-renumbered : (rules : List (Text → Bool)) (n : ℕ) (t : Text) → each (count base ∷ rules) (parts t) ≡ true → recounted (digits n) t ≡ renumbered n t
+count-renumbered : (R : Rules) (rules : List (Text → Bool)) (n : ℕ) (t : Text) → each (count R ∷ rules) (parts t) ≡ true → recounted (digits n) t ≡ renumbered n t
 unfolding recounted each count
-count-renumbered rules n t e =
+count-renumbered R rules n t e =
     let k = parts-some t in
     let u = k .first in
     let us = k .others in
-    let c : count base u ≡ true = and-l (count base u) (each rules us) (rw (k .are) at e) in
-    let d : all digit u ≡ true = number-digits u ((number-from 0 (base .mostCount) u c) .isNumber) in
+    let c : count R u ≡ true = and-l (count R u) (each rules us) (rw (k .are) at e) in
+    let d : all digit u ≡ true = number-digits u ((number-from 0 (R .mostCount) u c) .isNumber) in
     ap (λ (ts : List Text). joined (digits n ∷ drop 1 ts)) (k .are)
     ∙ first-renumbered (digits n) u us d
     ∙ ap (λ (r : Text). digits n ++ behindNumber r) (ap joined (sym (k .are)) ∙ joined-parts t)
@@ -101,35 +102,86 @@ unclaimed-stay es ts = lines-stay [] es ts (none-named es)
 
 -- # The lines of keywords that a claim names
 
+-- A claim is the first of several arguments, a count with these rules behind it, or a whole argument of at most so many digits.
+data Kind : Type 0 where
+  several : List (Text → Bool) → Kind
+  alone : ℕ → Kind
+
+-- The rule that such an argument keeps, and what it becomes.
+abbrev ruleBy : Rules → Kind → Text → Bool
+ruleBy R (several rules) = λ t. each (count R ∷ rules) (parts t)
+ruleBy R (alone most) = numberOf most
+
+abbrev becomesBy : Kind → ℕ → Text → Text
+becomesBy (several rules) n = recounted (digits n)
+becomesBy (alone most) n = λ t. digits n
+
+becomes-renumbered : (R : Rules) (k : Kind) (n : ℕ) (t : Text) → ruleBy R k t ≡ true → becomesBy k n t ≡ renumbered n t
+becomes-renumbered R (several rules) n t e = count-renumbered R rules n t e
+becomes-renumbered R (alone most) n t e = whole-renumbered most n t e
+
+-- As many claims of these kinds, for these keywords and numbers.
+claimsBy : List Kind → List Entry → List ℕ → List Claim
+claimsBy [] es ns = []
+claimsBy (k ∷ ks) [] ns = []
+claimsBy (k ∷ ks) (e ∷ es) [] = []
+claimsBy (k ∷ ks) (e ∷ es) (n ∷ ns) = record { keyword = e .keyword; becomes = becomesBy k n } ∷ claimsBy ks es ns
+
+-- A claim for a keyword that none of these has changes none of their arguments.
+abbrev apartFrom : Text → Entry → Bool
+apartFrom keyword e = not (same keyword (e .keyword))
+
+arguments-skip : (c : Claim) (cs : List Claim) (es : List Entry) (ts : List Text) → everyEntry (apartFrom (c .keyword)) es ≡ true → writtenArguments (c ∷ cs) es ts ≡ writtenArguments cs es ts
+unfolding everyEntry writtenArguments claimed
+arguments-skip c cs [] ts h = refl
+arguments-skip c cs (e ∷ es) [] h = refl
+arguments-skip c cs (e ∷ es) (t ∷ ts) h =
+    let a = apartFrom (c .keyword) e in
+    let b = everyEntry (apartFrom (c .keyword)) es in
+    rw (not-true (same (c .keyword) (e .keyword)) (and-l a b h), arguments-skip c cs es ts (and-r a b h))
+
+-- No keyword stands twice.
+apart : List Entry → Bool
+apart [] = true
+apart (e ∷ es) = everyEntry (apartFrom (e .keyword)) es && apart es
+
 abbrev six : Entry → Bool
 six e = eqb (length (keywordStart e)) 6
-
--- The claims put these numbers in the places of those that the arguments of these keywords begin with.
-abbrev Renumber : List Claim → List Entry → List ℕ → Type 0
-Renumber cs [] [] = Unit {0}
-Renumber cs [] (n ∷ ns) = ⊥
-Renumber cs (e ∷ es) [] = ⊥
-Renumber cs (e ∷ es) (n ∷ ns) =
-    ((t : Text) → meets base (e .rule) t ≡ true → claimed cs (e .keyword) t ≡ renumbered n t) × Renumber cs es ns
 
 line-renumbered : (n : ℕ) (e : Entry) (t u : Text) → six e ≡ true → u ≡ renumbered n t → keywordStart e ++ u ≡ renumberedLine n (keywordStart e ++ t)
 line-renumbered n e t u h g =
     let k : length (keywordStart e) ≡ 6 = eqb-true (length (keywordStart e)) 6 h in
     rw (g, take-at (keywordStart e) t 6 k, drop-at (keywordStart e) t 6 k)
 
-lines-renumber : (cs : List Claim) (es : List Entry) (ns : List ℕ) (ts : List Text) → Renumber cs es ns → everyEntry six es ≡ true → argumentRules base es ts ≡ true
-    → newLines cs es ts ≡ renumberedLines ns (keywordLines es ts)
-unfolding everyEntry argumentRules keywordLines writtenArguments renumberedLines
-lines-renumber cs [] [] ts k h r = refl
-lines-renumber cs [] (n ∷ ns) ts k h r = absurd k
-lines-renumber cs (e ∷ es) [] ts k h r = absurd k
-lines-renumber cs (e ∷ es) (n ∷ ns) [] k h r = never r
-lines-renumber cs (e ∷ es) (n ∷ ns) (t ∷ ts) k h r =
-    let a = meets base (e .rule) t in
-    let b = argumentRules base es ts in
-    let here = line-renumbered n e t (claimed cs (e .keyword) t) (and-l (six e) (everyEntry six es) h) (k .0 t (and-l a b r)) in
-    let later = lines-renumber cs es ns ts (k .1) (and-r (six e) (everyEntry six es) h) (and-r a b r) in
-    rw (here, later)
+-- The rules of these keywords are those of these kinds.
+abbrev RulesAre : Rules → List Entry → List Kind → Type 0
+RulesAre R es ks = _≡_ {A = List (Text → Bool)} (map (λ (e : Entry). meets R (e .rule)) es) (map (ruleBy R) ks)
+
+module _ (R : Rules) where
+  first-renumbers : (k : Kind) (e : Entry) (n : ℕ) (t : Text) (cs : List Claim) → _≡_ {A = Text → Bool} (meets R (e .rule)) (ruleBy R k) → meets R (e .rule) t ≡ true
+      → claimed (record { keyword = e .keyword; becomes = becomesBy k n } ∷ cs) (e .keyword) t ≡ renumbered n t
+  unfolding claimed
+  first-renumbers k e n t cs r m =
+      rw (same-refl (e .keyword)) (becomes-renumbered R k n t (sym (ap (λ (f : Text → Bool). f t) r) ∙ m))
+
+  lines-renumber : (ks : List Kind) (es : List Entry) (ns : List ℕ) (ts : List Text) → RulesAre R es ks → length es ≡ length ns → apart es ≡ true → everyEntry six es ≡ true → argumentRules R es ts ≡ true
+      → newLines (claimsBy ks es ns) es ts ≡ renumberedLines ns (keywordLines es ts)
+  unfolding everyEntry apart argumentRules keywordLines writtenArguments renumberedLines claimsBy
+  lines-renumber ks [] [] ts k l d h r = refl
+  lines-renumber ks [] (n ∷ ns) ts k l d h r = absurd (omega arith)
+  lines-renumber ks (e ∷ es) [] ts k l d h r = absurd (omega arith)
+  lines-renumber [] (e ∷ es) (n ∷ ns) ts k l d h r = let z : _≡_ {A = ℕ} 0 1 = cc in absurd (omega arith)
+  lines-renumber (k ∷ ks) (e ∷ es) (n ∷ ns) [] q l d h r = never r
+  lines-renumber (k ∷ ks) (e ∷ es) (n ∷ ns) (t ∷ ts) q l d h r =
+      let a = meets R (e .rule) t in
+      let b = argumentRules R es ts in
+      let c : Claim = record { keyword = e .keyword; becomes = becomesBy k n } in
+      let cs = claimsBy ks es ns in
+      let first = everyEntry (apartFrom (e .keyword)) es in
+      let here = line-renumbered n e t (claimed (c ∷ cs) (e .keyword) t) (and-l (six e) (everyEntry six es) h) (first-renumbers k e n t cs (head-eq-of-cons-eq q) (and-l a b r)) in
+      let others = ap (keywordLines es) (arguments-skip c cs es ts (and-l first (apart es) d)) in
+      let later = lines-renumber ks es ns ts (tail-eq-of-cons-eq q) (omega arith) (and-r first (apart es) d) (and-r (six e) (everyEntry six es) h) (and-r a b r) in
+      rw (here, others, later)
 
 lines-keyworded : (es : List Entry) (ts : List Text) → everyEntry six es ≡ true → every keyworded (keywordLines es ts) ≡ true
 unfolding everyEntry keywordLines every
@@ -185,6 +237,39 @@ claiming-six : everyEntry six claiming ≡ true
 unfolding everyEntry entries keywordStart
 claiming-six = refl
 
+claiming-apart : apart claiming ≡ true
+unfolding apart everyEntry entries same
+claiming-apart = refl
+
+-- What each claim is: a count with its multiplier, or with a bonus and a multiplier, or a whole number.
+module _ (R : Rules) where
+  abbrev counted : Kind
+  counted = several (bonus R ∷ multiplier R ∷ [])
+
+  abbrev summed : Kind
+  summed = alone (R .claimedBonusDigits)
+
+  kinds : List Kind
+  kinds =
+      several (multiplier R ∷ [])
+      ∷ alone (R .claimedPointsDigits)
+      ∷ counted
+      ∷ summed
+      ∷ counted
+      ∷ summed
+      ∷ counted
+      ∷ summed
+      ∷ alone (R .claimedTotalDigits)
+      ∷ []
+
+  kinds-rule : RulesAre R claiming kinds
+  unfolding kinds entries meets
+  kinds-rule = refl
+
+  claims-are : (t : Totals) → claims digits t ≡ claimsBy kinds claiming (claimNumbers t)
+  unfolding kinds entries claims claimsBy claimNumbers
+  claims-are t = refl
+
 module _ (t : Totals) where
   before-unnamed : everyEntry (unnamed (claims digits t)) before ≡ true
   unfolding everyEntry named entries claims same
@@ -194,33 +279,9 @@ module _ (t : Totals) where
   unfolding everyEntry named entries claims same
   behind-unnamed = refl
 
-  claims-renumber : Renumber (claims digits t) claiming (claimNumbers t)
-  unfolding entries claims claimed same claimNumbers meets base
-  claims-renumber = (
-    count-renumbered (multiplier base ∷ []) (t .credited),
-    (
-      whole-renumbered (base .claimedPointsDigits) (t .points),
-      (
-        count-renumbered (bonus base ∷ multiplier base ∷ []) (t .squares),
-        (
-          whole-renumbered (base .claimedBonusDigits) (t .squarebonus),
-          (
-            count-renumbered (bonus base ∷ multiplier base ∷ []) (t .exchanges),
-            (
-              whole-renumbered (base .claimedBonusDigits) (t .exchangebonus),
-              (
-                count-renumbered (bonus base ∷ multiplier base ∷ []) (t .countries),
-                (
-                  whole-renumbered (base .claimedBonusDigits) (t .countrybonus),
-                  (whole-renumbered (base .claimedTotalDigits) (t .total), tt),
-                ),
-              ),
-            ),
-          ),
-        ),
-      ),
-    ),
-  )
+  pub nine : length (claimNumbers t) ≡ 9
+  unfolding claimNumbers
+  nine = refl
 
 -- The lines of each of the three, as they are and as they are written.
 module _ (ts : List Text) where
@@ -253,22 +314,28 @@ module _ (ts : List Text) where
   pub claiming-keyworded : every keyworded linesClaiming ≡ true
   claiming-keyworded = lines-keyworded claiming (take 9 (drop 26 ts)) claiming-six
 
-  module _ (r : argumentRules base entries ts ≡ true) where
-    before-ruled : argumentRules base before (take 26 ts) ≡ true
+  module _ (R : Rules) (r : argumentRules R entries ts ≡ true) where
+    before-ruled : argumentRules R before (take 26 ts) ≡ true
     unfolding entries
-    before-ruled = rules-front base before (claiming ++ behind) ts r
+    before-ruled = rules-front R before (claiming ++ behind) ts r
 
-    claiming-ruled : argumentRules base claiming (take 9 (drop 26 ts)) ≡ true
+    claiming-ruled : argumentRules R claiming (take 9 (drop 26 ts)) ≡ true
     unfolding entries
-    claiming-ruled = rules-front base claiming behind (drop 26 ts) (rules-back base before (claiming ++ behind) ts r)
+    claiming-ruled = rules-front R claiming behind (drop 26 ts) (rules-back R before (claiming ++ behind) ts r)
 
     pub before-count : length linesBefore ≡ 26
     unfolding entries
-    before-count = keyword-count base before (take 26 ts) before-ruled
+    before-count = keyword-count R before (take 26 ts) before-ruled
 
     pub claiming-count : length linesClaiming ≡ 9
     unfolding entries
-    claiming-count = keyword-count base claiming (take 9 (drop 26 ts)) claiming-ruled
+    claiming-count = keyword-count R claiming (take 9 (drop 26 ts)) claiming-ruled
+
+    claims-renumber : (t : Totals) → newLines (claims digits t) claiming (take 9 (drop 26 ts)) ≡ renumberedLines (claimNumbers t) linesClaiming
+    claims-renumber t =
+        let nine-entries : length claiming ≡ 9 = unfold entries in refl in
+        ap (λ (cs : List Claim). newLines cs claiming (take 9 (drop 26 ts))) (claims-are R t)
+        ∙ lines-renumber R (kinds R) claiming (claimNumbers t) (take 9 (drop 26 ts)) (kinds-rule R) (nine-entries ∙ sym (nine t)) claiming-apart claiming-six claiming-ruled
 
     pub new-lines : (t : Totals) → keywordLines entries (writtenArguments (claims digits t) entries ts)
         ≡ linesBefore ++ (renumberedLines (claimNumbers t) linesClaiming ++ linesBehind)
@@ -276,6 +343,6 @@ module _ (ts : List Text) where
         table-lines (claims digits t)
         ∙ rw (
           lines-stay (claims digits t) before (take 26 ts) (before-unnamed t),
-          lines-renumber (claims digits t) claiming (claimNumbers t) (take 9 (drop 26 ts)) (claims-renumber t) claiming-six claiming-ruled,
+          claims-renumber t,
           lines-stay (claims digits t) behind (drop 9 (drop 26 ts)) (behind-unnamed t),
         )

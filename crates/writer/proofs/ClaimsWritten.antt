@@ -1,29 +1,34 @@
 -- The text in front of an accepted log's records, with the claims counted again: the claims lie in order in front of the records, and what is
 -- written is what writing back defines.
 -- Assumes nothing.
-use Prim.Native.Nat.{ℕ, suc, _+_, _≤_}
+use Prim.Native.Nat.{ℕ, suc, _+_}
+use native.Mathlib.Nat.{zero-add}
 use native.Mathlib.Omega.{arith}
-use mathlib.Core.Path.{_≡_, sym, ap, _∙_}
 use mathlib.Core.List.{List, [], _∷_, _++_, append-assoc}
+use mathlib.Core.Path.{_≡_, sym, ap, _∙_}
 use lib.ListN.{length, take, length-append}
 use lib.Seq.{take-at}
-use Rattle.rules.specs.declared.Totals.{Totals}
-use Rattle.rules.specs.Text.{Text, digits}
-use Rattle.rules.specs.Rules.{base}
-use Rattle.rules.specs.Arguments.{entries}
-use Rattle.rules.specs.Log.{Log, identifier, remarksLine, countLine, keywordLines, linesOf, ended, lineRule}
-use Rattle.rules.specs.Reading.{read, accepted}
-use Rattle.rules.specs.Writing.{claims, writtenArguments}
+use Rattle.reader.proofs.RecordsHeld.{recordsStart, ended-append, records, header, split, starts, records-within}
+use Rattle.reader.specs.Read.{claimsStart}
+use Rattle.rules.proofs.Format.{Rightly, of-valid, accepted-when-written}
 use Rattle.rules.proofs.LogLaws.{every-front, every-back, front, lines-split}
-use Rattle.places.specs.Places.{lineStart}
-use Rattle.places.proofs.LinesHeld.{ruled as lines-ruled, start-of-line}
-use Rattle.places.proofs.HeaderHeld.{is-valid, is-written, ruled}
-use Rattle.places.proofs.RecordsHeld.{recordsStart, ended-append, records, header, split, starts, records-within}
-use Rattle.writer.specs.ClaimsText.{claimNumbers, claimsText, headText, ClaimsLie}
+use Rattle.rules.proofs.Tests.{so}
+use Rattle.rules.specs.Arguments.{entries}
+use Rattle.rules.specs.Log.{Log, identifier, remarksLine, countLine, keywordLines, linesOf, ended, lineRule, valid}
+use Rattle.rules.specs.Reading.{read, accepted}
+use Rattle.rules.specs.Rules.{Rules}
+use Rattle.rules.specs.Text.{Text, digits}
+use Rattle.rules.specs.Writing.{claims, writtenArguments}
+use Rattle.rules.specs.declared.Totals.{Totals}
+use Rattle.writer.specs.ClaimsText.{claimNumbers, claimStarts, claimEnds, claimsText}
+use Rattle.writer.specs.Given.{ClaimsLie}
+use Rattle.writer.proofs.ClaimLines.{linesBefore, linesClaiming, linesBehind, old-lines, new-lines, before-count, claiming-count, claiming-keyworded, nine}
 use Rattle.writer.proofs.NumberedLines.{renumberedLines, LinesStand, lines-lie, lines-renumbered}
-use Rattle.writer.proofs.ClaimLines.{linesBefore, linesClaiming, linesBehind, old-lines, new-lines, before-count, claiming-count, claiming-keyworded}
 
-module _ (s : Text) (log : Log) (w : read base s ≡ accepted log) where
+module _ (R : Rules) (s : Text) (log : Log) (w : read R s ≡ accepted log) where
+  pub rightly : Rightly R log
+  rightly = of-valid R log (so (valid R log) (accepted-when-written R s log .0 w .0))
+
   -- The lines in front of the claims, those of the claims, and those behind them up to the count line.
   abbrev leading : List Text
   leading = identifier ∷ linesBefore (log .arguments)
@@ -61,40 +66,39 @@ module _ (s : Text) (log : Log) (w : read base s ≡ accepted log) where
       ∙ ap (λ (ls : List Text). ls ++ records log) header-is
       ∙ simp append-assoc
 
-  leading-count : length leading ≡ 27
-  leading-count = ap suc (before-count (log .arguments) (ruled s log w))
+  -- There are nine claims, and the first one's line begins behind the 27 leading lines.
+  nine-lines : length claiming ≡ 9
+  nine-lines = claiming-count (log .arguments) R (rightly .rulesOfArguments)
 
-  -- The first claim's line begins behind the leading lines.
-  claims-start : lineStart s 27 ≡ 0 + length (ended leading)
+  claims-start : claimsStart log ≡ 0 + length (ended leading)
+  unfolding claimsStart
   claims-start =
-      let there : 27 ≤ length (linesOf log) = omega (arith, ap length lines-are, length-append leading behind, leading-count) in
-      let lines : take 27 (linesOf log) ≡ leading = ap (take 27) lines-are ∙ take-at leading behind 27 leading-count in
-      start-of-line s log (is-valid s log w) (is-written s log w) 27 there
-      ∙ ap (λ (ls : List Text). length (ended ls)) lines
-      ∙ omega arith
+      let n : length leading ≡ 27 = ap suc (before-count (log .arguments) R (rightly .rulesOfArguments)) in
+      ap (λ (ls : List Text). length (ended ls)) (ap (take 27) lines-are ∙ take-at leading behind 27 n)
+      ∙ sym (zero-add (length (ended leading)))
 
-  claims-stand : LinesStand s (recordsStart s log) (ended trailing) (ended (records log)) 0 (ended leading) claiming
+  claims-stand : LinesStand R s (recordsStart s log) (ended trailing) (ended (records log)) 0 (ended leading) claiming
   claims-stand =
       record {
         rules =
-            every-front (lineRule base) claiming (trailing ++ records log)
-            (every-back (lineRule base) leading behind (rw lines-are at (lines-ruled s log (is-valid s log w) (is-written s log w))));
+            every-front (lineRule R) claiming (trailing ++ records log)
+            (every-back (lineRule R) leading behind (rw lines-are at (rightly .lineRules)));
         keywords = claiming-keyworded (log .arguments);
-        there = split s log w ∙ ap (λ (t : Text). t ++ ended (records log)) header-text ∙ simp append-assoc;
+        there = split R s log w ∙ ap (λ (t : Text). t ++ ended (records log)) header-text ∙ simp append-assoc;
         places =
             omega (
               arith,
-              starts s log w,
+              starts R s log w,
               ap length header-text,
               length-append (ended leading) (ended claiming ++ ended trailing),
               length-append (ended claiming) (ended trailing),
             );
       }
 
-  pub claims-lie : ClaimsLie s (recordsStart s log) 0 (lineStart s 27) 9
+  pub claims-lie : ClaimsLie s (recordsStart s log) (claimStarts s (claimsStart log) 9) (claimEnds s (claimsStart log) 9) 9
   claims-lie =
-      let lie = lines-lie s (recordsStart s log) (ended trailing) (ended (records log)) claiming 0 (ended leading) claims-stand (records-within s log w) in
-      rw claims-start (rw (claiming-count (log .arguments) (ruled s log w)) at lie)
+      rw claims-start
+      (rw nine-lines at (lines-lie R s (recordsStart s log) (ended trailing) (ended (records log)) claiming (ended leading) claims-stand (records-within R s log w)))
 
   module _ (t : Totals) where
     abbrev counted : List Text
@@ -103,16 +107,19 @@ module _ (s : Text) (log : Log) (w : read base s ≡ accepted log) where
     abbrev written : List Text
     written = writtenArguments (claims digits t) entries (log .arguments)
 
-    head-text : headText s (recordsStart s log) t ≡ ended leading ++ (ended counted ++ ended trailing)
-    unfolding headText
-    head-text =
-        ap (λ (k : ℕ). claimsText s (recordsStart s log) 0 k (claimNumbers t)) claims-start
-        ∙ lines-renumbered s (recordsStart s log) (ended trailing) (ended (records log)) (claimNumbers t) claiming 0 (ended leading) (claiming-count (log .arguments) (ruled s log w)) claims-stand
+    abbrev headText : ℕ → ℕ → Text
+    headText line n = claimsText s (recordsStart s log) 0 (claimStarts s line n) (claimEnds s line n) (claimNumbers t)
 
-    pub head-written : headText s (recordsStart s log) t
+    head-text : headText (claimsStart log) 9 ≡ ended leading ++ (ended counted ++ ended trailing)
+    head-text =
+        ap (headText (claimsStart log)) (sym (nine t))
+        ∙ ap (λ (k : ℕ). headText k (length (claimNumbers t))) claims-start
+        ∙ lines-renumbered R s (recordsStart s log) (ended trailing) (ended (records log)) (claimNumbers t) claiming 0 (ended leading) (nine-lines ∙ sym (nine t)) claims-stand
+
+    pub head-written : headText (claimsStart log) 9
         ≡ ended (front (record { arguments = writtenArguments (claims digits t) entries (log .arguments); remarks = log .remarks; records = log .records }) ++ (countLine (length (log .records)) ∷ []))
     unfolding front
     head-written =
         head-text
         ∙ sym (ended-in-order counted)
-        ∙ ap ended (sym (in-order (keywordLines entries written) counted (new-lines (log .arguments) (ruled s log w) t)))
+        ∙ ap ended (sym (in-order (keywordLines entries written) counted (new-lines (log .arguments) R (rightly .rulesOfArguments) t)))

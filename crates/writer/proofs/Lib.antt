@@ -1,10 +1,13 @@
 pub mod WrittenLaws
+pub mod TextsLaws
+pub mod NumberLaws
 pub mod RecordWritten
-pub mod PuttingLaws
-pub mod ClaimLoops
 pub mod RecordLoops
 pub mod RecordsWritten
+pub mod ClaimLoops
 pub mod NumberedLines
 pub mod ClaimLines
 pub mod ClaimsWritten
 pub mod WriteLaws
+pub mod WeighedLaws
+pub mod ShownLaws

@@ -1,23 +1,72 @@
 -- Lines that hold a number behind their keyword: where each number lies, and the text with other numbers in their places.
 -- Assumes nothing.
-use Prim.Native.Nat.{ℕ, _+_, _-_, _≤_}
+use Prim.Native.Nat.{ℕ, zero, suc, _+_, _-_, _≤_, _<_}
+use native.Mathlib.Nat.{add-zero}
 use native.Mathlib.Omega.{arith}
-use mathlib.Core.Path.{_≡_, refl, sym, ap, _∙_}
 use mathlib.Core.Bool.{Bool, true}
 use mathlib.Core.List.{List, [], _∷_, _++_, append-assoc}
+use mathlib.Core.Path.{_≡_, refl, sym, ap, ap₂, _∙_}
 use lib.Dec.{leb}
-use lib.ListN.{length, take, drop, length-append, length-drop, take-append-drop}
+use lib.ListN.{length, take, drop, getD, length-append, length-drop, take-append-drop}
 use lib.Seq.{drop-drop, drop-at, take-at, drop-append-le, take-append-seam, length-take-le}
 use borrow.Author.Tests.{leb-true}
-use Rattle.rules.specs.Text.{Text, digit, allowed, all, span, digits}
-use Rattle.rules.specs.Rules.{base}
-use Rattle.rules.specs.Arguments.{every}
-use Rattle.rules.specs.Log.{crlf, ended, lineRule}
+use Rattle.reader.specs.Contact.{between}
+use Rattle.rules.proofs.LogLaws.{every-first, every-others, length-ended-more}
 use Rattle.rules.proofs.Tests.{and-r}
 use Rattle.rules.proofs.TextLaws.{all-drop, span-stops, span-run, span-short}
-use Rattle.rules.proofs.LogLaws.{every-first, every-others, length-ended-more}
-use Rattle.places.specs.Places.{between}
-use Rattle.writer.specs.ClaimsText.{numberStart, numberEnd, lineBehind, claimsText, ClaimsLie}
+use Rattle.rules.specs.Arguments.{every}
+use Rattle.rules.specs.Log.{crlf, ended, lineRule}
+use Rattle.rules.specs.Rules.{Rules}
+use Rattle.rules.specs.Text.{Text, digit, allowed, all, span, digits}
+use Rattle.writer.specs.ClaimsText.{numberStart, numberEnd, lineBehind, claimLine, claimStart, claimEnd, claimStarts, claimEnds, claimText, claimsText}
+use Rattle.writer.specs.Given.{ClaimLies, ClaimsLie}
+use Rattle.writer.specs.Written.{texts, startOf}
+use Rattle.writer.proofs.ClaimLoops.{number-behind}
+use Rattle.writer.proofs.TextsLaws.{texts-front, texts-same, row-length, row-at, start-next}
+
+-- # The first claim, and the others behind it
+
+module _ (s : Text) (line : ℕ) where
+  abbrev next : ℕ
+  next = lineBehind s (numberEnd s (numberStart line))
+
+  line-shift : (i : ℕ) → claimLine s line (suc i) ≡ claimLine s next i
+  unfolding claimLine
+  line-shift zero = refl
+  line-shift (suc i) = ap (λ (n : ℕ). lineBehind s (numberEnd s (numberStart n))) (line-shift i)
+
+  starts-front : (n : ℕ) → claimStarts s line (suc n) ≡ numberStart line ∷ claimStarts s next n
+  unfolding claimLine
+  starts-front n =
+      texts-front (λ i. claimStart s line i ∷ []) n
+      ∙ ap (λ (t : Text). numberStart line ∷ t) (texts-same (λ i. claimStart s line (suc i) ∷ []) (λ i. claimStart s next i ∷ []) (λ i. ap (λ (k : ℕ). numberStart k ∷ []) (line-shift i)) n)
+
+  ends-front : (n : ℕ) → claimEnds s line (suc n) ≡ numberEnd s (numberStart line) ∷ claimEnds s next n
+  unfolding claimLine
+  ends-front n =
+      texts-front (λ i. claimEnd s line i ∷ []) n
+      ∙ ap (λ (t : Text). numberEnd s (numberStart line) ∷ t) (texts-same (λ i. claimEnd s line (suc i) ∷ []) (λ i. claimEnd s next i ∷ []) (λ i. ap (λ (k : ℕ). numberEnd s (numberStart k) ∷ []) (line-shift i)) n)
+
+  -- The end of the claim before one, or the place where copying begins.
+  from-at : ℕ → ℕ → ℕ
+  from-at from zero = from
+  from-at from (suc i) = claimEnd s line i
+
+-- The text in front of the first record, in the same way.
+claims-front : (s : Text) (first from a e n : ℕ) (os es ns : List ℕ)
+    → claimsText s first from (a ∷ os) (e ∷ es) (n ∷ ns) ≡ between s from a ++ digits n ++ claimsText s first e os es ns
+unfolding claimsText startOf
+claims-front s first from a e n os es ns =
+    let all = claimText s from (a ∷ os) (e ∷ es) (n ∷ ns) in
+    let others = claimText s e os es ns in
+    let start : (i : ℕ) → startOf 0 from (e ∷ es) (suc i) ≡ startOf 0 e es i = λ i. start-next 0 from e es i ∙ ap (λ (k : ℕ). startOf 0 k es i) (add-zero e) in
+    let same : texts (λ i. all (suc i)) (length ns) ≡ texts others (length ns) =
+    texts-same (λ i. all (suc i)) others (λ i. ap (λ (k : ℕ). between s k (getD os i 0) ++ digits (getD ns i 0)) (start i)) (length ns) in
+    let last : between s (startOf 0 from (e ∷ es) (suc (length ns))) first ≡ between s (startOf 0 e es (length ns)) first = ap (λ (k : ℕ). between s k first) (start (length ns)) in
+    ap₂ (λ (t u : Text). t ++ u) (texts-front all (length ns) ∙ ap (λ (t : Text). between s from a ++ digits n ++ t) same) last
+    ∙ append-assoc (between s from a ++ digits n) (texts others (length ns)) (between s (startOf 0 e es (length ns)) first)
+
+-- # Lines
 
 -- What stands behind the digits that an argument begins with, and the argument with this number in their place.
 abbrev pub behindNumber : Text → Text
@@ -39,15 +88,15 @@ renumberedLines (n ∷ ns) [] = []
 renumberedLines (n ∷ ns) (l ∷ ls) = renumberedLine n l ∷ renumberedLines ns ls
 
 -- From a place on a log holds a text, these lines, and more up to its first record.
-pub record LinesStand (s : Text) (first : ℕ) (more back : Text) (from : ℕ) (u : Text) (ls : List Text) : Type 0 where
-  pub rules : every (lineRule base) ls ≡ true
+pub record LinesStand (R : Rules) (s : Text) (first : ℕ) (more back : Text) (from : ℕ) (u : Text) (ls : List Text) : Type 0 where
+  pub rules : every (lineRule R) ls ≡ true
   pub keywords : every keyworded ls ≡ true
   pub there : drop from s ≡ u ++ (ended ls ++ (more ++ back))
   pub places : from + length u + length (ended ls) + length more ≡ first
 
-module _ (s : Text) (first : ℕ) (more back : Text) where
+module _ (R : Rules) (s : Text) (first : ℕ) (more back : Text) where
   abbrev Standing : ℕ → Text → List Text → Type 0
-  Standing = LinesStand s first more back
+  Standing = LinesStand R s first more back
 
   -- The first of the lines: its number, and what stands behind that.
   module _ (from : ℕ) (u l : Text) (ls : List Text) (g : Standing from u (l ∷ ls)) where
@@ -72,7 +121,7 @@ module _ (s : Text) (first : ℕ) (more back : Text) where
 
     clean : all allowed l ≡ true
     unfolding lineRule
-    clean = and-r (leb (length l) (base .longestLine)) (all allowed l) (every-first (lineRule base) l ls (g .rules))
+    clean = and-r (leb (length l) (R .longestLine)) (all allowed l) (every-first (lineRule R) l ls (g .rules))
 
     head-length : length (u ++ take 6 l) ≡ length u + 6
     head-length = length-append u (take 6 l) ∙ ap (λ (n : ℕ). length u + n) (length-take-le 6 l six)
@@ -132,33 +181,63 @@ module _ (s : Text) (first : ℕ) (more back : Text) where
           span-short digit t,
         )
 
-    start-within : start ≤ first
-    start-within = omega (arith, g .places, six, length-ended-more l ls)
+    end-within : end ≤ first
+    end-within = omega (arith, g .places, left-ends, length-ended-more l ls)
 
     stands-next : Standing end left ls
     stands-next =
         record {
-          rules = every-others (lineRule base) l ls (g .rules);
+          rules = every-others (lineRule R) l ls (g .rules);
           keywords = every-others keyworded l ls (g .keywords);
           there = after-number ∙ sym (append-assoc (behindNumber t) crlf others);
           places = omega (arith, g .places, left-ends, length-ended-more l ls);
         }
 
-  -- The lines lie in order in front of the first record.
-  pub lines-lie : (ls : List Text) (from : ℕ) (u : Text) → Standing from u ls → first ≤ length s → ClaimsLie s first from (from + length u) (length ls)
-  unfolding ended
-  lines-lie [] from u g h = (omega (arith, g .places), h)
-  lines-lie (l ∷ ls) from u g h = (
-    omega arith,
-    omega (arith, start-within from u l ls g),
-    rw (line-ends from u l ls g) (lines-lie ls (end from u l ls g) (left from u l ls g) (stands-next from u l ls g) h),
-  )
+  -- The numbers lie in order in front of the first record.
+  lies-at : (ls : List Text) (from : ℕ) (u : Text) → Standing from u ls → (i : ℕ) → i < length ls
+      → ClaimLies (from-at s (from + length u) from i) (claimStart s (from + length u) i) (claimEnd s (from + length u) i) first
+  unfolding from-at
+  lies-at [] from u g i h = absurd (omega arith)
+  lies-at (l ∷ ls) from u g zero h =
+      unfold claimLine in
+      record {
+        order = omega arith;
+        rise = number-behind s (start from u l ls g);
+        inside = end-within from u l ls g;
+      }
+  lies-at (l ∷ ls) from u g (suc i) h =
+      let line = from + length u in
+      let e = end from u l ls g in
+      let there = lies-at ls e (left from u l ls g) (stands-next from u l ls g) i (omega arith) in
+      let same : claimLine s line (suc i) ≡ claimLine s (e + length (left from u l ls g)) i = line-shift s line i ∙ ap (λ (k : ℕ). claimLine s k i) (line-ends from u l ls g) in
+      let begins : claimEnd s line i ≡ from-at s (e + length (left from u l ls g)) e i = from-next (line-ends from u l ls g) i in
+      rw (begins, same) there
+    where
+      from-next : lineBehind s (end from u l ls g) ≡ end from u l ls g + length (left from u l ls g) → (k : ℕ) → claimEnd s (from + length u) k ≡ from-at s (end from u l ls g + length (left from u l ls g)) (end from u l ls g) k
+      from-next p zero = unfold claimLine in refl
+      from-next p (suc k) = ap (λ (n : ℕ). numberEnd s (numberStart n)) (line-shift s (from + length u) k ∙ ap (λ (n : ℕ). claimLine s n k) p)
+
+  pub lines-lie : (ls : List Text) (u : Text) → Standing 0 u ls → first ≤ length s
+      → ClaimsLie s first (claimStarts s (0 + length u) (length ls)) (claimEnds s (0 + length u) (length ls)) (length ls)
+  unfolding startOf from-at
+  lines-lie ls u g h =
+      record {
+        manyStarts = omega (arith, row-length (claimStart s (0 + length u)) (length ls));
+        manyEnds = omega (arith, row-length (claimEnd s (0 + length u)) (length ls));
+        lies = λ i k. rw (begins i k, row-at (claimStart s (0 + length u)) (length ls) i k, row-at (claimEnd s (0 + length u)) (length ls) i k) (lies-at ls 0 u g i k);
+        within = h;
+      }
+    where
+      begins : (i : ℕ) → i < length ls → startOf 0 0 (claimEnds s (0 + length u) (length ls)) i ≡ from-at s (0 + length u) 0 i
+      begins zero k = refl
+      begins (suc i) k = add-zero (getD (claimEnds s (0 + length u) (length ls)) i 0) ∙ row-at (claimEnd s (0 + length u)) (length ls) i (omega arith)
 
   -- The text with as many numbers in their places holds these lines with these numbers.
   pub lines-renumbered : (ns : List ℕ) (ls : List Text) (from : ℕ) (u : Text) → length ls ≡ length ns → Standing from u ls
-      → claimsText s first from (from + length u) ns ≡ u ++ (ended (renumberedLines ns ls) ++ more)
-  unfolding claimsText renumberedLines ended
+      → claimsText s first from (claimStarts s (from + length u) (length ns)) (claimEnds s (from + length u) (length ns)) ns ≡ u ++ (ended (renumberedLines ns ls) ++ more)
+  unfolding renumberedLines ended
   lines-renumbered [] [] from u c g =
+      unfold claimsText texts startOf in
       let n : first - from ≡ length (u ++ more) = omega (arith, g .places, length-append u more) in
       ap (λ (k : ℕ). take k (drop from s)) n
       ∙ ap (take (length (u ++ more))) (g .there ∙ sym (append-assoc u more back))
@@ -166,5 +245,10 @@ module _ (s : Text) (first : ℕ) (more back : Text) where
   lines-renumbered [] (l ∷ ls) from u c g = absurd (omega arith)
   lines-renumbered (n ∷ ns) [] from u c g = absurd (omega arith)
   lines-renumbered (n ∷ ns) (l ∷ ls) from u c g =
-      let next = lines-renumbered ns ls (end from u l ls g) (left from u l ls g) (omega arith) (stands-next from u l ls g) in
-      rw (before-number from u l ls g, line-ends from u l ls g, next) (simp append-assoc)
+      let line = from + length u in
+      let e = end from u l ls g in
+      let k = length ns in
+      let shorter = lines-renumbered ns ls e (left from u l ls g) (omega arith) (stands-next from u l ls g) in
+      (λ j. claimsText s first from (starts-front s line k j) (ends-front s line k j) (n ∷ ns))
+      ∙ claims-front s first from (numberStart line) e n (claimStarts s (next s line) k) (claimEnds s (next s line) k) ns
+      ∙ rw (before-number from u l ls g, line-ends from u l ls g, shorter) (simp append-assoc)

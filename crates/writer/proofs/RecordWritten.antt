@@ -1,22 +1,17 @@
 -- Laws of the text that a record is written back as: its parts, and how long they are.
 -- Assumes nothing.
-use Prim.Native.Nat.{ℕ, _+_, _-_, _≤_}
+use Prim.Native.Nat.{ℕ, _+_, _≤_}
 use native.Mathlib.Omega.{arith}
-use mathlib.Core.Path.{_≡_, refl, sym}
-use mathlib.Core.Bool.{Bool, true, false, not, _&&_}
+use mathlib.Core.Bool.{Bool, true, false, cond, not}
 use mathlib.Core.List.{[], _∷_, _++_}
+use mathlib.Core.Path.{_≡_, refl, sym}
 use lib.ListN.{length, length-append}
-use Rattle.rules.specs.declared.Class.the-variants.{Credited, Duplicate}
-use Rattle.rules.specs.declared.Verdict.{Verdict}
-use Rattle.rules.specs.Text.{Text, bytes, semicolon}
+use Rattle.reader.specs.Contact.{between}
+use Rattle.rules.proofs.Tests.{never}
 use Rattle.rules.specs.Fields.{newMark, duplicateMark}
 use Rattle.rules.specs.Log.{crlf}
-use Rattle.rules.specs.Judging.{is}
-use Rattle.rules.proofs.Tests.{never}
-use Rattle.places.specs.declared.Tail.{Tail}
-use Rattle.places.specs.Places.{between}
-use Rattle.writer.specs.RecordText.{markText, pointsText, marksText, recordText}
-use Rattle.writer.proofs.WrittenLaws.{part-length}
+use Rattle.rules.specs.Text.{Text, bytes, semicolon}
+use Rattle.writer.specs.RecordText.{saysDuplicate, saysNew, markText, marksText, zeroText, recordText}
 
 -- A field without its mark is its semicolon alone; with it, the mark follows.
 pub unmarked : (m : Text) (b : Bool) → not b ≡ true → markText b m ≡ semicolon ∷ []
@@ -34,25 +29,24 @@ pub mark-some : (b : Bool) (m : Text) → 1 ≤ length (markText b m)
 unfolding markText
 mark-some b m = omega arith
 
-pub mark-short : (b : Bool) (m : Text) → length m ≡ 1 → length (markText b m) ≤ 2
-unfolding markText
-mark-short true m h = omega arith
-mark-short false m h = omega arith
+-- The points of a duplicate, which become 0, and those of any other record.
+pub no-zero : (b : Bool) → not b ≡ true → zeroText b ≡ []
+no-zero false e = refl
+no-zero true e = never e
 
--- A duplicate's points, and those of any other record.
-pub points-none : (s : Text) (from to : ℕ) (b : Bool) → b ≡ true → pointsText s from to b ≡ bytes "0"
-unfolding pointsText
-points-none s from to b e = rw e
+pub a-zero : (b : Bool) → not b ≡ false → zeroText b ≡ bytes "0"
+a-zero true e = refl
+a-zero false e = never (sym e)
 
-pub points-kept : (s : Text) (from to : ℕ) (b : Bool) → b ≡ false → pointsText s from to b ≡ between s from to
-unfolding pointsText
-points-kept s from to b e = rw e
+-- What is copied ends where the points begin or where they end.
+module _ (start points pointsend : ℕ) (order : start ≤ points) (rise : points ≤ pointsend) where
+  pub copied-behind : (duplicate : Bool) {to : ℕ} → to ≡ cond duplicate points pointsend → start ≤ to
+  copied-behind true e = omega arith
+  copied-behind false e = omega arith
 
--- Even a duplicate's `0` is at most one character more than the points that it stands for.
-pub points-short : (s : Text) (from to : ℕ) (b : Bool) → from ≤ to → to ≤ length s → length (pointsText s from to b) ≤ to - from + 1
-unfolding pointsText
-points-short s from to true h k = omega arith
-points-short s from to false h k = omega (arith, part-length s from to h k)
+  pub copied-inside : (duplicate : Bool) {to : ℕ} → to ≡ cond duplicate points pointsend → to ≤ pointsend
+  copied-inside true e = omega arith
+  copied-inside false e = omega arith
 
 -- # Lengths
 
@@ -82,54 +76,26 @@ module _ (exchange square country duplicate : Bool) (at n : ℕ) (fits : at + le
   unfolding crlf
   room-end = simp length-append (omega (arith, marks-length exchange square country duplicate))
 
--- # The whole record, by whether it is a duplicate and whether it keeps its country
+-- # The whole record, by whether it is a duplicate
 
-module _ (s : Text) (start p : ℕ) (t : Tail) (v : Verdict) (duplicate country : Bool)
-    (isDuplicate : duplicate ≡ is Duplicate (v .class)) (keepsCountry : country ≡ (is Credited (v .class) && t .country)) where
-  pub record-parts : recordText s start p t v
-      ≡ between s start p ++ pointsText s p (t .pointsend) duplicate ++ marksText (v .exchange) (v .square) country duplicate
+module _ (s : Text) (start points pointsend n : ℕ) (duplicate : Bool) (to : ℕ) (isDuplicate : duplicate ≡ saysDuplicate n) (isTo : to ≡ cond duplicate points pointsend) where
+  abbrev pub marks : Text
+  marks = marksText (saysNew 16 n) (saysNew 32 n) (saysNew 64 n) duplicate
+
+  pub record-parts : recordText s start points pointsend n ≡ between s start to ++ zeroText duplicate ++ marks
   unfolding recordText
-  record-parts = rw (isDuplicate, keepsCountry)
+  record-parts = rw (isTo, isDuplicate)
 
-  pub record-length : length (recordText s start p t v)
-      ≡ length (between s start p)
-      + length (pointsText s p (t .pointsend) duplicate)
-      + length (marksText (v .exchange) (v .square) country duplicate)
+  pub record-length : length (recordText s start points pointsend n) ≡ length (between s start to) + length (zeroText duplicate) + length marks
   record-length = rw record-parts (simp length-append)
 
   -- Each part has room, behind those before it, where there is room for all.
-  module _ (at n : ℕ) (fits : at + length (recordText s start p t v) ≤ n) where
-    pub room-head : at + length (between s start p) ≤ n
+  module _ (at room : ℕ) (fits : at + length (recordText s start points pointsend n) ≤ room) where
+    pub room-head : at + length (between s start to) ≤ room
     room-head = omega (arith, record-length)
 
-    pub room-points : at + (length (between s start p) + length (pointsText s p (t .pointsend) duplicate)) ≤ n
-    room-points = omega (arith, record-length)
+    pub room-zero : at + (length (between s start to) + length (zeroText duplicate)) ≤ room
+    room-zero = omega (arith, record-length)
 
-    pub room-marks : at
-        + (length (between s start p ++ pointsText s p (t .pointsend) duplicate) + length (marksText (v .exchange) (v .square) country duplicate)) ≤ n
+    pub room-marks : at + (length (between s start to ++ zeroText duplicate) + length marks) ≤ room
     room-marks = simp length-append (omega (arith, record-length))
-
-one-new : length newMark ≡ 1
-unfolding newMark
-one-new = refl
-
-one-duplicate : length duplicateMark ≡ 1
-unfolding duplicateMark
-one-duplicate = refl
-
--- A record grows by eleven characters at most: `0` for no points, four marks with a semicolon before each, and the line's end.
-pub record-short : (s : Text) (start p : ℕ) (t : Tail) (v : Verdict) → start ≤ p → p ≤ t .pointsend → t .pointsend ≤ length s → length (recordText s start p t v) ≤ t .pointsend - start + 11
-record-short s start p t v a b c =
-    let duplicate = is Duplicate (v .class) in
-    let country = is Credited (v .class) && t .country in
-    omega (
-      arith,
-      record-length s start p t v duplicate country refl refl,
-      part-length s start p a (omega arith),
-      points-short s p (t .pointsend) duplicate b c,
-      marks-length (v .exchange) (v .square) country duplicate,
-      mark-short (v .exchange) newMark one-new,
-      mark-short (v .square) newMark one-new,
-      mark-short country newMark one-new,
-      mark-short duplicate duplicateMark one-duplicate,
-    )

@@ -1,17 +1,18 @@
 -- Laws of texts that are laid over a list: one behind the other, and one place at a time.
 -- Assumes nothing.
 use Prim.Native.Nat.{ℕ, suc, _+_, _-_, _/_, _%_, _^_, _≤_, _<_}
-use mathlib.Core.Path.{_≡_, sym, ap, _∙_}
-use mathlib.Core.Logic.{⊎-elim}
-use mathlib.Core.List.{List, [], _∷_, _++_, append-assoc, append-nil}
+use native.Mathlib.Nat.{add-zero, zero-add}
 use native.Mathlib.Numerals.{add-one}
-use native.Mathlib.Nat.{add-zero}
 use native.Mathlib.Omega.{arith}
+use mathlib.Core.List.{List, [], _∷_, _++_, append-assoc, append-nil}
+use mathlib.Core.Logic.{⊎-elim}
+use mathlib.Core.Path.{_≡_, sym, ap, subst, _∙_}
 use lib.ListN.{length, take, drop, getD, set, length-append, length-drop, take-append-drop}
-use lib.Seq.{length-take-le, take-at, drop-at, drop-drop, set-split, take-set-le, take-suc, getD-drop}
-use Rattle.rules.specs.Text.{Text, digits}
+use lib.Seq.{length-take-le, take-at, drop-at, drop-drop, set-split, take-set-le, take-suc, take-all, getD-drop}
+use Rattle.reader.specs.Contact.{between}
 use Rattle.rules.proofs.NumberLaws.{Small, Large, size, digits-small, digits-large, digits-length}
-use Rattle.places.specs.Places.{between}
+use Rattle.rules.specs.Answers.{over}
+use Rattle.rules.specs.Text.{Text, digits}
 use Rattle.writer.specs.Written.{written, Puts}
 
 -- Nothing laid over a list leaves it as it was.
@@ -93,6 +94,24 @@ module _ {d e : List ℕ} {at r : ℕ} {t : Text} (p : Puts d at t e r) where
         place = rw length-append (omega arith);
       }
 
+-- What was written may be said otherwise.
+pub puts-as : {d e : List ℕ} {at r : ℕ} {t u : Text} → Puts d at t e r → t ≡ u → Puts d at u e r
+puts-as {d} {e} {at} {r} p h = subst (λ (x : Text). Puts d at x e r) h p
+
+-- Nothing was written.
+pub puts-nothing : {d : List ℕ} {at : ℕ} {t : Text} → t ≡ [] → at ≤ length d → Puts d at t d at
+puts-nothing {d} {at} e h =
+    puts-as (record { fits = omega arith; list = sym (written-nothing d at); place = sym (add-zero at) }) (sym e)
+
+-- A text that was written at the front ends at its length, and the rest of the list is as it was.
+module _ {d e : List ℕ} {r : ℕ} {t : Text} (p : Puts d 0 t e r) where
+  pub front-end : r ≡ length t
+  front-end = p .place ∙ zero-add (length t)
+
+  pub front-laid : e ≡ over t d
+  unfolding written over
+  front-laid = p .list ∙ ap (λ (n : ℕ). t ++ drop n d) (zero-add (length t))
+
 -- # Digits
 
 -- A number has as many digits as its tenth, and one more, unless it is one digit.
@@ -141,6 +160,10 @@ module _ (s : Text) (from i : ℕ) (order : from ≤ i) where
       let there : from + (i - from) ≡ i = omega arith in
       let room : i - from < length (drop from s) = rw length-drop (omega arith) in
       rw (e, take-suc (drop from s) (i - from) 0 room, getD-drop, there)
+
+-- The part from the first character to the last is the whole text.
+pub part-whole : (s : Text) → between s 0 (length s) ≡ s
+part-whole s = take-all (length s - 0) s (omega arith)
 
 -- The part that ends where it begins is empty: no character is copied yet.
 pub part-none : (d s : List ℕ) (at from : ℕ) → d ≡ written d at (between s from from)

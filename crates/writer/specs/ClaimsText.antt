@@ -1,11 +1,12 @@
 -- The text that stands in front of the records when a log is written back: the log's own, with the nine claims counted again.
 -- Assumes nothing.
-use Prim.Native.Nat.{ℕ, zero, suc, _+_, _≤_}
+use Prim.Native.Nat.{ℕ, zero, suc, _+_}
 use mathlib.Core.List.{List, [], _∷_, _++_}
-use lib.ListN.{length, drop}
-use Rattle.rules.specs.declared.Totals.{Totals}
+use lib.ListN.{length, drop, getD}
+use Rattle.reader.specs.Contact.{between}
 use Rattle.rules.specs.Text.{Text, digit, allowed, span, digits}
-use Rattle.places.specs.Places.{lineOn, lineStart, between}
+use Rattle.rules.specs.declared.Totals.{Totals}
+use Rattle.writer.specs.Written.{texts, row, startOf}
 
 -- The nine numbers that are claimed, in the order of their lines.
 unfoldable pub claimNumbers : Totals → List ℕ
@@ -35,24 +36,31 @@ unfoldable pub lineBehind : Text → ℕ → ℕ
 unfolding span
 lineBehind s at = at + span allowed (drop at s) + 2
 
--- From a place on, the log up to its first record, with these numbers in the places of those that stand on as many lines, the first of which
--- begins at `line`.
-unfoldable pub claimsText : Text → ℕ → ℕ → ℕ → List ℕ → Text
-unfolding numberEnd lineBehind digits
-claimsText s first from line [] = between s from first
-claimsText s first from line (n ∷ ns) =
-    let e = numberEnd s (numberStart line) in
-    between s from (numberStart line) ++ digits n ++ claimsText s first e (lineBehind s e) ns
+-- Where the line of the claim behind so many begins, from the first one's line on.
+unfoldable pub claimLine : Text → ℕ → ℕ → ℕ
+unfolding numberEnd lineBehind
+claimLine s line zero = line
+claimLine s line (suc i) = lineBehind s (numberEnd s (numberStart (claimLine s line i)))
 
--- The nine claims stand behind 27 lines: the identifier's, and those of 26 keywords.
-unfoldable pub headText : Text → ℕ → Totals → Text
-unfolding claimsText lineOn claimNumbers
-headText s first t = claimsText s first 0 (lineStart s 27) (claimNumbers t)
+-- Where the numbers of so many claims begin, and where they end.
+abbrev pub claimStart : Text → ℕ → ℕ → ℕ
+claimStart s line i = numberStart (claimLine s line i)
 
--- So many lines with a number stand in order, from a place on, in front of the first record.
-abbrev pub ClaimsLie : Text → ℕ → ℕ → ℕ → ℕ → Type 0
-ClaimsLie s first from line zero = (from ≤ first) × (first ≤ length s)
-ClaimsLie s first from line (suc k) =
-    (from ≤ numberStart line)
-    × (numberStart line ≤ length s)
-    × ClaimsLie s first (numberEnd s (numberStart line)) (lineBehind s (numberEnd s (numberStart line))) k
+abbrev pub claimEnd : Text → ℕ → ℕ → ℕ
+claimEnd s line i = numberEnd s (claimStart s line i)
+
+abbrev pub claimStarts : Text → ℕ → ℕ → List ℕ
+claimStarts s line n = row (claimStart s line) n
+
+abbrev pub claimEnds : Text → ℕ → ℕ → List ℕ
+claimEnds s line n = row (claimEnd s line) n
+
+-- What stands between two claims, and the right number in the place of the claimed one.
+abbrev pub claimText : Text → ℕ → List ℕ → List ℕ → List ℕ → ℕ → Text
+claimText s from starts ends ns i = between s (startOf 0 from ends i) (getD starts i 0) ++ digits (getD ns i 0)
+
+-- The log from a place to its first record, with these numbers in the places of those that begin and end as told.
+unfoldable pub claimsText : Text → ℕ → ℕ → List ℕ → List ℕ → List ℕ → Text
+unfolding texts startOf digits
+claimsText s first from starts ends ns =
+    texts (claimText s from starts ends ns) (length ns) ++ between s (startOf 0 from ends (length ns)) first

@@ -3,3 +3,4 @@ pub mod Written
 pub mod ClaimsText
 pub mod RecordText
 pub mod LogText
+pub mod Given

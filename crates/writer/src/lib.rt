@@ -1,28 +1,28 @@
-// Writing a log back: texts and numbers laid over a lent slice, one behind the other.
+// Writing a log back: texts and numbers laid over a lent slice, one behind the other. The places of all that changes are known; the result is measured
+// by them first, and the log is walked over only to copy it. What the desk program shows of a log is laid in the same way.
 
-ghost use mathlib.Core.Path.{_≡_};
-ghost use mathlib.Core.Bool.{_&&_};
-ghost use mathlib.Core.List.{List, [], _∷_};
-ghost use Prim.Native.Nat.{ℕ, _+_, _-_, _*_, _<_, _≤_};
+ghost use Prim.Native.Nat.{_+_, _-_, _*_, _<_, _≤_};
 ghost use lib.Dec.{leb};
 ghost use lib.ListN.{length};
-ghost use Rattle.rules.specs.Text.{digits};
-ghost use Rattle.rules.specs.declared.Class.the-variants.{Credited, Duplicate};
+ghost use mathlib.Core.Bool.{cond, _&&_};
+ghost use mathlib.Core.List.{[], _∷_, _++_};
+ghost use mathlib.Core.Path.{_≡_};
+ghost use Rattle.reader.specs.Contact.{between};
+ghost use Rattle.rules.specs.Answers.{over};
+ghost use Rattle.rules.specs.Desk.{shownTotals, shownRefusal, desk};
 ghost use Rattle.rules.specs.Fields.{newMark, duplicateMark};
 ghost use Rattle.rules.specs.Log.{crlf};
-ghost use Rattle.rules.specs.Judging.{is};
-ghost use mathlib.Core.List.{_++_};
-ghost use Rattle.places.specs.Places.{tailAt, between};
+ghost use Rattle.rules.specs.Rules.{base};
+ghost use Rattle.rules.specs.Text.{digits};
+ghost use Rattle.writer.specs.ClaimsText.{claimNumbers, lineBehind, claimStarts, claimEnds, claimsText};
+ghost use Rattle.writer.specs.Given.{ClaimsBegin, ClaimsLie, RecordLies, RecordsLie, Writable};
+ghost use Rattle.writer.specs.LogText.{wroteOf, writtenAfterwards};
+ghost use Rattle.writer.specs.RecordText.{saysDuplicate, markText, marksText, zeroText, recordText, recordsText};
 ghost use Rattle.writer.specs.Written.{Puts};
-ghost use Rattle.writer.specs.ClaimsText.{lineBehind, claimsText, ClaimsLie};
-ghost use Rattle.writer.specs.RecordText.{markText, marksText, pointsText, recordText, numberedText, recordsText, RecordLies, RecordsLie};
-ghost use Rattle.writer.specs.LogText.{wroteOf, writtenAfterwards, Writable};
+use judge::Judged;
 use judge::Weighed;
-use places::Tail;
-use rules::Class;
 use rules::Refusal;
 use rules::Totals;
-use rules::Verdict;
 
 // How many digits write a number: twenty at most.
 fn digit_count(n: u64) -> usize
@@ -119,62 +119,65 @@ fn put_marks(
     put_end(out, end)
 }
 
-// The points that stand between two places of `s`; those of a duplicate become 0.
-fn put_points(out: &mut [u8], at: usize, s: &[u8], from: usize, to: usize, duplicate: bool) -> usize
-    requires { ⌜ (from ≤ to) × (to ≤ length (now s)) × (at + length (pointsText (now s) from to duplicate) ≤ length (now out)) ⌝ }
-    ensures { λ r. ⌜ Puts (now (out .entry)) at (pointsText (now (s .entry)) from to duplicate) (now (out .exit)) r ⌝ }
+// # The records
+
+// The verdict's number says that the record is a duplicate.
+fn is_duplicate(number: u8) -> bool
+    ensures { λ r. ⌜ r ≡ saysDuplicate number ⌝ }
+{
+    number % 16 == 2
+}
+
+// A record is copied up to the end of its points; those of a duplicate are not.
+fn copied_to(points: usize, pointsend: usize, duplicate: bool) -> usize
+    ensures { λ r. ⌜ r ≡ cond duplicate points pointsend ⌝ }
 {
     if duplicate {
-        return put_byte(out, at, 48);
+        return points;
     }
-    put_part(out, at, s, from, to)
+    pointsend
 }
 
-fn is_duplicate(class: Class) -> bool
-    ensures { λ r. ⌜ r ≡ is Duplicate class ⌝ }
+// They become 0.
+fn put_zero(out: &mut [u8], at: usize, duplicate: bool) -> usize
+    requires { ⌜ at + length (zeroText duplicate) ≤ length (now out) ⌝ }
+    ensures { λ r. ⌜ Puts (now (out .entry)) at (zeroText duplicate) (now (out .exit)) r ⌝ }
 {
-    match class {
-        Class::Credited => false,
-        Class::Void => false,
-        Class::Duplicate => true,
-        Class::Error => false,
+    if !duplicate {
+        return at;
     }
+    put_byte(out, at, 48)
 }
 
-// New-DXCC is kept on credited records alone.
-fn keeps_country(class: Class, country: bool) -> bool
-    ensures { λ r. ⌜ r ≡ (is Credited class && country) ⌝ }
-{
-    match class {
-        Class::Credited => country,
-        Class::Void => false,
-        Class::Duplicate => false,
-        Class::Error => false,
-    }
-}
-
-// The record that begins at `start`, with its points at `points`, as it is written back.
+// The record that begins at `start`, as it is written back.
 fn put_record(
     out: &mut [u8],
     at: usize,
     s: &[u8],
     start: usize,
-    points: usize,
-    t: Tail,
-    v: Verdict,
+    points: u16,
+    pointsend: u16,
+    number: u8,
 ) -> usize
-    requires { ⌜ (start ≤ points) × (points ≤ t .pointsend) × (t .pointsend ≤ length (now s)) × (at + length (recordText (now s) start points t v) ≤ length (now out)) ⌝ }
-    ensures { λ r. ⌜ Puts (now (out .entry)) at (recordText (now (s .entry)) start points t v) (now (out .exit)) r ⌝ }
+    requires { ⌜ (start ≤ points) × (points ≤ pointsend) × (pointsend ≤ length (now s)) ⌝ }
+    requires { ⌜ at + length (recordText (now s) start points pointsend number) ≤ length (now out) ⌝ }
+    ensures { λ r. ⌜ Puts (now (out .entry)) at (recordText (now (s .entry)) start points pointsend number) (now (out .exit)) r ⌝ }
 {
-    let class = v.class;
-    let duplicate = is_duplicate(class);
-    let country = keeps_country(class, t.country);
-    let copied = put_part(out, at, s, start, points);
-    let marks = put_points(out, copied, s, points, t.pointsend, duplicate);
-    put_marks(out, marks, v.exchange, v.square, country, duplicate)
+    let duplicate = is_duplicate(number);
+    let to = copied_to(points as usize, pointsend as usize, duplicate);
+    let copied = put_part(out, at, s, start, to);
+    let marks = put_zero(out, copied, duplicate);
+    put_marks(
+        out,
+        marks,
+        number / 16 % 2 == 1,
+        number / 32 % 2 == 1,
+        number / 64 % 2 == 1,
+        duplicate,
+    )
 }
 
-// How many bytes the field of a mark and its semicolon take.
+// How many bytes a field takes that holds a mark or nothing, with its semicolon.
 fn mark_length(marked: bool) -> usize
     ensures { λ r. ⌜ (r ≡ length (markText marked newMark)) × (r ≡ length (markText marked duplicateMark)) × (r ≤ 2) ⌝ }
 {
@@ -184,34 +187,122 @@ fn mark_length(marked: bool) -> usize
     1
 }
 
-// How many bytes `put_points` writes.
-fn points_length(from: usize, to: usize, duplicate: bool) -> usize
-    requires { ⌜ from ≤ to ⌝ }
-    ensures { λ r. ⌜ ((s : List ℕ) → to ≤ length s → r ≡ length (pointsText s from to duplicate)) ⌝ }
+// How many bytes `put_marks` writes.
+fn marks_length(exchange: bool, square: bool, country: bool, duplicate: bool) -> usize
+    ensures { λ r. ⌜ (r ≡ length (marksText exchange square country duplicate)) × (r ≤ 10) ⌝ }
+{
+    mark_length(exchange) + mark_length(square) + mark_length(country) + mark_length(duplicate) + 2
+}
+
+// How many bytes `put_zero` writes.
+fn zero_length(duplicate: bool) -> usize
+    ensures { λ r. ⌜ (r ≡ length (zeroText duplicate)) × (r ≤ 1) ⌝ }
 {
     if duplicate {
         return 1;
     }
-    to - from
+    0
 }
 
 // How many bytes `put_record` writes.
-fn record_length(s: &[u8], start: usize, points: usize, t: Tail, v: Verdict) -> usize
-    requires { ⌜ (start ≤ points) × (points ≤ t .pointsend) × (t .pointsend ≤ length (now s)) ⌝ }
-    ensures { λ r. ⌜ r ≡ length (recordText (now (s .entry)) start points t v) ⌝ }
+fn record_length(s: &[u8], start: usize, points: u16, pointsend: u16, number: u8) -> usize
+    requires { ⌜ (start ≤ points) × (points ≤ pointsend) × (pointsend ≤ length (now s)) ⌝ }
+    ensures { λ r. ⌜ (r ≡ length (recordText (now (s .entry)) start points pointsend number)) × (r ≤ pointsend - start + 11) ⌝ }
 {
-    let class = v.class;
-    let duplicate = is_duplicate(class);
-    let country = keeps_country(class, t.country);
-    let claimed = points_length(points, t.pointsend, duplicate);
-    let marks = mark_length(v.exchange)
-        + mark_length(v.square)
-        + mark_length(country)
-        + mark_length(duplicate);
-    points - start + claimed + marks + 2
+    let duplicate = is_duplicate(number);
+    let to = copied_to(points as usize, pointsend as usize, duplicate);
+    let marks = marks_length(
+        number / 16 % 2 == 1,
+        number / 32 % 2 == 1,
+        number / 64 % 2 == 1,
+        duplicate,
+    );
+    to - start + zero_length(duplicate) + marks
+}
+
+// CR LF stand behind the end of a record.
+fn behind_end(end: u16) -> usize
+    ensures { λ r. ⌜ r ≡ end + 2 ⌝ }
+{
+    end as usize + 2
+}
+
+// The records, the first of which begins at `first`: by where the points of each begin and end, where it ends, and the number of its verdict.
+fn put_records(
+    out: &mut [u8],
+    at: usize,
+    s: &[u8],
+    first: usize,
+    points: &[u16],
+    pointsends: &[u16],
+    ends: &[u16],
+    numbers: &[u8],
+) -> usize
+    requires { ⌜ RecordsLie (now s) first (now points) (now pointsends) (now ends) (length (now numbers)) ⌝ }
+    requires { ⌜ at + length (recordsText (now s) first (now points) (now pointsends) (now ends) (now numbers)) ≤ length (now out) ⌝ }
+    ensures { λ r. ⌜ Puts (now (out .entry)) at (recordsText (now (s .entry)) first (now (points .entry)) (now (pointsends .entry)) (now (ends .entry)) (now (numbers .entry))) (now (out .exit)) r ⌝ }
+{
+    let mut end = at;
+    let mut start = first;
+    let mut i = 0;
+    while i < numbers.len() {
+        end = put_record(out, end, s, start, points[i], pointsends[i], numbers[i]);
+        start = behind_end(ends[i]);
+        i += 1;
+    }
+    end
+}
+
+// How many bytes `put_records` writes.
+fn records_length(
+    s: &[u8],
+    first: usize,
+    points: &[u16],
+    pointsends: &[u16],
+    ends: &[u16],
+    numbers: &[u8],
+) -> usize
+    requires { ⌜ RecordsLie (now s) first (now points) (now pointsends) (now ends) (length (now numbers)) × (length (now s) ≤ base .longestLog) ⌝ }
+    ensures { λ r. ⌜ (r ≡ length (recordsText (now (s .entry)) first (now (points .entry)) (now (pointsends .entry)) (now (ends .entry)) (now (numbers .entry)))) × (r ≤ 7 * length (now (s .entry))) ⌝ }
+{
+    let mut sum = 0;
+    let mut start = first;
+    let mut i = 0;
+    while i < numbers.len() {
+        sum += record_length(s, start, points[i], pointsends[i], numbers[i]);
+        start = behind_end(ends[i]);
+        i += 1;
+    }
+    sum
 }
 
 // # The claims
+
+// The place behind the line that goes on at this place.
+fn line_behind(s: &[u8], at: usize) -> usize
+    requires { ⌜ at ≤ length (now s) ⌝ }
+    ensures { λ r. ⌜ r ≡ lineBehind (now (s .entry)) at ⌝ }
+{
+    reader::allowed_run(s, at) + 2
+}
+
+// Where the numbers of as many claims as there is room for begin and end, the first of them on the line that begins at `line`.
+fn claims_at(s: &[u8], line: usize, starts: &mut [usize], ends: &mut [usize])
+    requires { ⌜ ClaimsBegin (now s) line (length (now starts)) × (length (now ends) ≡ length (now starts)) ⌝ }
+    ensures starts { λ r. ⌜ now (starts .exit) ≡ claimStarts (now (s .entry)) line (length (now (starts .entry))) ⌝ }
+    ensures ends { λ r. ⌜ now (ends .exit) ≡ claimEnds (now (s .entry)) line (length (now (starts .entry))) ⌝ }
+{
+    let mut next = line;
+    let mut i = 0;
+    while i < starts.len() {
+        let start = next + 6;
+        let end = fields::digit_run(s, start);
+        starts[i] = start;
+        ends[i] = end;
+        next = line_behind(s, end);
+        i += 1;
+    }
+}
 
 // The part of `s` from a place to a claimed number, and the right number in its place.
 fn put_claim(out: &mut [u8], at: usize, s: &[u8], from: usize, to: usize, n: u64) -> usize
@@ -222,134 +313,61 @@ fn put_claim(out: &mut [u8], at: usize, s: &[u8], from: usize, to: usize, n: u64
     put_number(out, start, n)
 }
 
-// The place behind the line that goes on at this place.
-fn line_behind(s: &[u8], at: usize) -> usize
-    requires { ⌜ at ≤ length (now s) ⌝ }
-    ensures { λ r. ⌜ r ≡ lineBehind (now (s .entry)) at ⌝ }
-{
-    reader::allowed_run(s, at) + 2
-}
-
-// The log in front of its first record, with these numbers for those on as many lines, the first of which begins at `line`.
-fn put_claims(out: &mut [u8], s: &[u8], first: usize, line: usize, claims: &[u64]) -> usize
-    requires { ⌜ ClaimsLie (now s) first 0 line (length (now claims)) ⌝ }
-    requires { ⌜ length (claimsText (now s) first 0 line (now claims)) ≤ length (now out) ⌝ }
-    ensures { λ r. ⌜ Puts (now (out .entry)) 0 (claimsText (now (s .entry)) first 0 line (now (claims .entry))) (now (out .exit)) r ⌝ }
+// The log in front of its first record, with these numbers for those that begin and end as told.
+fn put_claims(
+    out: &mut [u8],
+    s: &[u8],
+    first: usize,
+    starts: &[usize],
+    ends: &[usize],
+    claims: &[u64],
+) -> usize
+    requires { ⌜ ClaimsLie (now s) first (now starts) (now ends) (length (now claims)) ⌝ }
+    requires { ⌜ length (claimsText (now s) first 0 (now starts) (now ends) (now claims)) ≤ length (now out) ⌝ }
+    ensures { λ r. ⌜ Puts (now (out .entry)) 0 (claimsText (now (s .entry)) first 0 (now (starts .entry)) (now (ends .entry)) (now (claims .entry))) (now (out .exit)) r ⌝ }
 {
     let mut at = 0;
     let mut from = 0;
-    let mut next = line;
     let mut i = 0;
     while i < claims.len() {
-        let start = next + 6;
-        at = put_claim(out, at, s, from, start, claims[i]);
-        from = fields::digit_run(s, start);
-        next = line_behind(s, from);
+        at = put_claim(out, at, s, from, starts[i], claims[i]);
+        from = ends[i];
         i += 1;
     }
     put_part(out, at, s, from, first)
 }
 
 // How many bytes `put_claims` writes.
-fn claims_length(s: &[u8], first: usize, line: usize, claims: &[u64]) -> usize
-    requires { ⌜ ClaimsLie (now s) first 0 line (length (now claims)) × (length (now claims) ≤ 9) ⌝ }
-    ensures { λ r. ⌜ (r ≡ length (claimsText (now (s .entry)) first 0 line (now (claims .entry)))) × (r ≤ length (now (s .entry)) + 20 * 9) ⌝ }
+fn claims_length(s: &[u8], first: usize, starts: &[usize], ends: &[usize], claims: &[u64]) -> usize
+    requires { ⌜ ClaimsLie (now s) first (now starts) (now ends) (length (now claims)) × (length (now claims) ≤ 9) × (length (now s) ≤ base .longestLog) ⌝ }
+    ensures { λ r. ⌜ (r ≡ length (claimsText (now (s .entry)) first 0 (now (starts .entry)) (now (ends .entry)) (now (claims .entry)))) × (r ≤ length (now (s .entry)) + 20 * 9) ⌝ }
 {
     let mut sum = 0;
     let mut from = 0;
-    let mut next = line;
     let mut i = 0;
     while i < claims.len() {
-        let start = next + 6;
-        sum += start - from + digit_count(claims[i]);
-        from = fields::digit_run(s, start);
-        next = line_behind(s, from);
+        sum += starts[i] - from + digit_count(claims[i]);
+        from = ends[i];
         i += 1;
     }
     sum + (first - from)
 }
 
-// # The records
-
-// What a record takes: the place behind its text, or how long that is, and where the next record begins.
-struct Passed {
-    at: usize,
-    next: usize,
-}
-
-// A record by where its points begin and by the number of its verdict.
-fn put_next(out: &mut [u8], at: usize, s: &[u8], start: usize, points: u16, number: u8) -> Passed
-    requires { ⌜ RecordLies (now s) start points ⌝ }
-    requires { ⌜ at + length (numberedText (now s) start points number) ≤ length (now out) ⌝ }
-    ensures text { λ r. ⌜ Puts (now (out .entry)) at (numberedText (now (s .entry)) start points number) (now (out .exit)) (r .at) ⌝ }
-    ensures next { λ r. ⌜ r .next ≡ (tailAt (now (s .entry)) points) .next ⌝ }
+// The nine numbers that are claimed, in the order of their lines.
+fn claim_numbers(t: Totals) -> [u64; 9]
+    ensures { λ r. ⌜ r ≡ claimNumbers t ⌝ }
 {
-    let p = points as usize;
-    let tail = places::tail_at(s, p);
-    let next = tail.next;
-    let v = judge::verdict_from(number);
-    Passed {
-        at: put_record(out, at, s, start, p, tail, v),
-        next,
-    }
-}
-
-// How many bytes `put_next` writes.
-fn length_next(s: &[u8], start: usize, points: u16, number: u8) -> Passed
-    requires { ⌜ RecordLies (now s) start points ⌝ }
-    ensures length { λ r. ⌜ r .at ≡ length (numberedText (now (s .entry)) start points number) ⌝ }
-    ensures next { λ r. ⌜ r .next ≡ (tailAt (now (s .entry)) points) .next ⌝ }
-{
-    let p = points as usize;
-    let tail = places::tail_at(s, p);
-    let next = tail.next;
-    let v = judge::verdict_from(number);
-    Passed {
-        at: record_length(s, start, p, tail, v),
-        next,
-    }
-}
-
-// The records that begin at `first`, by where the points of each begin and by the number of its verdict.
-fn put_records(
-    out: &mut [u8],
-    at: usize,
-    s: &[u8],
-    first: usize,
-    points: &[u16],
-    numbers: &[u8],
-) -> usize
-    requires { ⌜ RecordsLie (now s) first (now points) × (length (now numbers) ≡ length (now points)) ⌝ }
-    requires { ⌜ at + length (recordsText (now s) first (now points) (now numbers)) ≤ length (now out) ⌝ }
-    ensures { λ r. ⌜ Puts (now (out .entry)) at (recordsText (now (s .entry)) first (now (points .entry)) (now (numbers .entry))) (now (out .exit)) r ⌝ }
-{
-    let mut end = at;
-    let mut start = first;
-    let mut i = 0;
-    while i < points.len() {
-        let passed = put_next(out, end, s, start, points[i], numbers[i]);
-        end = passed.at;
-        start = passed.next;
-        i += 1;
-    }
-    end
-}
-
-// How many bytes `put_records` writes.
-fn records_length(s: &[u8], first: usize, points: &[u16], numbers: &[u8]) -> usize
-    requires { ⌜ RecordsLie (now s) first (now points) × (length (now numbers) ≡ length (now points)) × (length (now points) ≤ 999) ⌝ }
-    ensures { λ r. ⌜ (r ≡ length (recordsText (now (s .entry)) first (now (points .entry)) (now (numbers .entry)))) × (r ≤ length (now (s .entry)) + 11 * 999) ⌝ }
-{
-    let mut sum = 0;
-    let mut start = first;
-    let mut i = 0;
-    while i < points.len() {
-        let passed = length_next(s, start, points[i], numbers[i]);
-        sum += passed.at;
-        start = passed.next;
-        i += 1;
-    }
-    sum
+    [
+        t.credited,
+        t.points,
+        t.squares,
+        t.squarebonus,
+        t.exchanges,
+        t.exchangebonus,
+        t.countries,
+        t.countrybonus,
+        t.total,
+    ]
 }
 
 // # The log
@@ -362,9 +380,9 @@ pub enum Wrote {
 
 // A result of this length is no longer than a log may be, nor than the slice.
 fn result_fits(length: usize, room: usize) -> bool
-    ensures { λ r. ⌜ r ≡ (leb length 65_535 && leb length room) ⌝ }
+    ensures { λ r. ⌜ r ≡ (leb length (base .longestLog) && leb length room) ⌝ }
 {
-    if 65535 < length {
+    if rules::longest_log() < length {
         return false;
     }
     length <= room
@@ -378,26 +396,21 @@ fn write_weighed(
     first: usize,
     line: usize,
     points: &[u16],
+    pointsends: &[u16],
+    ends: &[u16],
     numbers: &[u8],
     out: &mut [u8],
 ) -> Wrote
-    requires { ⌜ Writable (now log) t first line (now points) (now numbers) ⌝ }
-    ensures answer { λ r. ⌜ r ≡ wroteOf (length (now (out .entry))) (now (log .entry)) ⌝ }
-    ensures slice { λ r. ⌜ now (out .exit) ≡ writtenAfterwards (now (log .entry)) (now (out .entry)) ⌝ }
+    requires { ⌜ Writable base (now log) t first line (now points) (now pointsends) (now ends) (now numbers) ⌝ }
+    ensures answer { λ r. ⌜ r ≡ wroteOf base (length (now (out .entry))) (now (log .entry)) ⌝ }
+    ensures slice { λ r. ⌜ now (out .exit) ≡ writtenAfterwards base (now (log .entry)) (now (out .entry)) ⌝ }
 {
-    let claims = [
-        t.credited,
-        t.points,
-        t.squares,
-        t.squarebonus,
-        t.exchanges,
-        t.exchangebonus,
-        t.countries,
-        t.countrybonus,
-        t.total,
-    ];
-    let head = claims_length(log, first, line, &claims);
-    let length = head + records_length(log, first, points, numbers);
+    let claims = claim_numbers(t);
+    let mut claimstarts = [0usize; 9];
+    let mut claimends = [0usize; 9];
+    claims_at(log, line, &mut claimstarts, &mut claimends);
+    let head = claims_length(log, first, &claimstarts, &claimends, &claims);
+    let length = head + records_length(log, first, points, pointsends, ends, numbers);
     if !result_fits(length, out.len()) {
         return Wrote::Refused(Refusal {
             number: 8,
@@ -405,18 +418,20 @@ fn write_weighed(
             field: 0,
         });
     }
-    let at = put_claims(out, log, first, line, &claims);
-    Wrote::Length(put_records(out, at, log, first, points, numbers))
+    let at = put_claims(out, log, first, &claimstarts, &claimends, &claims);
+    Wrote::Length(put_records(out, at, log, first, points, pointsends, ends, numbers))
 }
 
 // A log is read, judged and written back to the front of the slice. On a refusal no byte of the slice is changed.
 pub fn write(log: &[u8], out: &mut [u8]) -> Wrote
-    ensures answer { λ r. ⌜ r ≡ wroteOf (length (now (out .entry))) (now (log .entry)) ⌝ }
-    ensures slice { λ r. ⌜ now (out .exit) ≡ writtenAfterwards (now (log .entry)) (now (out .entry)) ⌝ }
+    ensures answer { λ r. ⌜ r ≡ wroteOf base (length (now (out .entry))) (now (log .entry)) ⌝ }
+    ensures slice { λ r. ⌜ now (out .exit) ≡ writtenAfterwards base (now (log .entry)) (now (out .entry)) ⌝ }
 {
-    let mut verdicts = [0u8; 999];
-    let mut points = [0u16; 999];
-    match judge::weigh(log, &mut verdicts, &mut points) {
+    let mut verdicts = [0u8; rules::MOST_RECORDS];
+    let mut points = [0u16; rules::MOST_RECORDS];
+    let mut pointsends = [0u16; rules::MOST_RECORDS];
+    let mut ends = [0u16; rules::MOST_RECORDS];
+    match judge::weigh(log, &mut verdicts, &mut points, &mut pointsends, &mut ends) {
         Weighed::Done {
             totals,
             records,
@@ -428,9 +443,60 @@ pub fn write(log: &[u8], out: &mut [u8]) -> Wrote
             first,
             claims,
             &points[..records],
+            &pointsends[..records],
+            &ends[..records],
             &verdicts[..records],
             out,
         ),
         Weighed::Refused(r) => Wrote::Refused(r),
+    }
+}
+
+// # What the desk program shows
+
+// Room for what is shown of any log: six words of ten bytes at most, and behind each a number of twenty digits at most and the line's end.
+pub const SHOWN: usize = 256;
+
+// A word, a number and one byte more.
+fn put_word(out: &mut [u8], at: usize, word: &[u8], n: u64, last: u8) -> usize
+    requires { ⌜ at + length (now word) + 21 ≤ length (now out) ⌝ }
+    ensures text { λ r. ⌜ Puts (now (out .entry)) at (now (word .entry) ++ digits n ++ (last ∷ [])) (now (out .exit)) r ⌝ }
+    ensures end { λ r. ⌜ r ≤ at + length (now (word .entry)) + 21 ⌝ }
+{
+    let number = put_part(out, at, word, 0, word.len());
+    let end = put_number(out, number, n);
+    put_byte(out, end, last)
+}
+
+// The six lines of a judged log.
+fn show_totals(t: Totals, out: &mut [u8; SHOWN]) -> usize
+    ensures { λ r. ⌜ Puts (now (out .entry)) 0 (shownTotals t) (now (out .exit)) r ⌝ }
+{
+    let second = put_word(out, 0, b"QSOS ", t.credited, 10);
+    let third = put_word(out, second, b"POINTS ", t.points, 10);
+    let fourth = put_word(out, third, b"WWLS ", t.squares, 10);
+    let fifth = put_word(out, fourth, b"EXCHANGES ", t.exchanges, 10);
+    let sixth = put_word(out, fifth, b"DXCCS ", t.countries, 10);
+    put_word(out, sixth, b"TOTAL ", t.total, 10)
+}
+
+// The one line of a refusal.
+fn show_refusal(r: Refusal, out: &mut [u8; SHOWN]) -> usize
+    ensures { λ n. ⌜ Puts (now (out .entry)) 0 (shownRefusal r) (now (out .exit)) n ⌝ }
+{
+    let line = put_word(out, 0, b"REFUSED ", r.number as u64, 32);
+    let field = put_word(out, line, b"", r.line as u64, 32);
+    put_word(out, field, b"", r.field as u64, 10)
+}
+
+// A log is judged, and what the desk program shows of it is laid over the front of the slice.
+pub fn show(log: &[u8], out: &mut [u8; SHOWN]) -> usize
+    ensures answer { λ r. ⌜ r ≡ length (desk base (now (log .entry))) ⌝ }
+    ensures slice { λ r. ⌜ now (out .exit) ≡ over (desk base (now (log .entry))) (now (out .entry)) ⌝ }
+{
+    let mut verdicts = [0u8; rules::MOST_RECORDS];
+    match judge::judge(log, &mut verdicts) {
+        Judged::Totals(t) => show_totals(t, out),
+        Judged::Refused(r) => show_refusal(r, out),
     }
 }

@@ -1,3 +1,4 @@
+-- The byte at a place, and a semicolon beyond the line.
 use denote.Ref.{now}
 use borrow.Author.Needs.{needs}
 use Rattle.fields.proofs.ShapeLaws.{beyond, any-default}

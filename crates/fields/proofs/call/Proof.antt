@@ -1,3 +1,4 @@
+-- A call is read as the definition says: the run of its characters is the field, and is as long as a call may be.
 use native.Mathlib.Omega.{arith}
 use mathlib.Core.Path.{refl}
 use denote.Ref.{now}
@@ -8,10 +9,10 @@ use Rattle.fields.proofs.call.Statement.{statement}
 use Rattle.fields.proofs.call.Tie as tie
 
 call-run-requires : tie.Need-call-run-requires
-call-run-requires c κs = search needs
+call-run-requires c κs = tt
 
 ends-requires : tie.Need-ends-requires
-ends-requires c κs = search needs
+ends-requires c κs = tt
 
 returns : tie.Need-returns
 returns c =

@@ -1,6 +1,7 @@
-use borrow.Author.Needs.{needs}
+-- The loop stops where the run of call characters does.
 use Prim.Native.Nat.{_-_}
 use lib.ListN.{length}
+use borrow.Author.Needs.{needs}
 use Rattle.rules.specs.Fields.{callCharacter}
 use Rattle.fields.proofs.FieldLaws.{Within, run-starts, run-more, run-stops, run-ends}
 use Rattle.fields.proofs.call_run.Statement.{statement}
@@ -19,7 +20,7 @@ shared-slice-read-is-call-character : tie.Need-shared-slice-read-is-call-charact
 shared-slice-read-is-call-character c = search needs
 
 is-call-character-requires : tie.Need-is-call-character-requires Inv-loop μ-loop
-is-call-character-requires c κs = search needs
+is-call-character-requires c κs = tt
 
 returns : tie.Need-returns Inv-loop μ-loop
 returns c = run-stops (c .before .before .before .before .loop .inv) (c .before .before .before .loop-test .taken) (c .before .is-call-character .ensures) (c .if1 .taken)

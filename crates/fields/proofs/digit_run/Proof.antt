@@ -1,6 +1,7 @@
-use borrow.Author.Needs.{needs}
+-- The loop stops where the run of digits does.
 use Prim.Native.Nat.{_-_}
 use lib.ListN.{length}
+use borrow.Author.Needs.{needs}
 use Rattle.rules.specs.Text.{digit}
 use Rattle.fields.proofs.FieldLaws.{Within, run-starts, run-more, run-stops, run-ends}
 use Rattle.fields.proofs.digit_run.Statement.{statement}
@@ -19,7 +20,7 @@ shared-slice-read-is-digit : tie.Need-shared-slice-read-is-digit Inv-loop μ-loo
 shared-slice-read-is-digit c = search needs
 
 is-digit-requires : tie.Need-is-digit-requires Inv-loop μ-loop
-is-digit-requires c κs = search needs
+is-digit-requires c κs = tt
 
 returns : tie.Need-returns Inv-loop μ-loop
 returns c = run-stops (c .before .before .before .before .loop .inv) (c .before .before .before .loop-test .taken) (c .before .is-digit .ensures) (c .if1 .taken)

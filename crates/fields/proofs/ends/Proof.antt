@@ -1,5 +1,6 @@
-use Rattle.fields.proofs.FieldLaws.{ends-with-line, ends-at-semicolon}
+-- A field ends with the line, and at a semicolon.
 use borrow.Author.Needs.{needs}
+use Rattle.fields.proofs.FieldLaws.{ends-with-line, ends-at-semicolon}
 use Rattle.fields.proofs.ends.Statement.{statement}
 use Rattle.fields.proofs.ends.Tie as tie
 

@@ -1,6 +1,7 @@
-use borrow.Author.Needs.{needs}
+-- The loop stops where the run of exchange characters does.
 use Prim.Native.Nat.{_-_}
 use lib.ListN.{length}
+use borrow.Author.Needs.{needs}
 use Rattle.rules.specs.Fields.{exchangeCharacter}
 use Rattle.fields.proofs.FieldLaws.{Within, run-starts, run-more, run-stops, run-ends}
 use Rattle.fields.proofs.exchange_run.Statement.{statement}
@@ -19,7 +20,7 @@ shared-slice-read-is-exchange-character : tie.Need-shared-slice-read-is-exchange
 shared-slice-read-is-exchange-character c = search needs
 
 is-exchange-character-requires : tie.Need-is-exchange-character-requires Inv-loop μ-loop
-is-exchange-character-requires c κs = search needs
+is-exchange-character-requires c κs = tt
 
 returns : tie.Need-returns Inv-loop μ-loop
 returns c = run-stops (c .before .before .before .before .loop .inv) (c .before .before .before .loop-test .taken) (c .before .is-exchange-character .ensures) (c .if1 .taken)

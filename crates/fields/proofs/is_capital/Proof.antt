@@ -1,3 +1,4 @@
+-- A capital letter, by its two bounds.
 use Rattle.fields.proofs.FieldLaws.{range-below, range-from}
 use Rattle.fields.proofs.is_capital.Statement.{statement}
 use Rattle.fields.proofs.is_capital.Tie as tie

@@ -1,3 +1,4 @@
+-- A digit, by its two bounds.
 use Rattle.fields.proofs.FieldLaws.{range-below, range-from}
 use Rattle.fields.proofs.is_digit.Statement.{statement}
 use Rattle.fields.proofs.is_digit.Tie as tie

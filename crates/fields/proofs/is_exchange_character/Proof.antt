@@ -1,3 +1,4 @@
+-- A character of an exchange: an allowed one that is neither the semicolon nor a small letter.
 use Rattle.fields.proofs.RunLaws.{exchange-below, exchange-above, exchange-semicolon, exchange-first, exchange-last}
 use Rattle.fields.proofs.is_exchange_character.Statement.{statement}
 use Rattle.fields.proofs.is_exchange_character.Tie as tie

@@ -1,3 +1,4 @@
+-- A letter A to R, by its two bounds.
 use Rattle.fields.proofs.FieldLaws.{range-below, range-from}
 use Rattle.fields.proofs.is_square_letter.Statement.{statement}
 use Rattle.fields.proofs.is_square_letter.Tie as tie

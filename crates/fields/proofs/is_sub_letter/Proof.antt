@@ -1,3 +1,4 @@
+-- A letter A to X, by its two bounds.
 use Rattle.fields.proofs.FieldLaws.{range-below, range-from}
 use Rattle.fields.proofs.is_sub_letter.Statement.{statement}
 use Rattle.fields.proofs.is_sub_letter.Tie as tie

@@ -1,16 +1,16 @@
-use native.Mathlib.Omega.{arith}
+-- A mark is read as the definition says: the letter, or nothing.
 use Prim.Native.Nat.{_+_}
-use denote.Ref.{now}
-use borrow.Author.Needs.{needs}
+use native.Mathlib.Omega.{arith}
 use mathlib.Core.List.{[], _∷_}
-use Rattle.rules.specs.Text.{same}
+use denote.Ref.{now}
 use Rattle.rules.specs.Fields.{emptyOr}
+use Rattle.rules.specs.Text.{same}
 use Rattle.fields.proofs.ShapeLaws.{Goes, ended, too-long, whole, mark-none, mark-other, mark-here, mark-bad, mark-set}
 use Rattle.fields.proofs.mark.Statement.{statement}
 use Rattle.fields.proofs.mark.Tie as tie
 
 byte-at-requires : tie.Need-byte-at-requires
-byte-at-requires c κs = search needs
+byte-at-requires c κs = tt
 
 returns : tie.Need-returns
 returns c = mark-none _ _ _ (c .before .byte-at .ensures) (c .if1 .taken)
@@ -25,7 +25,7 @@ add-end : tie.Need-add-end
 add-end c = omega (arith, here c .within (omega arith))
 
 ends-requires : tie.Need-ends-requires
-ends-requires c κs = search needs
+ends-requires c κs = tt
 
 returns-3 : tie.Need-returns-3
 returns-3 c = mark-bad _ _ _ (too-long (c .before .ends .ensures) (here (c .before .before)) (c .if3 .taken))

@@ -1,10 +1,10 @@
+-- A mode is read as the definition says: a digit, or nothing.
+use Prim.Native.Nat.{ℕ, _+_}
 use native.Mathlib.Omega.{arith}
 use mathlib.Core.Path.{refl}
-use Prim.Native.Nat.{ℕ, _+_}
 use denote.Ref.{now}
-use borrow.Author.Needs.{needs}
-use Rattle.rules.specs.Text.{digit}
 use Rattle.rules.specs.Fields.{mode}
+use Rattle.rules.specs.Text.{digit}
 use Rattle.fields.proofs.ShapeLaws.{Shape, Goes, goes, ended, one, too-long, whole, may-end, may-go-on, step, stop, mode-is, mode-bad, mode-kept}
 use Rattle.fields.proofs.mode.Statement.{statement}
 use Rattle.fields.proofs.mode.Tie as tie
@@ -14,7 +14,7 @@ abbrev Behind : tie.Start → Shape → ℕ → Type 0
 Behind c p n = Goes mode p (now (c .args .s)) (c .args .at) (c .args .at + n)
 
 byte-at-requires : tie.Need-byte-at-requires
-byte-at-requires c κs = search needs
+byte-at-requires c κs = tt
 
 returns : tie.Need-returns
 returns c = mode-kept _ _ _ (may-end (c .before .byte-at .ensures) (goes _ _ mode-is) (c .if1 .taken))
@@ -23,7 +23,7 @@ past0 : (c : tie.Else1) → Goes mode (one digit ended) (now (c .before .before 
 past0 c = may-go-on (c .before .byte-at .ensures) (goes _ _ mode-is) (c .if1 .left)
 
 is-digit-requires : tie.Need-is-digit-requires
-is-digit-requires c κs = search needs
+is-digit-requires c κs = tt
 
 returns-2 : tie.Need-returns-2
 returns-2 c = mode-bad _ _ (stop digit refl (past0 (c .before .before)) (c .before .before .before .byte-at .ensures) (c .before .is-digit .ensures) (c .if2 .taken))
@@ -35,7 +35,7 @@ add-end : tie.Need-add-end
 add-end c = omega (arith, behind1 c .within (omega arith))
 
 ends-requires : tie.Need-ends-requires
-ends-requires c κs = search needs
+ends-requires c κs = tt
 
 returns-3 : tie.Need-returns-3
 returns-3 c = mode-bad _ _ (too-long (c .before .ends .ensures) (behind1 (c .before .before)) (c .if3 .taken))

@@ -1,5 +1,6 @@
-use Rattle.figures.proofs.CalendarLaws.{year-ninety, year-later}
+-- The full year of two digits, by the year that the century turns at.
 use borrow.Author.Needs.{needs}
+use Rattle.figures.proofs.CalendarLaws.{year-ninety, year-later}
 use Rattle.figures.proofs.full_year.Statement.{statement}
 use Rattle.figures.proofs.full_year.Tie as tie
 

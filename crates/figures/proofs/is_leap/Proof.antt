@@ -1,3 +1,4 @@
+-- A leap year, by what divides it.
 use Rattle.figures.proofs.CalendarLaws.{leap-four-hundred, leap-hundred, leap-four}
 use Rattle.figures.proofs.is_leap.Statement.{statement}
 use Rattle.figures.proofs.is_leap.Tie as tie

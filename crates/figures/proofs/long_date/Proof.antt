@@ -1,12 +1,13 @@
-use Rattle.fields.specs.Field.{endsAt}
-use denote.Ref.{now}
+-- A long date is read as the definition says: eight digits, a year in the window, and a day that exists.
 use native.Mathlib.Omega.{arith}
-use mathlib.Core.Path.{_≡_, sym, ap, _∙_}
 use mathlib.Core.Bool.{true, not}
-use borrow.Author.Tests.{not-false}
-use Rattle.figures.proofs.NumberLaws.{end-here}
-use Rattle.figures.proofs.DateLaws.{long-date-unended, long-date-other, long-date-below, long-date-early, long-date-late, long-date-no-day, long-date-good}
+use mathlib.Core.Path.{_≡_, sym, ap, _∙_}
+use denote.Ref.{now}
 use borrow.Author.Needs.{needs}
+use borrow.Author.Tests.{not-false}
+use Rattle.fields.specs.Field.{endsAt}
+use Rattle.figures.proofs.DateLaws.{long-date-unended, long-date-other, long-date-below, long-date-early, long-date-late, long-date-no-day, long-date-good}
+use Rattle.figures.proofs.NumberLaws.{end-here}
 use Rattle.figures.proofs.long_date.Statement.{statement}
 use Rattle.figures.proofs.long_date.Tie as tie
 
@@ -18,7 +19,7 @@ read-digits-requires : tie.Need-read-digits-requires
 read-digits-requires c κs = search needs
 
 ends-requires : tie.Need-ends-requires
-ends-requires c κs = search needs
+ends-requires c κs = tt
 
 returns : tie.Need-returns
 returns c = long-date-unended _ _ _ (c .before .before .read-digits .ensures) (ap not (sym (c .before .ends .ensures)) ∙ c .if1 .taken)
@@ -44,17 +45,19 @@ returns-4 c =
     (search needs) (search needs)
 
 day-exists-requires : tie.Need-day-exists-requires
-day-exists-requires c κs = search needs
+day-exists-requires c κs = tt
 
 returns-5 : tie.Need-returns-5
 returns-5 c =
-    long-date-no-day _ _ _ (c .before .before .before .before .before .before .before .before .read-digits .ensures) (ended (c .before .before .before .before .before .before))
-    (c .before .before .before .before .before .if2 .left) (search needs) (search needs) (c .before .day-exists .ensures) (c .if5 .taken)
+    let e = c .before .before .before .before .before .before in
+    long-date-no-day _ _ _ (e .before .before .read-digits .ensures) (ended e) (c .before .before .before .before .before .if2 .left) (search needs)
+    (search needs) (c .before .day-exists .ensures) (c .if5 .taken)
 
 returns-6 : tie.Need-returns-6
 returns-6 c =
-    long-date-good _ _ _ (c .before .before .before .before .before .before .before .before .read-digits .ensures) (ended (c .before .before .before .before .before .before))
-    (c .before .before .before .before .before .if2 .left) (search needs) (search needs) (c .before .day-exists .ensures) (c .if5 .left)
+    let e = c .before .before .before .before .before .before in
+    long-date-good _ _ _ (e .before .before .read-digits .ensures) (ended e) (c .before .before .before .before .before .if2 .left) (search needs)
+    (search needs) (c .before .day-exists .ensures) (c .if5 .left)
 
 pub long-date-spec : {M : Type 1} → statement M
 long-date-spec =

@@ -1,26 +1,14 @@
-use native.Mathlib.Omega.{arith}
-use mathlib.Core.Path.{sym, ap, _∙_}
-use mathlib.Core.Bool.{not}
+-- The length of a month, by the table and the leap year.
 use Prim.Native.Nat.{_-_}
+use native.Mathlib.Omega.{arith}
+use mathlib.Core.Bool.{not}
+use mathlib.Core.Path.{sym, ap, _∙_}
+use borrow.Author.Needs.{needs}
 use borrow.Author.Tests.{not-false}
 use Rattle.rules.specs.Fields.{monthLengths}
-use Rattle.figures.proofs.CalendarLaws.{length-beyond, length-none, length-plain, length-common, length-leap, length-small}
-use borrow.Author.Needs.{needs}
+use Rattle.figures.proofs.CalendarLaws.{length-plain, length-common, length-leap, length-small}
 use Rattle.figures.proofs.month_length.Statement.{statement}
 use Rattle.figures.proofs.month_length.Tie as tie
-
-returns : tie.Need-returns
-returns c = length-beyond _ _ (c .if1 .taken)
-
-array-read-result : tie.Need-array-read-result
-array-read-result c = search needs
-
-cast-result : tie.Need-cast-result
-cast-result c = search needs
-
-returns-2 : tie.Need-returns-2
-unfolding monthLengths
-returns-2 c = omega (arith, length-none (c .before .before .args .year) (c .before .before .args .month) (c .if2 .taken))
 
 sub-i : tie.Need-sub-i
 sub-i c = search needs
@@ -33,41 +21,37 @@ array-read-days c = search needs
 
 cast-days : tie.Need-cast-days
 unfolding monthLengths
-cast-days c = omega (arith, length-small (c .before .before .args .month - 1))
+cast-days c = omega (arith, length-small (c .args .month - 1))
 
-returns-3 : tie.Need-returns-3
+returns : tie.Need-returns
 unfolding monthLengths
-returns-3 c = length-plain _ _ (c .if3 .taken)
+returns c = length-plain _ _ (c .if1 .taken)
 
 is-leap-requires : tie.Need-is-leap-requires
-is-leap-requires c κs = search needs
+is-leap-requires c κs = tt
 
-returns-4 : tie.Need-returns-4
+returns-2 : tie.Need-returns-2
 unfolding monthLengths
-returns-4 c = length-common _ _ (ap not (sym (c .before .is-leap .ensures)) ∙ c .if4 .taken)
+returns-2 c = length-common _ _ (ap not (sym (c .before .is-leap .ensures)) ∙ c .if2 .taken)
 
 add-result : tie.Need-add-result
 unfolding monthLengths
-add-result c = omega (arith, length-small (c .before .before .before .before .before .args .month - 1))
+add-result c = omega (arith, length-small (c .before .before .before .args .month - 1))
 
-returns-5 : tie.Need-returns-5
+returns-3 : tie.Need-returns-3
 unfolding monthLengths
-returns-5 c = length-leap _ _ (c .before .before .if3 .left) (sym (c .before .is-leap .ensures) ∙ not-false _ (c .if4 .left))
+returns-3 c = length-leap _ _ (c .before .before .if1 .left) (sym (c .before .is-leap .ensures) ∙ not-false _ (c .if2 .left))
 
 pub month-length-spec : {M : Type 1} → statement M
 month-length-spec =
     tie.close
     (tie.spec
-    returns
-    array-read-result
-    cast-result
-    returns-2
     sub-i
     cast-i
     array-read-days
     cast-days
-    returns-3
+    returns
     is-leap-requires
-    returns-4
+    returns-2
     add-result
-    returns-5)
+    returns-3)

@@ -1,27 +1,19 @@
-use mathlib.Core.Path.{sym, _∙_}
-use Rattle.figures.proofs.BoundLaws.{multiplies-none, multiplies-zero, multiplies}
-use borrow.Author.Needs.{needs}
+-- A multiplier is read between the bounds that the rules give.
+use native.Mathlib.Omega.{arith}
+use Rattle.rules.specs.Arguments.{multiplier}
+use Rattle.figures.proofs.LimitLaws.{readable, bound-read}
 use Rattle.figures.proofs.multiplier_of.Statement.{statement}
 use Rattle.figures.proofs.multiplier_of.Tie as tie
 
-number-requires : tie.Need-number-requires
-number-requires c κs = search needs
+most-multiplier-requires : tie.Need-most-multiplier-requires
+most-multiplier-requires c κs = tt
 
-enum-known-value : tie.Need-enum-known-value
-enum-known-value c = search needs
-
-enum-told : tie.Need-enum-told
-enum-told c = search needs
+number-from-requires : tie.Need-number-from-requires
+number-from-requires c κs = omega (arith, c .most-multiplier .ensures, readable .multiplier)
 
 returns : tie.Need-returns
-returns c = multiplies-none _ _ (sym (c .before .before .number .ensures) ∙ c .enum-told .given .1)
-
-returns-2 : tie.Need-returns-2
-returns-2 c = multiplies-zero _ _ (sym (c .before .before .before .before .number .ensures) ∙ c .before .before .value .given .1) (c .if1 .taken)
-
-returns-3 : tie.Need-returns-3
-returns-3 c = multiplies _ _ (sym (c .before .before .before .before .number .ensures) ∙ c .before .before .value .given .1) (c .if1 .left)
+unfolding multiplier
+returns c = bound-read _ _ 1 (c .before .most-multiplier .ensures) (c .number-from .ensures)
 
 pub multiplier-of-spec : {M : Type 1} → statement M
-multiplier-of-spec =
-    tie.close (tie.spec number-requires enum-known-value enum-told returns returns-2 returns-3)
+multiplier-of-spec = tie.close (tie.spec most-multiplier-requires number-from-requires returns)

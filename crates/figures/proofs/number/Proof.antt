@@ -1,11 +1,12 @@
-use Rattle.fields.specs.Field.{endsAt}
-use denote.Ref.{now}
+-- A number is read as the definition says: digits up to the field's end, not too many, and no zero in front of others.
 use native.Mathlib.Omega.{arith}
-use mathlib.Core.Path.{_≡_, sym, ap, _∙_}
 use mathlib.Core.Bool.{true, not}
-use borrow.Author.Tests.{not-false}
-use Rattle.figures.proofs.NumberLaws.{reads-no-end, reads-none, reads-plain, reads-zeros, reads-zero, starts-within, end-here}
+use mathlib.Core.Path.{_≡_, sym, ap, _∙_}
+use denote.Ref.{now}
 use borrow.Author.Needs.{needs}
+use borrow.Author.Tests.{not-false}
+use Rattle.fields.specs.Field.{endsAt}
+use Rattle.figures.proofs.NumberLaws.{reads-no-end, reads-none, reads-plain, reads-zeros, reads-zero, starts-within, end-here}
 use Rattle.figures.proofs.number.Statement.{statement}
 use Rattle.figures.proofs.number.Tie as tie
 
@@ -17,7 +18,7 @@ read-digits-requires : tie.Need-read-digits-requires
 read-digits-requires c κs = search needs
 
 ends-requires : tie.Need-ends-requires
-ends-requires c κs = search needs
+ends-requires c κs = tt
 
 returns : tie.Need-returns
 returns c = reads-no-end _ _ _ _ (c .before .before .read-digits .ensures) (ap not (sym (c .before .ends .ensures)) ∙ c .if1 .taken)

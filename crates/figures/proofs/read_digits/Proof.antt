@@ -1,15 +1,16 @@
-use borrow.Author.Needs.{needs}
-use native.Mathlib.Omega.{arith}
-use mathlib.Core.Path.{_≡_, refl, sym, _∙_}
-use mathlib.Core.Bool.{true}
+-- The digits are read as the definition says, one after another, and what they write fits.
 use Prim.Native.Nat.{_-_, _^_, _≤_, _<_}
+use native.Mathlib.Omega.{arith}
+use mathlib.Core.Bool.{true}
+use mathlib.Core.Path.{_≡_, refl, sym, _∙_}
 use lib.ListN.{length, getD}
 use denote.Ref.{now}
+use borrow.Author.Needs.{needs}
+use borrow.Author.Tests.{not-true, not-false}
+use Rattle.rules.specs.Text.{digit}
 use Rattle.rules.proofs.NumberLaws.{below-power}
 use Rattle.figures.specs.Figure.{digitsAt, digitsFrom}
 use Rattle.figures.proofs.NumberLaws.{digits-more, digits-enough, digits-stop, digits-end, below-none, below-more, digit-least, digit-most}
-use borrow.Author.Tests.{not-true, not-false}
-use Rattle.rules.specs.Text.{digit}
 use Rattle.figures.proofs.read_digits.Statement.{statement}
 use Rattle.figures.proofs.read_digits.Tie as tie
 
@@ -20,17 +21,21 @@ Inv-loop s at most value₀ left₀ i₀ value left i =
 abbrev μ-loop : tie.MeasureT-loop
 μ-loop s at most value₀ left₀ i₀ value left i = length s - i
 
+-- The loop's turn, from where it goes on.
+abbrev turn : tie.Else2 Inv-loop μ-loop → tie.At-loop Inv-loop μ-loop
+turn c = c .before .before .before .before .before
+
 -- In a turn that goes on: the character is a digit, and the value has room for it.
 digit-here : (c : tie.Else2 Inv-loop μ-loop)
-    → digit (getD (now (c .before .before .before .before .before .before .before .args .s)) (c .before .before .before .before .before .loop .i) 0) ≡ true
+    → digit (getD (now (turn c .before .before .args .s)) (turn c .loop .i) 0) ≡ true
 digit-here c = sym (c .before .is-digit .ensures) ∙ not-false _ (c .if2 .left)
 
 nine-here : (c : tie.Else2 Inv-loop μ-loop)
-    → getD (now (c .before .before .before .before .before .before .before .args .s)) (c .before .before .before .before .before .loop .i) 0 ≤ 57
+    → getD (now (turn c .before .before .args .s)) (turn c .loop .i) 0 ≤ 57
 nine-here c = digit-most _ (digit-here c)
 
-small-here : (c : tie.Else2 Inv-loop μ-loop) → c .before .before .before .before .before .loop .value < 10 ^ 14
-small-here c = below-power _ 14 (search needs) (c .before .before .before .before .before .loop .inv .1)
+small-here : (c : tie.Else2 Inv-loop μ-loop) → turn c .loop .value < 10 ^ 18
+small-here c = below-power _ 18 (search needs) (turn c .loop .inv .1)
 
 loop-holds : tie.Need-loop-holds Inv-loop μ-loop
 unfolding digitsAt
@@ -43,7 +48,7 @@ shared-slice-read-b : tie.Need-shared-slice-read-b Inv-loop μ-loop
 shared-slice-read-b c = search needs
 
 is-digit-requires : tie.Need-is-digit-requires Inv-loop μ-loop
-is-digit-requires c κs = search needs
+is-digit-requires c κs = tt
 
 returns-2 : tie.Need-returns-2 Inv-loop μ-loop
 returns-2 c =
@@ -57,7 +62,7 @@ sub-value : tie.Need-sub-value Inv-loop μ-loop
 sub-value c = digit-least _ (digit-here c)
 
 cast-value : tie.Need-cast-value Inv-loop μ-loop
-cast-value c = omega (arith, c .before .before .shared-slice-known2 .given (c .before .before .before .before .before .loop .i))
+cast-value c = omega (arith, c .before .before .shared-slice-known2 .given (turn c .loop .i))
 
 add-value : tie.Need-add-value Inv-loop μ-loop
 add-value c = omega (arith, small-here c, nine-here c)
@@ -74,8 +79,8 @@ loop-less c = search needs
 loop-again : tie.Need-loop-again Inv-loop μ-loop
 loop-again c = (
   search needs,
-  below-more _ _ _ _ (search needs) (search needs) (c .before .before .before .before .before .loop .inv .1) (omega (arith, nine-here c)),
-  c .before .before .before .before .before .loop .inv .2 ∙ digits-more _ _ _ _ (search needs) (search needs) (digit-here c),
+  below-more _ _ _ _ (search needs) (search needs) (turn c .loop .inv .1) (omega (arith, nine-here c)),
+  turn c .loop .inv .2 ∙ digits-more _ _ _ _ (search needs) (search needs) (digit-here c),
 )
 
 returns-3 : tie.Need-returns-3 Inv-loop μ-loop

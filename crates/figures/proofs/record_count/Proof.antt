@@ -1,14 +1,17 @@
-use borrow.Author.Needs.{needs}
-use mathlib.Core.Path.{_∙_}
-use Rattle.figures.proofs.BoundLaws.{reads-thousand}
+-- N is read between the bounds that the rules give.
+use native.Mathlib.Omega.{arith}
+use Rattle.figures.proofs.LimitLaws.{readable, bound-read}
 use Rattle.figures.proofs.record_count.Statement.{statement}
 use Rattle.figures.proofs.record_count.Tie as tie
 
-number-requires : tie.Need-number-requires
-number-requires c κs = search needs
+most-records-requires : tie.Need-most-records-requires
+most-records-requires c κs = tt
+
+number-from-requires : tie.Need-number-from-requires
+number-from-requires c κs = omega (arith, c .most-records .ensures, readable .records)
 
 returns : tie.Need-returns
-returns c = c .number .ensures ∙ reads-thousand _ _
+returns c = bound-read _ _ 0 (c .before .most-records .ensures) (c .number-from .ensures)
 
 pub record-count-spec : {M : Type 1} → statement M
-record-count-spec = tie.close (tie.spec number-requires returns)
+record-count-spec = tie.close (tie.spec most-records-requires number-from-requires returns)

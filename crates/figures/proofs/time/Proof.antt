@@ -1,11 +1,15 @@
+-- A time is read as the definition says: the four characters at its place, where the field ends behind them.
 use native.Mathlib.Omega.{arith}
-use mathlib.Core.Path.{sym, ap, _∙_}
-use mathlib.Core.Bool.{not}
-use borrow.Author.Tests.{not-false}
-use Rattle.figures.proofs.TimeLaws.{time-short, time-unended, time-none, time-some}
+use mathlib.Core.Path.{sym, _∙_}
 use borrow.Author.Needs.{needs}
+use borrow.Author.Tests.{not-true, not-false}
+use Rattle.figures.proofs.TimeLaws.{time-short, time-unended, time-none, time-some}
 use Rattle.figures.proofs.time.Statement.{statement}
 use Rattle.figures.proofs.time.Tie as tie
+
+-- From behind the look at the four characters, back to where the field's end was seen.
+abbrev ended : tie.After-from-digits → tie.Else3
+ended c = c .before .before .before .before .before
 
 returns : tie.Need-returns
 returns c = time-short _ _ (omega arith)
@@ -20,10 +24,10 @@ add-ends : tie.Need-add-ends
 add-ends c = search needs
 
 ends-requires : tie.Need-ends-requires
-ends-requires c κs = search needs
+ends-requires c κs = tt
 
 returns-3 : tie.Need-returns-3
-returns-3 c = time-unended _ _ (ap not (sym (c .before .ends .ensures)) ∙ c .if3 .taken)
+returns-3 c = time-unended _ _ (sym (c .before .ends .ensures) ∙ not-true _ (c .if3 .taken))
 
 shared-slice-read-from-digits : tie.Need-shared-slice-read-from-digits
 shared-slice-read-from-digits c = search needs
@@ -47,7 +51,7 @@ shared-slice-read-from-digits-4 : tie.Need-shared-slice-read-from-digits-4
 shared-slice-read-from-digits-4 c = search needs
 
 from-digits-requires : tie.Need-from-digits-requires
-from-digits-requires c κs = search needs
+from-digits-requires c κs = tt
 
 enum-known-t : tie.Need-enum-known-t
 enum-known-t c = search needs
@@ -63,7 +67,8 @@ add-t6 c = search needs
 
 returns-5 : tie.Need-returns-5
 returns-5 c =
-    time-some _ _ (omega arith) (sym (c .before .before .before .before .before .before .before .before .before .ends .ensures) ∙ not-false _ (c .before .before .before .before .before .before .before .before .if3 .left))
+    let e = ended (c .before .before .before) in
+    time-some _ _ (omega arith) (sym (e .before .ends .ensures) ∙ not-false _ (e .if3 .left))
     (sym (c .before .before .before .from-digits .ensures) ∙ c .before .t .given .1)
 
 pub time-spec : {M : Type 1} → statement M

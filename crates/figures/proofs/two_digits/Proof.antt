@@ -1,11 +1,16 @@
+-- Two digits make a number, which is the definition's.
+use mathlib.Core.Bool.{true, _&&_}
+use borrow.Author.Needs.{needs}
+use Rattle.rules.specs.Text.{all, digit}
+use Rattle.rules.proofs.Tests.{and-l, and-r}
 use Rattle.figures.proofs.NumberLaws.{digit-least}
 use Rattle.figures.proofs.TimeLaws.{two-digits}
-use borrow.Author.Needs.{needs}
 use Rattle.figures.proofs.two_digits.Statement.{statement}
 use Rattle.figures.proofs.two_digits.Tie as tie
 
 sub-result : tie.Need-sub-result
-sub-result c = digit-least _ (c .pre .0)
+unfolding all
+sub-result c = digit-least _ (and-l (digit (c .args .a)) (digit (c .args .b) && true) (c .pre))
 
 cast-result : tie.Need-cast-result
 cast-result c = search needs
@@ -14,7 +19,10 @@ mul-result : tie.Need-mul-result
 mul-result c = search needs
 
 sub-result-2 : tie.Need-sub-result-2
-sub-result-2 c = digit-least _ (c .pre .1)
+unfolding all
+sub-result-2 c =
+    digit-least _
+    (and-l (digit (c .args .b)) true (and-r (digit (c .args .a)) (digit (c .args .b) && true) (c .pre)))
 
 cast-result-2 : tie.Need-cast-result-2
 cast-result-2 c = search needs

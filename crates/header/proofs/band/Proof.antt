@@ -1,11 +1,12 @@
-use borrow.Author.Needs.{needs}
-use mathlib.Core.Path.{_≡_, refl, sym, _∙_}
-use mathlib.Core.Bool.{true, false}
+-- The loop walks the table up to the text's name.
 use Prim.Native.Nat.{_-_}
+use mathlib.Core.Bool.{true, false}
+use mathlib.Core.Path.{_≡_, refl, sym, _∙_}
 use lib.ListN.{drop}
 use denote.Ref.{now}
-use Rattle.rules.specs.Rules.{bandNames}
+use borrow.Author.Needs.{needs}
 use Rattle.rules.specs.Arguments.{among}
+use Rattle.rules.specs.Rules.{bandNames}
 use Rattle.header.proofs.BandLaws.{band-here, band-later, no-band, band-told}
 use Rattle.header.proofs.band.Statement.{statement}
 use Rattle.header.proofs.band.Tie as tie

@@ -1,8 +1,9 @@
-use borrow.Author.Needs.{needs}
-use mathlib.Core.Path.{_≡_, refl, sym, _∙_}
+-- The loop compares the word with the front of the text, byte by byte.
 use Prim.Native.Nat.{_-_}
+use mathlib.Core.Path.{_≡_, refl, sym, _∙_}
 use lib.ListN.{length, drop}
 use denote.Ref.{now}
+use borrow.Author.Needs.{needs}
 use Rattle.rules.specs.Text.{begins}
 use Rattle.header.proofs.WordLaws.{begins-more, begins-differs, begins-done, begins-short}
 use Rattle.header.proofs.begins_with.Statement.{statement}

@@ -1,8 +1,9 @@
+-- What is compared is the name at this place of the paper's table.
 use mathlib.Core.Path.{ap, _∙_}
 use denote.Ref.{now}
+use borrow.Author.Needs.{needs}
 use Rattle.rules.specs.Text.{Text, same}
 use Rattle.header.proofs.BandLaws.{band-name, front-fits, front-length}
-use borrow.Author.Needs.{needs}
 use Rattle.header.proofs.is_band.Statement.{statement}
 use Rattle.header.proofs.is_band.Tie as tie
 
@@ -25,7 +26,7 @@ slice-aggregate-same-text : tie.Need-slice-aggregate-same-text
 slice-aggregate-same-text c = front-length (c .before .before .before .args .k) (search needs)
 
 same-text-requires : tie.Need-same-text-requires
-same-text-requires c κs = search needs
+same-text-requires c κs = tt
 
 returns : tie.Need-returns
 returns c =

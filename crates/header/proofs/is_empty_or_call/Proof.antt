@@ -1,8 +1,9 @@
-use borrow.Author.Needs.{needs}
+-- Nothing, or a call that ends with the text.
 use mathlib.Core.Path.{sym, _∙_}
 use denote.Ref.{now}
-use Rattle.rules.specs.Fields.{call, emptyOr}
+use borrow.Author.Needs.{needs}
 use Rattle.rules.specs.Arguments.{meets}
+use Rattle.rules.specs.Fields.{call, emptyOr}
 use Rattle.fields.proofs.Picked.{call-or-empty-refused, call-or-empty-picked}
 use Rattle.header.proofs.DueLaws.{argument-broken, argument-ends}
 use Rattle.header.proofs.RuleLaws.{call-apart, empty-or-apart}
@@ -10,7 +11,7 @@ use Rattle.header.proofs.is_empty_or_call.Statement.{statement}
 use Rattle.header.proofs.is_empty_or_call.Tie as tie
 
 call-or-empty-requires : tie.Need-call-or-empty-requires
-call-or-empty-requires c κs = search needs
+call-or-empty-requires c κs = tt
 
 enum-known-end : tie.Need-enum-known-end
 enum-known-end c = search needs

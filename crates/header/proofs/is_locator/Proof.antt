@@ -1,8 +1,9 @@
-use borrow.Author.Needs.{needs}
+-- A locator that ends with the text.
 use mathlib.Core.Path.{sym, _∙_}
 use denote.Ref.{now}
-use Rattle.rules.specs.Fields.{locator}
+use borrow.Author.Needs.{needs}
 use Rattle.rules.specs.Arguments.{meets}
+use Rattle.rules.specs.Fields.{locator}
 use Rattle.fields.proofs.Picked.{locator-refused, locator-picked}
 use Rattle.header.proofs.DueLaws.{argument-broken, argument-ends}
 use Rattle.header.proofs.RuleLaws.{locator-apart}
@@ -10,7 +11,7 @@ use Rattle.header.proofs.is_locator.Statement.{statement}
 use Rattle.header.proofs.is_locator.Tie as tie
 
 locator-requires : tie.Need-locator-requires
-locator-requires c κs = search needs
+locator-requires c κs = tt
 
 enum-known-end : tie.Need-enum-known-end
 enum-known-end c = search needs

@@ -1,28 +1,25 @@
-use mathlib.Core.Path.{sym, _∙_}
+-- What is compared is the word at this place of the paper's table.
 use mathlib.Core.Bool.{true, false}
 use mathlib.Core.List.{[]}
+use mathlib.Core.Path.{sym, _∙_}
+use borrow.Author.Needs.{needs}
 use Rattle.rules.specs.Arguments.{entries}
 use Rattle.rules.specs.Log.{keywordStart}
-use Rattle.header.proofs.TableLaws.{word-length, keyword-known, keyword-beyond}
-use borrow.Author.Needs.{needs}
+use Rattle.header.proofs.TableLaws.{keyword-known, keyword-beyond}
 use Rattle.header.proofs.keyword.Statement.{statement}
 use Rattle.header.proofs.keyword.Tie as tie
 
 returns : tie.Need-returns
 returns c = keyword-beyond _ _ (c .if1 .taken)
 
-mul-word : tie.Need-mul-word
-mul-word c = search needs
+mul-begins-with : tie.Need-mul-begins-with
+mul-begins-with c = search needs
 
-array-copy-out-word : tie.Need-array-copy-out-word
-array-copy-out-word c = search needs
-
-slice-aggregate-begins-with : tie.Need-slice-aggregate-begins-with
-unfolding entries keywordStart
-slice-aggregate-begins-with c = word-length _ [] (c .before .before .if1 .left)
+index-1-begins-with : tie.Need-index-1-begins-with
+index-1-begins-with c = search needs
 
 begins-with-requires : tie.Need-begins-with-requires
-begins-with-requires c κs = search needs
+begins-with-requires c κs = tt
 
 returns-2 : tie.Need-returns-2
 unfolding entries keywordStart
@@ -35,11 +32,4 @@ returns-3 c = keyword-known _ [] _ false (c .before .before .before .before .if1
 pub keyword-spec : {M : Type 1} → statement M
 keyword-spec =
     tie.close
-    (tie.spec
-    returns
-    mul-word
-    array-copy-out-word
-    slice-aggregate-begins-with
-    begins-with-requires
-    returns-2
-    returns-3)
+    (tie.spec returns mul-begins-with index-1-begins-with begins-with-requires returns-2 returns-3)

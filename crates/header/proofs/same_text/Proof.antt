@@ -1,7 +1,7 @@
+-- Texts of one length are the same where one begins with the other.
 use mathlib.Core.Path.{_∙_}
 use Rattle.rules.proofs.TextLaws.{same-apart}
 use Rattle.header.proofs.WordLaws.{same-long}
-use borrow.Author.Needs.{needs}
 use Rattle.header.proofs.same_text.Statement.{statement}
 use Rattle.header.proofs.same_text.Tie as tie
 
@@ -9,7 +9,7 @@ returns : tie.Need-returns
 returns c = same-apart _ _ (c .if1 .taken)
 
 begins-with-requires : tie.Need-begins-with-requires
-begins-with-requires c κs = search needs
+begins-with-requires c κs = tt
 
 returns-2 : tie.Need-returns-2
 returns-2 c = c .begins-with .ensures ∙ same-long _ _ (c .before .if1 .left)

@@ -1,6 +1,7 @@
-use Rattle.rules.specs.Judging.{classNumber}
+-- The number of each class.
 use mathlib.Core.Path.{sym, ap}
 use borrow.Author.Needs.{needs}
+use Rattle.rules.specs.Judging.{classNumber}
 use Rattle.judge.proofs.class_number.Statement.{statement}
 use Rattle.judge.proofs.class_number.Tie as tie
 

@@ -1,75 +1,110 @@
-use mathlib.Core.Logic.{⊎-elim}
-use Rattle.judge.proofs.PartLaws.{part-within, compared, seek-all, seek-none, seek-here, seek-later}
-use Rattle.judge.specs.declared.Found.the-variants.{At}
-use Rattle.judge.specs.Parts.{seek}
-use Rattle.places.specs.Places.{between}
-use borrow.Author.Needs.{needs}
+-- The search goes from one equal key to the next, and ends at the first part that is the same.
+use Prim.Native.Nat.{_+_, _-_, _≤_}
 use native.Mathlib.Omega.{arith}
-use mathlib.Core.Path.{_≡_, sym, ap, _∙_}
-use Prim.Native.Nat.{_-_, _≤_}
+use mathlib.Core.Logic.{⊎-elim}
+use mathlib.Core.Path.{_≡_, refl, sym, ap, _∙_}
+use lib.ListN.{getD}
+use borrow.Author.Needs.{needs}
 use denote.Ref.{now}
+use Rattle.judge.specs.declared.Found.the-variants.{At}
+use Rattle.judge.specs.Parts.{seek, partBy}
+use Rattle.judge.proofs.PartLaws.{compared, first-most, seek-all, seek-none, seek-here, seek-later, seek-over}
 use Rattle.judge.proofs.find.Statement.{statement}
 use Rattle.judge.proofs.find.Tie as tie
 
 abbrev Inv-look : tie.InvT-look
-Inv-look s starts keys m a e n sought k₀ k = (k ≤ m) × (seek s starts keys (between s a e) m 0 ≡ seek s starts keys (between s a e) (m - k) k)
+Inv-look s places keys m place key n k₀ k =
+    (k ≤ m) × (seek s places keys (partBy s place (getD keys m 0)) m 0 ≡ seek s places keys (partBy s place (getD keys m 0)) (m - k) k)
 
 abbrev μ-look : tie.MeasureT-look
-μ-look s starts keys m a e n sought k₀ k = m - k
+μ-look s places keys m place key n k₀ k = m + 1 - k
 
-part-length-requires : tie.Need-part-length-requires Inv-look μ-look
-part-length-requires c κs = search needs
+-- The places of the code: where it begins, and behind the next equal key.
+abbrev start : tie.At-look Inv-look μ-look → tie.Start Inv-look μ-look
+start c = c .before .before .before .before .before .before
 
-key-of-requires : tie.Need-key-of-requires Inv-look μ-look
-key-of-requires c κs = (c .before .before .before .before .pre .short, part-within _ _ _ (c .part-length .ensures))
+onward : (c : tie.After-next-key Inv-look μ-look) →
+    let a = (start (c .before)) .args in
+    let t = partBy (now (a .s)) (a .place) (getD (now (a .keys)) (a .m) 0) in
+    (c .next-key .result ≤ a .m) × (seek (now (a .s)) (now (a .places)) (now (a .keys)) t (a .m) 0 ≡ seek (now (a .s)) (now (a .places)) (now (a .keys)) t (a .m - c .next-key .result) (c .next-key .result))
+onward c =
+    let begun = start (c .before) in
+    let a = begun .args in
+    let first = c .next-key .ensures in
+    let inv = c .before .look .inv in
+    let most = first-most (now (a .keys)) (a .m) first (inv .0) in
+    (most, inv .1 ∙ seek-over (now (a .s)) (now (a .places)) (now (a .keys)) (partBy (now (a .s)) (a .place) (getD (now (a .keys)) (a .m) 0)) (a .place) (a .m) (c .before .look .k) (c .next-key .result) (begun .pre .0) (begun .pre .1) refl (first .behind) most (first .none))
+
+mul-key : tie.Need-mul-key Inv-look μ-look
+mul-key c = omega (arith, c .before .before .before .pre .0 .manyKeys)
+
+shared-slice-read-key : tie.Need-shared-slice-read-key Inv-look μ-look
+shared-slice-read-key c = c .before .before .before .before .pre .0 .manyKeys
+
+wide-requires : tie.Need-wide-requires Inv-look μ-look
+wide-requires c κs = search needs
 
 look-holds : tie.Need-look-holds Inv-look μ-look
 look-holds c = (omega arith, seek-all _ _ _ _ _)
 
-mul-same-part : tie.Need-mul-same-part Inv-look μ-look
-mul-same-part c = omega (arith, c .before .before .before .before .before .before .before .pre .manyStarts)
+next-key-requires : tie.Need-next-key-requires Inv-look μ-look
+next-key-requires c κs =
+    record { there = start c .args .m; behind = c .look .inv .0; within = start c .pre .0 .manyKeys; stands = refl }
 
-shared-slice-read-same-part : tie.Need-shared-slice-read-same-part Inv-look μ-look
-shared-slice-read-same-part c = omega (arith, c .before .before .before .before .before .before .before .before .pre .manyStarts)
+mul-wide : tie.Need-mul-wide Inv-look μ-look
+mul-wide c = omega (arith, start (c .before .before) .pre .0 .manyPlaces, c .if1 .left)
 
-mul-same-part-2 : tie.Need-mul-same-part-2 Inv-look μ-look
-mul-same-part-2 c = omega (arith, c .before .before .before .before .before .before .before .before .pre .manyKeys)
+shared-slice-read-wide : tie.Need-shared-slice-read-wide Inv-look μ-look
+shared-slice-read-wide c = omega (arith, start (c .before .before .before) .pre .0 .manyPlaces, c .before .if1 .left)
 
-shared-slice-read-same-part-2 : tie.Need-shared-slice-read-same-part-2 Inv-look μ-look
-shared-slice-read-same-part-2 c = omega (arith, c .before .before .before .before .before .before .before .before .before .pre .manyKeys)
+wide-requires-2 : tie.Need-wide-requires-2 Inv-look μ-look
+wide-requires-2 c κs = search needs
 
-same-part-requires : tie.Need-same-part-requires Inv-look μ-look
-same-part-requires c κs =
-    (c .before .before .before .before .before .before .before .before .before .pre .inside (c .before .before .before .look .k) (c .before .before .if1 .left), part-within _ _ _ (c .before .before .before .before .before .part-length .ensures), c .before .before .before .before .key-of .ensures)
+same-run-requires : tie.Need-same-run-requires Inv-look μ-look
+same-run-requires c κs =
+    let after = c .before .before .before in
+    let begun = start (after .before) in
+    let size = after .before .before .wide .ensures .0 in
+    let inside = begun .pre .0 .inside (after .next-key .result) (c .before .before .if1 .left) in
+    (λ z. omega (arith, size, c .wide2 .ensures .0, inside .within, after .next-key .ensures .stands), λ z. omega (arith, size, begun .pre .1 .within))
 
 add-k : tie.Need-add-k Inv-look μ-look
-add-k c = search needs
+add-k c =
+    let after = c .before .before .before .before .before in
+    omega (arith, start (after .before) .pre .0 .manyKeys, c .before .before .before .before .if1 .left)
 
 look-less : tie.Need-look-less Inv-look μ-look
-look-less c = search needs
+look-less c =
+    let after = c .before .before .before .before .before in
+    omega (arith, after .next-key .ensures .behind, c .before .before .before .before .if1 .left)
 
 look-again : tie.Need-look-again Inv-look μ-look
-look-again c = (
-  omega arith,
-  c .before .before .before .before .before .look .inv .1
-      ∙ seek-later (now (c .before .before .before .before .before .before .before .before .before .before .before .args .s)) (now (c .before .before .before .before .before .before .before .before .before .before .before .args .starts)) (now (c .before .before .before .before .before .before .before .before .before .before .before .args .keys)) (between (now (c .before .before .before .before .before .before .before .before .before .before .before .args .s)) (c .before .before .before .before .before .before .before .before .before .before .before .args .a) (c .before .before .before .before .before .before .before .before .before .before .before .args .e)) (c .before .before .before .before .before .before .before .before .before .before .before .args .m) (c .before .before .before .before .before .look .k) (search needs)
-      (compared (now (c .before .before .before .before .before .before .before .before .before .before .before .args .s)) (c .before .before .before .before .before .before .before .before .before .before .before .args .a) (c .before .before .before .before .before .before .before .before .before .before .before .args .e) _ (c .before .before .before .before .before .before .before .part-length .ensures) (c .before .same-part .ensures) (c .if2 .left)),
-)
+look-again c =
+    let after = c .before .before .before .before .before in
+    let begun = start (after .before) in
+    let a = begun .args in
+    let small = c .before .before .before .before .if1 .left in
+    let unlike = compared (now (a .s)) (now (a .places)) (now (a .keys)) (a .place) (a .m) (after .next-key .result) (after .before .before .wide .ensures .0) (c .before .before .wide2 .ensures .0) (after .next-key .ensures .stands) (c .before .same-run .ensures) (c .if2 .left) in
+    (omega arith, onward after .1 ∙ seek-later (now (a .s)) (now (a .places)) (now (a .keys)) _ (a .m) (after .next-key .result) small unlike)
 
 returns : tie.Need-returns Inv-look μ-look
 returns c =
+    let after = c .before .before in
+    let begun = start (after .before) in
+    let a = begun .args in
     ⊎-elim (λ w. absurd (omega arith))
     (λ w.
     ap At (w .5)
     ∙ sym
-    (c .before .before .look .inv .1
-    ∙ seek-here (now (c .before .before .before .before .before .before .before .before .args .s)) (now (c .before .before .before .before .before .before .before .before .args .starts)) (now (c .before .before .before .before .before .before .before .before .args .keys)) (between (now (c .before .before .before .before .before .before .before .before .args .s)) (c .before .before .before .before .before .before .before .before .args .a) (c .before .before .before .before .before .before .before .before .args .e)) (c .before .before .before .before .before .before .before .before .args .m) (c .before .before .look .k) (w .0 .left)
-    (compared (now (c .before .before .before .before .before .before .before .before .args .s)) (c .before .before .before .before .before .before .before .before .args .a) (c .before .before .before .before .before .before .before .before .args .e) _ (c .before .before .before .before .part-length .ensures) (w .3 .ensures) (w .4 .taken))))
+    (onward after .1
+    ∙ seek-here (now (a .s)) (now (a .places)) (now (a .keys)) _ (a .m) (after .next-key .result) (w .0 .left)
+    (compared (now (a .s)) (now (a .places)) (now (a .keys)) (a .place) (a .m) (after .next-key .result) (after .before .before .wide .ensures .0) (w .2 .ensures .0) (after .next-key .ensures .stands) (w .3 .ensures) (w .4 .taken))))
     (c .before .if1 .came)
 
 returns-2 : tie.Need-returns-2 Inv-look μ-look
 returns-2 c =
-    ⊎-elim (λ w. seek-none _ _ _ _ _ _ (w .0 .taken) ∙ sym (c .before .before .look .inv .1))
+    let after = c .before .before in
+    ⊎-elim (λ w. seek-none _ _ _ _ _ _ (w .0 .taken) ∙ sym (onward after .1))
     (λ w. let h = w .0 .left in let k = w .5 in absurd (omega arith))
     (c .before .if1 .came)
 
@@ -79,14 +114,15 @@ find-spec =
     (tie.spec
     Inv-look
     μ-look
-    part-length-requires
-    key-of-requires
+    mul-key
+    shared-slice-read-key
+    wide-requires
     look-holds
-    mul-same-part
-    shared-slice-read-same-part
-    mul-same-part-2
-    shared-slice-read-same-part-2
-    same-part-requires
+    next-key-requires
+    mul-wide
+    shared-slice-read-wide
+    wide-requires-2
+    same-run-requires
     add-k
     look-less
     look-again

@@ -1,6 +1,7 @@
-use Rattle.judge.proofs.PartLaws.{kept-found, kept-none}
+-- Something is found exactly where the part is among those that are kept.
 use mathlib.Core.Path.{sym, _∙_}
 use borrow.Author.Needs.{needs}
+use Rattle.judge.proofs.PartLaws.{kept-found, kept-none}
 use Rattle.judge.proofs.is_kept.Statement.{statement}
 use Rattle.judge.proofs.is_kept.Tie as tie
 

@@ -1,6 +1,8 @@
-use Rattle.judge.proofs.JudgeLaws.{totals-alone, refusal-alone}
+-- Of what the log is weighed to, the totals or the refusal.
 use mathlib.Core.Path.{sym, _∙_}
 use borrow.Author.Needs.{needs}
+use Rattle.rules.specs.Rules.{base}
+use Rattle.judge.proofs.JudgeLaws.{refusal-alone, totals-alone}
 use Rattle.judge.proofs.judge.Statement.{statement}
 use Rattle.judge.proofs.judge.Tie as tie
 
@@ -17,13 +19,13 @@ same-length : tie.Need-same-length
 same-length c = search needs
 
 returns : tie.Need-returns
-returns c = (totals-alone _ _ (sym (c .before .before .before .before .before .weigh .ensures .0) ∙ c .before .totals .given .1), c .before .before .before .before .before .weigh .ensures .1 .0)
+returns c = let weighed = c .before .before .before .before .before in (totals-alone base _ _ (sym (weighed .weigh .ensures .0) ∙ c .before .totals .given .1), weighed .weigh .ensures .1 .0)
 
 same-length-2 : tie.Need-same-length-2
 same-length-2 c = search needs
 
 returns-2 : tie.Need-returns-2
-returns-2 c = (refusal-alone _ _ (sym (c .before .before .before .before .before .weigh .ensures .0) ∙ c .before .r .given .1), c .before .before .before .before .before .weigh .ensures .1 .0)
+returns-2 c = let weighed = c .before .before .before .before .before in (refusal-alone base _ _ (sym (weighed .weigh .ensures .0) ∙ c .before .r .given .1), weighed .weigh .ensures .1 .0)
 
 pub judge-spec : {M : Type 1} → statement M
 judge-spec =

@@ -1,5 +1,6 @@
-use Rattle.rules.specs.Judging.{zeroTotals}
+-- Nothing comes to nothing.
 use mathlib.Core.Path.{refl}
+use Rattle.rules.specs.Judging.{zeroTotals}
 use Rattle.judge.proofs.no_totals.Statement.{statement}
 use Rattle.judge.proofs.no_totals.Tie as tie
 

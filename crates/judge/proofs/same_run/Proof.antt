@@ -1,11 +1,12 @@
+-- Two runs are the same where no character of them differs.
+use Prim.Native.Nat.{_-_}
 use native.Mathlib.Omega.{arith}
+use mathlib.Core.Path.{_≡_, sym, _∙_}
+use lib.ListN.{drop, take}
+use borrow.Author.Needs.{needs}
+use denote.Ref.{now}
 use Rattle.rules.specs.Text.{same}
 use Rattle.judge.proofs.PartLaws.{sameFrom, run-begins, run-ends, run-more, run-differs}
-use borrow.Author.Needs.{needs}
-use mathlib.Core.Path.{_≡_, sym, _∙_}
-use Prim.Native.Nat.{_-_}
-use lib.ListN.{drop, take}
-use denote.Ref.{now}
 use Rattle.judge.proofs.same_run.Statement.{statement}
 use Rattle.judge.proofs.same_run.Tie as tie
 

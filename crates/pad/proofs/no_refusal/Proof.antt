@@ -1,3 +1,4 @@
+-- No refusal, as C's struct.
 use Rattle.rules.specs.Answers.{noRefusal}
 use Rattle.pad.specs.Face.{refusalFace}
 use mathlib.Core.Path.{refl}

@@ -1,3 +1,4 @@
+-- A refusal, as C's struct.
 use Rattle.pad.specs.Face.{refusalFace}
 use mathlib.Core.Path.{refl}
 use Rattle.pad.proofs.refusal_face.Statement.{statement}

@@ -1,3 +1,4 @@
+-- What the judge answers is handed out in C's struct, and the slice is as the judge leaves it.
 use Rattle.pad.proofs.FaceLaws.{totals-shown, unjudged-shown}
 use mathlib.Core.Path.{sym, _∙_}
 use borrow.Author.Needs.{needs}
@@ -32,13 +33,19 @@ same-length : tie.Need-same-length
 same-length c = search needs
 
 returns : tie.Need-returns
-returns c = (totals-shown _ _ (c .totals-face .ensures) (c .before .no-refusal .ensures) (sym (c .before .before .before .t .given .1) ∙ c .before .before .before .before .before .before .before .judge .ensures .0), c .before .before .before .before .before .before .before .judge .ensures .1)
+returns c =
+    let known = c .before .before .before in
+    let judged = known .before .before .before .before in
+    (totals-shown _ _ (c .totals-face .ensures) (c .before .no-refusal .ensures) (sym (known .t .given .1) ∙ judged .judge .ensures .0), judged .judge .ensures .1)
 
 same-length-2 : tie.Need-same-length-2
 same-length-2 c = search needs
 
 returns-2 : tie.Need-returns-2
-returns-2 c = (unjudged-shown _ _ (c .totals-face2 .ensures) (c .before .before .refusal-face .ensures) (c .before .no-totals .ensures) (sym (c .before .before .before .before .r .given .1) ∙ c .before .before .before .before .before .before .before .before .judge .ensures .0), c .before .before .before .before .before .before .before .before .judge .ensures .1)
+returns-2 c =
+    let known = c .before .before .before .before in
+    let judged = known .before .before .before .before in
+    (unjudged-shown _ _ (c .totals-face2 .ensures) (c .before .before .refusal-face .ensures) (c .before .no-totals .ensures) (sym (known .r .given .1) ∙ judged .judge .ensures .0), judged .judge .ensures .1)
 
 pub sumpquince-judge-spec : {M : Type 1} → statement M
 sumpquince-judge-spec =

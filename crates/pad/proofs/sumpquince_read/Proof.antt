@@ -1,3 +1,4 @@
+-- What the reader answers is handed out in C's struct.
 use Rattle.pad.proofs.FaceLaws.{records-shown, unread-shown}
 use mathlib.Core.Path.{sym, _∙_}
 use borrow.Author.Needs.{needs}

@@ -1,3 +1,4 @@
+-- What a view answers is handed out in C's struct.
 use Rattle.pad.proofs.FaceLaws.{seen-shown, unseen-shown}
 use mathlib.Core.Path.{sym, _∙_}
 use borrow.Author.Needs.{needs}

@@ -1,3 +1,4 @@
+-- What the writer answers is handed out in C's struct, and the slice is as the writer leaves it.
 use Rattle.pad.proofs.FaceLaws.{length-shown, unwritten-shown}
 use mathlib.Core.Path.{sym, _∙_}
 use borrow.Author.Needs.{needs}

@@ -1,3 +1,4 @@
+-- The totals behind a refusal, as C's struct.
 use Rattle.pad.specs.Face.{totalsFace}
 use mathlib.Core.Path.{refl}
 use Rattle.pad.proofs.totals_face.Statement.{statement}

@@ -1,9 +1,10 @@
+-- The argument begins behind six characters of its line.
+use borrow.Author.Needs.{needs}
 use native.Mathlib.Omega.{arith}
 use mathlib.Core.Path.{refl, ap, _∙_}
 use denote.Ref.{now}
 use Rattle.places.specs.Places.{partSeen}
 use Rattle.places.proofs.ViewLaws.{part-told}
-use borrow.Author.Needs.{needs}
 use Rattle.places.proofs.argument_part.Statement.{statement}
 use Rattle.places.proofs.argument_part.Tie as tie
 

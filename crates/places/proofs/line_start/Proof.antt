@@ -1,10 +1,10 @@
+-- A line begins behind the one in front of it, or at the end.
 use borrow.Author.Needs.{needs}
 use native.Mathlib.Omega.{arith}
+use Prim.Native.Nat.{ℕ, _-_, _≤_, min}
 use mathlib.Core.Path.{_≡_, ap, _∙_}
-use Prim.Native.Nat.{ℕ, _-_, _≤_}
 use lib.ListN.{length}
 use denote.Ref.{now}
-use Prim.Native.Nat.{min}
 use Rattle.places.specs.Places.{lineStart}
 use Rattle.places.proofs.LineStarts.{line-first, line-on, line-stays}
 use Rattle.places.proofs.line_start.Statement.{statement}

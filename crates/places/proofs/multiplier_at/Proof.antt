@@ -1,6 +1,7 @@
-use mathlib.Core.Path.{sym, _∙_}
-use Rattle.places.proofs.PlaceLaws.{value-read, value-none}
+-- What a multiplier is worth is its value, or 0 where it is none.
 use borrow.Author.Needs.{needs}
+use mathlib.Core.Path.{sym, _∙_}
+use Rattle.reader.proofs.PlaceLaws.{value-none, value-read}
 use Rattle.places.proofs.multiplier_at.Statement.{statement}
 use Rattle.places.proofs.multiplier_at.Tie as tie
 

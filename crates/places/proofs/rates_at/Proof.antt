@@ -1,15 +1,16 @@
+-- The rates on the line at a place are those of its text.
+use borrow.Author.Needs.{needs}
 use native.Mathlib.Omega.{arith}
-use mathlib.Core.Path.{ap, _∙_}
 use Prim.Native.Nat.{_≤_}
+use mathlib.Core.Path.{ap, _∙_}
 use lib.ListN.{length, drop}
 use denote.Ref.{now}
-use Rattle.rules.specs.Text.{Text, allowed}
-use Rattle.rules.specs.Rules.{base}
 use Rattle.rules.specs.Arguments.{part, bonus, multiplier}
-use Rattle.places.specs.Places.{valueBy}
-use Rattle.places.proofs.PlaceLaws.{run-within}
+use Rattle.rules.specs.Rules.{base}
+use Rattle.rules.specs.Text.{Text, allowed}
+use Rattle.reader.proofs.PlaceLaws.{run-within}
+use Rattle.reader.specs.Contact.{valueBy}
 use Rattle.places.proofs.LineStarts.{line-by-end}
-use borrow.Author.Needs.{needs}
 use Rattle.places.proofs.rates_at.Statement.{statement}
 use Rattle.places.proofs.rates_at.Tie as tie
 

@@ -1,14 +1,15 @@
-use native.Mathlib.Omega.{arith}
-use mathlib.Core.Path.{sym, ap, _∙_}
-use Prim.Native.Nat.{_+_}
-use denote.Ref.{now}
-use Rattle.rules.specs.Rules.{base}
-use Rattle.rules.specs.Arguments.{bonus, multiplier}
-use Rattle.fields.specs.Field.{inField}
-use Rattle.places.specs.Places.{valueBy}
-use Rattle.places.proofs.PlaceLaws.{run-within}
-use Rattle.places.proofs.LineStarts.{second-part, third-part}
+-- The second and the third part of an argument are found behind its semicolons.
 use borrow.Author.Needs.{needs}
+use native.Mathlib.Omega.{arith}
+use Prim.Native.Nat.{_+_}
+use mathlib.Core.Path.{sym, ap, _∙_}
+use denote.Ref.{now}
+use Rattle.rules.specs.Arguments.{bonus, multiplier}
+use Rattle.rules.specs.Rules.{base}
+use Rattle.fields.specs.Field.{inField}
+use Rattle.reader.proofs.PlaceLaws.{run-within}
+use Rattle.reader.specs.Contact.{valueBy}
+use Rattle.places.proofs.LineStarts.{second-part, third-part}
 use Rattle.places.proofs.rates_of.Statement.{statement}
 use Rattle.places.proofs.rates_of.Tie as tie
 

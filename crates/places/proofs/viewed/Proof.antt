@@ -1,12 +1,16 @@
+-- A view is the part of the log that it tells of, at its place there.
+use borrow.Author.Needs.{needs}
 use native.Mathlib.Omega.{arith}
-use mathlib.Core.Path.{_≡_, sym, ap, _∙_}
 use Prim.Native.Nat.{ℕ, _+_, _-_, _≤_}
+use mathlib.Core.Path.{_≡_, refl, sym, ap, _∙_}
 use lib.ListN.{length, drop, take}
 use denote.Ref.{now}
-use Rattle.rules.specs.Rules.{base}
 use Rattle.rules.specs.Answers.{view, viewed}
-use Rattle.places.proofs.ViewLaws.{view-shows, view-hides}
-use borrow.Author.Needs.{needs}
+use Rattle.rules.specs.Rules.{base}
+use Rattle.rules.specs.Text.{Text}
+use Rattle.places.specs.Places.{viewOf}
+use Rattle.places.specs.declared.ViewRead.the-variants as ViewRead
+use Rattle.places.proofs.ViewLaws.{view-hides, view-shows, view-starts, view-starts-nowhere}
 use Rattle.places.proofs.viewed.Statement.{statement}
 use Rattle.places.proofs.viewed.Tie as tie
 
@@ -28,9 +32,15 @@ part-result-end c = search needs
 enum-known-seen : tie.Need-enum-known-seen
 enum-known-seen c = search needs
 
--- The part that the view tells of.
-shown : (c : tie.After-known-told) → (c .before .seen .given .0 .0 + c .before .seen .given .0 .1 .0 ≤ length (now (c .before .before .before .before .before .args .log))) × (take (c .before .seen .given .0 .1 .0) (drop (c .before .seen .given .0 .0) (now (c .before .before .before .before .before .args .log))) ≡ viewed (view base (c .before .before .before .before .before .args .k) (now (c .before .before .before .before .before .args .log))))
-shown c = view-shows _ _ (sym (c .before .before .before .view .ensures) ∙ c .before .seen .given .1)
+-- The log, and the part of it that the view tells of.
+abbrev log : tie.After-known-told → Text
+log c = now (c .before .before .before .before .before .args .log)
+
+told : (c : tie.After-known-told) → viewOf base (c .before .before .before .before .before .args .k) (log c) ≡ ViewRead.Seen (c .before .seen .given .0 .0) (c .before .seen .given .0 .1 .0)
+told c = sym (c .before .before .before .view .ensures) ∙ c .before .seen .given .1
+
+shown : (c : tie.After-known-told) → (c .before .seen .given .0 .0 + c .before .seen .given .0 .1 .0 ≤ length (log c)) × (take (c .before .seen .given .0 .1 .0) (drop (c .before .seen .given .0 .0) (log c)) ≡ viewed (view base (c .before .before .before .before .before .args .k) (log c)))
+shown c = view-shows base _ _ (told c)
 
 add-end : tie.Need-add-end
 add-end c = omega (arith, (shown c) .0, c .before .before .before .before .before .good .0 .1)
@@ -45,12 +55,17 @@ part-result-end-2 : tie.Need-part-result-end-2
 part-result-end-2 c = (shown c) .0
 
 returns : tie.Need-returns
-returns c = view-hides _ _ (sym (c .before .before .before .view .ensures) ∙ c .before .enum-told .given .1)
+returns c =
+    let e = sym (c .before .before .before .view .ensures) ∙ c .before .enum-told .given .1 in
+    (view-hides base _ _ e, (refl, omega (arith, view-starts-nowhere base _ _ e)))
 
 returns-2 : tie.Need-returns-2
 returns-2 c =
-    ap (λ (n : ℕ). take n (drop (c .before .before .seen .given .0 .0) (now (c .before .before .before .before .before .before .args .log)))) (let h : c .before .before .seen .given .0 .0 + c .before .before .seen .given .0 .1 .0 - c .before .before .seen .given .0 .0 ≡ c .before .before .seen .given .0 .1 .0 = omega arith in h)
-    ∙ (shown (c .before)) .1
+    let d = c .before in
+    let start = d .before .seen .given .0 .0 in
+    let size = d .before .seen .given .0 .1 .0 in
+    let rest : start + size - start ≡ size = omega arith in
+    (ap (λ (n : ℕ). take n (drop start (log d))) rest ∙ (shown d) .1, (refl, omega (arith, view-starts base _ _ (told d))))
 
 pub viewed-spec : {M : Type 1} → statement M
 viewed-spec =

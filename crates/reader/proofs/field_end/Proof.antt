@@ -1,11 +1,12 @@
+-- A field runs up to the next semicolon, or to the end.
 use borrow.Author.Needs.{needs}
-use mathlib.Core.Path.{refl, ap}
-use Prim.Native.Nat.{_-_}
-use lib.ListN.{length}
 use borrow.Author.Tests.{eq-eqb, ne-eqb}
+use Prim.Native.Nat.{_-_}
 use mathlib.Core.Bool.{Bool, not}
-use Rattle.fields.specs.Field.{inField}
+use mathlib.Core.Path.{refl, ap}
+use lib.ListN.{length}
 use Rattle.fields.proofs.FieldLaws.{Within, run-starts, run-more, run-stops, run-ends}
+use Rattle.fields.specs.Field.{inField}
 use Rattle.reader.proofs.field_end.Statement.{statement}
 use Rattle.reader.proofs.field_end.Tie as tie
 

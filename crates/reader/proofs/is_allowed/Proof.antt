@@ -1,3 +1,4 @@
+-- A character is allowed by its code.
 use Rattle.fields.proofs.FieldLaws.{range-below, range-from}
 use Rattle.reader.proofs.is_allowed.Statement.{statement}
 use Rattle.reader.proofs.is_allowed.Tie as tie

@@ -1,3 +1,4 @@
+-- So many records are due, or the end.
 use Rattle.reader.proofs.StepLaws.{none-due, some-due}
 use Rattle.reader.proofs.records_due.Statement.{statement}
 use Rattle.reader.proofs.records_due.Tie as tie

@@ -1,7 +1,9 @@
+-- A remark goes on, and the count line is read behind its front.
+use borrow.Author.Needs.{needs}
 use mathlib.Core.Path.{sym, _∙_}
 use Rattle.rules.specs.Log.{countStart}
+use Rattle.rules.specs.Rules.{base}
 use Rattle.reader.proofs.DueLaws.{count-long, count-line, a-remark}
-use borrow.Author.Needs.{needs}
 use Rattle.reader.proofs.remark_step.Statement.{statement}
 use Rattle.reader.proofs.remark_step.Tie as tie
 
@@ -13,11 +15,11 @@ begins-with-requires c κs = search needs
 
 sub-count-step : tie.Need-sub-count-step
 unfolding countStart
-sub-count-step c = count-long _ (sym (c .before .begins-with .ensures) ∙ c .if1 .taken)
+sub-count-step c = count-long base _ (sym (c .before .begins-with .ensures) ∙ c .if1 .taken)
 
 part-count-step-start : tie.Need-part-count-step-start
 unfolding countStart
-part-count-step-start c = count-long _ (sym (c .before .begins-with .ensures) ∙ c .if1 .taken)
+part-count-step-start c = count-long base _ (sym (c .before .begins-with .ensures) ∙ c .if1 .taken)
 
 part-count-step-end : tie.Need-part-count-step-end
 part-count-step-end c = search needs
@@ -28,11 +30,11 @@ count-step-requires c κs = search needs
 returns : tie.Need-returns
 unfolding countStart
 returns c =
-    count-line _ (sym (c .before .before .before .begins-with .ensures) ∙ c .before .before .if1 .taken) (c .count-step .ensures)
+    count-line base _ (sym (c .before .before .before .begins-with .ensures) ∙ c .before .before .if1 .taken) (c .count-step .ensures)
 
 returns-2 : tie.Need-returns-2
 unfolding countStart
-returns-2 c = a-remark _ (sym (c .before .begins-with .ensures) ∙ c .if1 .left)
+returns-2 c = a-remark base _ (sym (c .before .begins-with .ensures) ∙ c .if1 .left)
 
 pub remark-step-spec : {M : Type 1} → statement M
 remark-step-spec =

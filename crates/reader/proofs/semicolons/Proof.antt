@@ -1,17 +1,18 @@
+-- The semicolons so far and those that are left are those of the line.
 use borrow.Author.Needs.{needs}
 use native.Mathlib.Omega.{arith}
-use mathlib.Core.Path.{_≡_}
 use Prim.Native.Nat.{_+_, _-_, _≤_}
-use lib.ListN.{length, drop}
-use denote.Ref.{now}
 use mathlib.Core.Logic.{⊎-elim}
-use Rattle.rules.specs.Text.{parts}
-use Rattle.header.proofs.PartLaws.{count-semicolon, count-other, count-end}
+use mathlib.Core.Path.{_≡_}
+use lib.ListN.{drop, length}
+use denote.Ref.{now}
+use Rattle.reader.specs.Line.{semicolonsIn}
+use Rattle.reader.proofs.CountLaws.{no-semicolon, none-left, one-semicolon}
 use Rattle.reader.proofs.semicolons.Statement.{statement}
 use Rattle.reader.proofs.semicolons.Tie as tie
 
 abbrev Inv-loop : tie.InvT-loop
-Inv-loop line n₀ i₀ n i = (n ≤ i) × (i ≤ length line) × (length (parts line) ≡ n + length (parts (drop i line)))
+Inv-loop line n₀ i₀ n i = (n ≤ i) × (i ≤ length line) × (semicolonsIn line ≡ n + semicolonsIn (drop i line))
 
 abbrev μ-loop : tie.MeasureT-loop
 μ-loop line n₀ i₀ n i = length line - i
@@ -36,13 +37,12 @@ loop-again c =
     let line = now (c .before .before .before .before .args .line) in
     let i = c .before .before .before .loop .i in
     ⊎-elim
-    (λ w. omega (arith, count-semicolon line i (search needs) (w .0 .taken), w .1))
-    (λ w. omega (arith, count-other line i (search needs) (w .0 .left), w .1))
+    (λ w. omega (arith, one-semicolon line i (search needs) (w .0 .taken), w .1))
+    (λ w. omega (arith, no-semicolon line i (search needs) (w .0 .left), w .1))
     (c .if1 .came)
 
 returns : tie.Need-returns Inv-loop μ-loop
-returns c =
-    omega (arith, count-end (now (c .before .before .args .line)) (c .before .loop .i) (search needs))
+returns c = omega (arith, none-left (now (c .before .before .args .line)) (c .before .loop .i) (search needs))
 
 pub semicolons-spec : {M : Type 1} → statement M
 semicolons-spec =

@@ -1,85 +1,78 @@
-use Rattle.rules.specs.Log.{identifier, remarksLine}
-use Rattle.reader.proofs.DueLaws.{at-identifier, at-keyword, at-remarks, at-due, at-end}
+-- The step goes by what is due: a record, or what stands in front of the records.
 use borrow.Author.Needs.{needs}
+use mathlib.Core.Path.{ap}
+use Rattle.reader.specs.Read.{early}
+use Rattle.rules.specs.Rules.{base}
+use Rattle.reader.proofs.DueLaws.{at-due, at-end}
 use Rattle.reader.proofs.step.Statement.{statement}
 use Rattle.reader.proofs.step.Tie as tie
-
-enum-told : tie.Need-enum-told
-enum-told c = search needs
-
-slice-aggregate-whole-step : tie.Need-slice-aggregate-whole-step
-slice-aggregate-whole-step c = search needs
-
-whole-step-requires : tie.Need-whole-step-requires
-whole-step-requires c κs = search needs
 
 enum-known-due : tie.Need-enum-known-due
 enum-known-due c = search needs
 
-keyword-step-requires : tie.Need-keyword-step-requires
-keyword-step-requires c κs = search needs
+record-step-requires : tie.Need-record-step-requires
+record-step-requires c κs = search needs
+
+enum-told : tie.Need-enum-told
+enum-told c = search needs
 
 enum-told-2 : tie.Need-enum-told-2
 enum-told-2 c = search needs
 
-slice-aggregate-whole-step-2 : tie.Need-slice-aggregate-whole-step-2
-slice-aggregate-whole-step-2 c = search needs
-
-whole-step-requires-2 : tie.Need-whole-step-requires-2
-whole-step-requires-2 c κs = search needs
+head-step-requires : tie.Need-head-step-requires
+head-step-requires c κs = ap early (c .enum-told2 .given .1)
 
 enum-told-3 : tie.Need-enum-told-3
 enum-told-3 c = search needs
 
-remark-step-requires : tie.Need-remark-step-requires
-remark-step-requires c κs = search needs
-
-enum-known-due-2 : tie.Need-enum-known-due-2
-enum-known-due-2 c = search needs
-
-record-step-requires : tie.Need-record-step-requires
-record-step-requires c κs = search needs
+head-step-requires-2 : tie.Need-head-step-requires-2
+head-step-requires-2 c κs = ap early (c .enum-told3 .given .1)
 
 enum-told-4 : tie.Need-enum-told-4
 enum-told-4 c = search needs
 
+head-step-requires-3 : tie.Need-head-step-requires-3
+head-step-requires-3 c κs = ap early (c .enum-told4 .given .1)
+
+enum-told-5 : tie.Need-enum-told-5
+enum-told-5 c = search needs
+
+head-step-requires-4 : tie.Need-head-step-requires-4
+head-step-requires-4 c κs = ap early (c .enum-told5 .given .1)
+
 returns : tie.Need-returns
-unfolding identifier
-returns c = at-identifier _ _ (c .before .before .enum-told .given .1) (c .whole-step .ensures)
+returns c = at-due base _ _ (c .before .before .due .given .1) (c .record-step .ensures)
 
 returns-2 : tie.Need-returns-2
-returns-2 c = at-keyword _ _ (c .before .before .due .given .1) (c .keyword-step .ensures)
+returns-2 c = at-end base _ _ (c .enum-told .given .1)
 
 returns-3 : tie.Need-returns-3
-unfolding remarksLine
-returns-3 c = at-remarks _ _ (c .before .before .enum-told2 .given .1) (c .whole-step2 .ensures)
+returns-3 c = c .head-step .ensures
 
 returns-4 : tie.Need-returns-4
-returns-4 c = at-due _ _ (c .before .enum-told3 .given .1) (c .remark-step .ensures)
+returns-4 c = c .head-step2 .ensures
 
 returns-5 : tie.Need-returns-5
-returns-5 c = at-due _ _ (c .before .before .due2 .given .1) (c .record-step .ensures)
+returns-5 c = c .head-step3 .ensures
 
 returns-6 : tie.Need-returns-6
-returns-6 c = at-end _ _ (c .enum-told4 .given .1)
+returns-6 c = c .head-step4 .ensures
 
 pub step-spec : {M : Type 1} → statement M
 step-spec =
     tie.close
     (tie.spec
-    enum-told
-    slice-aggregate-whole-step
-    whole-step-requires
     enum-known-due
-    keyword-step-requires
-    enum-told-2
-    slice-aggregate-whole-step-2
-    whole-step-requires-2
-    enum-told-3
-    remark-step-requires
-    enum-known-due-2
     record-step-requires
+    enum-told
+    enum-told-2
+    head-step-requires
+    enum-told-3
+    head-step-requires-2
     enum-told-4
+    head-step-requires-3
+    enum-told-5
+    head-step-requires-4
     returns
     returns-2
     returns-3

@@ -1,6 +1,7 @@
+-- A line is the words that are due, or it is refused.
+use borrow.Author.Needs.{needs}
 use mathlib.Core.Path.{sym, _∙_}
 use Rattle.reader.proofs.DueLaws.{whole-same, whole-other}
-use borrow.Author.Needs.{needs}
 use Rattle.reader.proofs.whole_step.Statement.{statement}
 use Rattle.reader.proofs.whole_step.Tie as tie
 

@@ -1,3 +1,4 @@
+-- What was written back is compared within its length.
 use mathlib.Core.Path.{sym}
 use lib.Seq.{length-take-le}
 use borrow.Author.Needs.{needs}

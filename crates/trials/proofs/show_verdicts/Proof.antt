@@ -1,3 +1,4 @@
+-- No verdict is shown that is not there.
 use borrow.Author.Needs.{needs}
 use Prim.Native.Nat.{_-_, _≤_}
 use lib.ListN.{length}

@@ -1,13 +1,13 @@
 -- `writer::digit_count` meets its contract. The loop's invariant: what is counted and the digits of the rest are together one more than the
 -- number's digits, of which there are at most twenty. The measure is the rest.
 -- Assumes nothing.
-use Rattle.rules.specs.Text.{digits}
-use Rattle.writer.proofs.WrittenLaws.{count-one, count-more, count-most}
-use borrow.Author.Needs.{needs}
+use Prim.Native.Nat.{_+_, _≤_}
 use native.Mathlib.Omega.{arith}
 use mathlib.Core.Path.{_≡_, refl}
-use Prim.Native.Nat.{_+_, _≤_}
 use lib.ListN.{length}
+use borrow.Author.Needs.{needs}
+use Rattle.rules.specs.Text.{digits}
+use Rattle.writer.proofs.WrittenLaws.{count-one, count-more, count-most}
 use Rattle.writer.proofs.digit_count.Statement.{statement}
 use Rattle.writer.proofs.digit_count.Tie as tie
 

@@ -1,13 +1,13 @@
 -- `writer::line_behind` meets its contract.
 -- Assumes nothing.
+use Prim.Native.Nat.{ℕ, _+_}
 use native.Mathlib.Omega.{arith}
 use mathlib.Core.Path.{ap}
-use Prim.Native.Nat.{ℕ, _+_}
-use denote.Ref.{now}
-use Rattle.rules.specs.Text.{allowed}
-use Rattle.places.proofs.PlaceLaws.{run-within}
-use Rattle.writer.specs.ClaimsText.{lineBehind}
 use borrow.Author.Needs.{needs}
+use denote.Ref.{now}
+use Rattle.reader.proofs.PlaceLaws.{run-within}
+use Rattle.rules.specs.Text.{allowed}
+use Rattle.writer.specs.ClaimsText.{lineBehind}
 use Rattle.writer.proofs.line_behind.Statement.{statement}
 use Rattle.writer.proofs.line_behind.Tie as tie
 

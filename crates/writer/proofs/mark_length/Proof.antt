@@ -1,9 +1,9 @@
 -- `writer::mark_length` meets its contract.
 -- Assumes nothing.
+use mathlib.Core.Path.{refl}
+use borrow.Author.Needs.{needs}
 use Rattle.rules.specs.Fields.{newMark, duplicateMark}
 use Rattle.writer.specs.RecordText.{markText}
-use borrow.Author.Needs.{needs}
-use mathlib.Core.Path.{refl}
 use Rattle.writer.proofs.mark_length.Statement.{statement}
 use Rattle.writer.proofs.mark_length.Tie as tie
 

@@ -1,7 +1,7 @@
 -- `writer::put_byte` meets its contract.
 -- Assumes nothing.
-use Rattle.writer.proofs.WrittenLaws.{written-byte}
 use borrow.Author.Needs.{needs}
+use Rattle.writer.proofs.WrittenLaws.{written-byte}
 use Rattle.writer.proofs.put_byte.Statement.{statement}
 use Rattle.writer.proofs.put_byte.Tie as tie
 

@@ -1,10 +1,10 @@
 -- `writer::put_end` meets its contract: two bytes, one behind the other.
 -- Assumes nothing.
-use Rattle.writer.proofs.WrittenLaws.{puts-room, puts-then}
-use Rattle.rules.specs.Log.{crlf}
-use mathlib.Core.List.{[], _∷_}
 use native.Mathlib.Omega.{arith}
+use mathlib.Core.List.{[], _∷_}
 use borrow.Author.Needs.{needs}
+use Rattle.rules.specs.Log.{crlf}
+use Rattle.writer.proofs.WrittenLaws.{puts-room, puts-then}
 use Rattle.writer.proofs.put_end.Statement.{statement}
 use Rattle.writer.proofs.put_end.Tie as tie
 

@@ -1,14 +1,14 @@
 -- `writer::put_number` meets its contract. The loop's invariant: the digits of the rest, laid over the slice as it is now, give what the digits of
 -- the number give over the slice as it was. The measure is the rest.
 -- Assumes nothing.
+use Prim.Native.Nat.{_+_, _/_, _≤_}
+use native.Mathlib.Omega.{arith}
+use mathlib.Core.Path.{_≡_, refl, _∙_}
+use lib.ListN.{length, length-set}
+use borrow.Author.Needs.{needs}
 use Rattle.rules.specs.Text.{digits}
 use Rattle.writer.specs.Written.{written}
 use Rattle.writer.proofs.WrittenLaws.{count-more, count-some, digit-turn, digit-first}
-use borrow.Author.Needs.{needs}
-use native.Mathlib.Omega.{arith}
-use mathlib.Core.Path.{_≡_, refl, _∙_}
-use Prim.Native.Nat.{_+_, _/_, _≤_}
-use lib.ListN.{length, length-set}
 use Rattle.writer.proofs.put_number.Statement.{statement}
 use Rattle.writer.proofs.put_number.Tie as tie
 

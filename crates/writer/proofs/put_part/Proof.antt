@@ -1,15 +1,15 @@
 -- `writer::put_part` meets its contract. The loop's invariant: the part up to `i` is laid over the slice as it was. The measure is what is left
 -- of the part.
 -- Assumes nothing.
-use Rattle.places.specs.Places.{between}
-use Rattle.writer.specs.Written.{written}
-use Rattle.writer.proofs.WrittenLaws.{part-length, part-none, part-turn}
-use borrow.Author.Needs.{needs}
+use Prim.Native.Nat.{_+_, _-_, _≤_}
 use native.Mathlib.Omega.{arith}
 use mathlib.Core.Path.{_≡_, refl}
-use Prim.Native.Nat.{_+_, _-_, _≤_}
 use lib.ListN.{length, length-set}
+use borrow.Author.Needs.{needs}
 use denote.Ref.{now}
+use Rattle.reader.specs.Contact.{between}
+use Rattle.writer.specs.Written.{written}
+use Rattle.writer.proofs.WrittenLaws.{part-length, part-none, part-turn}
 use Rattle.writer.proofs.put_part.Statement.{statement}
 use Rattle.writer.proofs.put_part.Tie as tie
 

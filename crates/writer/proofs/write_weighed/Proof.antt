@@ -1,100 +1,172 @@
 -- `writer::write_weighed` meets its contract: the result is measured, and where it fits the claims and the records are written one behind the other.
 -- Assumes nothing.
-use native.Mathlib.Omega.{arith}
-use mathlib.Core.Path.{sym, _∙_}
 use Prim.Native.Nat.{_+_, _≤_}
+use native.Mathlib.Omega.{arith}
+use mathlib.Core.List.{_++_}
+use mathlib.Core.Path.{_≡_, refl, sym, ap, _∙_}
 use lib.Dec.{leb}
 use lib.ListN.{length}
-use denote.Ref.{now}
-use borrow.Author.Tests.{not-true, not-false, leb-true}
-use Rattle.rules.proofs.Tests.{and-r}
-use Rattle.writer.specs.ClaimsText.{claimNumbers}
-use Rattle.writer.specs.RecordText.{recordsText}
-use Rattle.writer.proofs.WrittenLaws.{puts-room, puts-then}
-use Rattle.writer.proofs.WriteLaws.{nine-lie, all-lie, same-many, few, short, whole-length, as-tested, refused-answer, refused-slice, written-answer, written-slice}
 use borrow.Author.Needs.{needs}
+use borrow.Author.Tests.{not-true, not-false, leb-true}
+use denote.Ref.{now}
+use Rattle.rules.proofs.Tests.{and-r}
+use Rattle.rules.specs.Rules.{base}
+use Rattle.rules.specs.Text.{Text}
+use Rattle.writer.proofs.RecordLoops.{log-small}
+use Rattle.writer.proofs.WriteLaws.{result, bodyText, records-in-order, found-nine, found-in-order, found-text, claims-begin, short, result-length, as-tested, refused-answer, refused-slice, written-answer, written-slice}
+use Rattle.writer.proofs.WrittenLaws.{puts-room, puts-then, puts-as}
 use Rattle.writer.proofs.write_weighed.Statement.{statement}
 use Rattle.writer.proofs.write_weighed.Tie as tie
 
+-- The places of the code, each by the one before it.
+abbrev begun : tie.After-slice-known → tie.Start
+begun c = c .before .before .before .before .before .before
+
+abbrev numbered : tie.After-claims-at → tie.After-claim-numbers
+numbered c = c .before .before .before
+
+abbrev origin : tie.After-claims-at → tie.Start
+origin c = begun (numbered c .before)
+
+abbrev located : tie.After-claims-length → tie.After-claims-at
+located c = c .before .before .before .before .before .before
+
+abbrev measured : tie.After-result-fits → tie.After-claims-length
+measured c = c .before .before
+
+abbrev start : tie.After-result-fits → tie.Start
+start c = origin (located (measured c))
+
+abbrev tested : tie.After-put-claims → tie.Else1
+tested c = c .before .before .before .before .before
+
+-- The length that was measured is that of the result, and so the test is the definition's.
+long : (c : tie.After-records-length)
+    → let b = origin (located (c .before)) in
+    c .before .claims-length .result + c .records-length .result ≡ length (result (b .pre))
+long c =
+    let l = located (c .before) in
+    let w = origin l .pre in
+    omega (arith, result-length w, ap length (found-text w (l .claims-at .ensures .0) (l .claims-at .ensures .1) (numbered l .claim-numbers .ensures)), c .before .claims-length .ensures .0, c .records-length .ensures .0)
+
 -- The result fits the slice.
-room : (c : tie.Else1) → c .before .before .before .claims-length .result + c .before .before .records-length .result ≤ length (now (c .before .before .before .before .before .before .before .before .before .args .out))
+room : (c : tie.Else1)
+    → let m = c .before .before in
+    m .before .claims-length .result + m .records-length .result ≤ length (now (start (c .before) .args .out))
 room c =
-    let n = c .before .before .before .claims-length .result + c .before .before .records-length .result in
-    let m = length (now (c .before .before .before .before .before .before .before .before .before .args .out)) in
-    leb-true n m (and-r (leb n 65_535) (leb n m) (sym (c .before .result-fits .ensures) ∙ not-false _ (c .if1 .left)))
+    let m = c .before .before in
+    let n = m .before .claims-length .result + m .records-length .result in
+    let k = length (now (start (c .before) .args .out)) in
+    leb-true n k (and-r (leb n (base .longestLog)) (leb n k) (sym (c .before .result-fits .ensures) ∙ not-false _ (c .if1 .left)))
+
+claim-numbers-requires : tie.Need-claim-numbers-requires
+claim-numbers-requires c κs = search needs
+
+slice-aggregate-claims-at : tie.Need-slice-aggregate-claims-at
+slice-aggregate-claims-at c = search needs
+
+slice-aggregate-claims-at-2 : tie.Need-slice-aggregate-claims-at-2
+slice-aggregate-claims-at-2 c = search needs
+
+claims-at-requires : tie.Need-claims-at-requires
+claims-at-requires c κs = (claims-begin (begun (c .before .before .before) .pre), refl)
 
 slice-aggregate-claims-length : tie.Need-slice-aggregate-claims-length
 slice-aggregate-claims-length c = search needs
 
+slice-aggregate-claims-length-2 : tie.Need-slice-aggregate-claims-length-2
+slice-aggregate-claims-length-2 c = search needs
+
+slice-aggregate-claims-length-3 : tie.Need-slice-aggregate-claims-length-3
+slice-aggregate-claims-length-3 c = search needs
+
 claims-length-requires : tie.Need-claims-length-requires
-claims-length-requires c κs = (nine-lie (c .before .before .before .before .before .pre), search needs)
+claims-length-requires c κs =
+    let l = c .before .before .before .before .before in
+    let w = origin l .pre in
+    (found-in-order w (l .claims-at .ensures .0) (l .claims-at .ensures .1) (numbered l .claim-numbers .ensures), omega (arith, found-nine w (l .claims-at .ensures .0) (l .claims-at .ensures .1) (numbered l .claim-numbers .ensures)), short w)
 
 records-length-requires : tie.Need-records-length-requires
-records-length-requires c κs = let w = c .before .before .before .before .before .before .pre in (all-lie w, same-many w, few w)
+records-length-requires c κs = let w = origin (located c) .pre in (records-in-order w, short w)
 
 add-length : tie.Need-add-length
-add-length c = omega (arith, short (c .before .before .before .before .before .before .before .pre), c .before .claims-length .ensures .1, c .records-length .ensures .1)
+add-length c =
+    let w = origin (located (c .before)) .pre in
+    omega (arith, short w, log-small, c .before .claims-length .ensures .1, c .records-length .ensures .1)
 
 result-fits-requires : tie.Need-result-fits-requires
 result-fits-requires c κs = search needs
 
--- The length that was measured is that of the result.
 returns : tie.Need-returns
-unfolding claimNumbers
 returns c =
-    let at-start = c .before .before .before .before .before .before .before .before .before in
-    let w = at-start .pre in
-    let out = now (at-start .args .out) in
-    let head = c .before .before .before .claims-length in
-    let rest = c .before .before .records-length in
-    let no = sym (as-tested w (length out) (head .result + rest .result) (omega (arith, whole-length w, head .ensures .0, rest .ensures .0)) (c .before .result-fits .ensures)) ∙ not-true _ (c .if1 .taken) in
-    (refused-answer w out no, refused-slice w out no)
+    let f = c .before in
+    let m = f .before in
+    let b = start f in
+    let out = now (b .args .out) in
+    let no = sym (as-tested (b .pre) (length out) (m .before .claims-length .result + m .records-length .result) (long m) (f .result-fits .ensures)) ∙ not-true _ (c .if1 .taken) in
+    (refused-answer (b .pre) out no, refused-slice (b .pre) out no)
 
 slice-aggregate-put-claims : tie.Need-slice-aggregate-put-claims
 slice-aggregate-put-claims c = search needs
 
+slice-aggregate-put-claims-2 : tie.Need-slice-aggregate-put-claims-2
+slice-aggregate-put-claims-2 c = search needs
+
+slice-aggregate-put-claims-3 : tie.Need-slice-aggregate-put-claims-3
+slice-aggregate-put-claims-3 c = search needs
+
 put-claims-requires : tie.Need-put-claims-requires
-put-claims-requires c κs = (
-  nine-lie (c .before .before .before .before .before .before .before .before .before .before .before .pre),
-  omega (arith, room (c .before .before), c .before .before .before .before .before .claims-length .ensures .0),
-)
+put-claims-requires c κs =
+    let e = c .before .before .before .before in
+    let m = measured (e .before) in
+    let l = located m in
+    (found-in-order (origin l .pre) (l .claims-at .ensures .0) (l .claims-at .ensures .1) (numbered l .claim-numbers .ensures), omega (arith, room e, m .claims-length .ensures .0))
 
 put-records-requires : tie.Need-put-records-requires
 put-records-requires c κs =
-    let at-start = c .before .before .before .before .before .before .before .before .before .before .before .before .before .before .before in
-    let w = at-start .pre in
-    let a = at-start .args in
-    let put = c .before .before .before .put-claims .ensures in (
-      (all-lie w, same-many w),
-      puts-room put (recordsText (now (a .log)) (a .first) (now (a .points)) (now (a .numbers)))
-          (omega (arith, room (c .before .before .before .before .before .before), c .before .before .before .before .before .before .before .before .before .claims-length .ensures .0, c .before .before .before .before .before .before .before .before .records-length .ensures .0)),
-    )
+    let p = c .before .before .before in
+    let e = tested p in
+    let m = e .before .before in
+    let w = start (e .before) .pre in
+    (records-in-order w, puts-room (p .put-claims .ensures) (bodyText w) (omega (arith, room e, m .before .claims-length .ensures .0, m .records-length .ensures .0)))
 
 same-length : tie.Need-same-length
 same-length c = search needs
 
 returns-2 : tie.Need-returns-2
-unfolding claimNumbers
 returns-2 c =
-    let at-start = c .before .before .before .before .before .before .before .before .before .before .before .before .before .before .before .before .before .before in
-    let w = at-start .pre in
-    let head = c .before .before .before .before .before .before .before .before .before .before .before .before .claims-length in
-    let rest = c .before .before .before .before .before .before .before .before .before .before .before .records-length in
-    let yes = sym (as-tested w (length (now (at-start .args .out))) (head .result + rest .result) (omega (arith, whole-length w, head .ensures .0, rest .ensures .0)) (c .before .before .before .before .before .before .before .before .before .before .result-fits .ensures)) ∙ not-false _ (c .before .before .before .before .before .before .before .before .before .if1 .left) in
-    let p = puts-then (c .before .before .before .before .before .before .put-claims .ensures) (c .before .before .put-records .ensures) in
-    (written-answer w yes p, written-slice w yes p)
+    let r = c .before .before in
+    let p = r .before .before .before .before in
+    let e = tested p in
+    let f = e .before in
+    let m = f .before in
+    let b = start f in
+    let w = b .pre in
+    let l = located (m .before) in
+    let yes = sym (as-tested w (length (now (b .args .out))) (m .before .claims-length .result + m .records-length .result) (long m) (f .result-fits .ensures)) ∙ not-false _ (e .if1 .left) in
+    let head = found-text w (l .claims-at .ensures .0) (l .claims-at .ensures .1) (numbered l .claim-numbers .ensures) in
+    let put = puts-as (puts-then (p .put-claims .ensures) (r .put-records .ensures)) (ap (λ (t : Text). t ++ bodyText w) head) in
+    (written-answer w yes put, written-slice w yes put)
 
 pub write-weighed-spec : {M : Type 1} → statement M
 write-weighed-spec =
     tie.close
     (tie.spec
+    claim-numbers-requires
+    slice-aggregate-claims-at
+    slice-aggregate-claims-at-2
+    claims-at-requires
     slice-aggregate-claims-length
+    slice-aggregate-claims-length-2
+    slice-aggregate-claims-length-3
     claims-length-requires
     records-length-requires
     add-length
     result-fits-requires
     returns
     slice-aggregate-put-claims
+    slice-aggregate-put-claims-2
+    slice-aggregate-put-claims-3
     put-claims-requires
     put-records-requires
     same-length

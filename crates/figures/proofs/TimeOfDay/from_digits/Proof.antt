@@ -1,71 +1,58 @@
-use mathlib.Core.Path.{_≡_, sym, ap, _∙_}
-use mathlib.Core.Bool.{true, not}
-use borrow.Author.Tests.{not-false}
-use Rattle.rules.specs.Text.{digit}
-use Rattle.figures.proofs.TimeLaws.{Four, made-first, made-second, made-third, made-fourth, made-hours, made-minutes, made-time}
+-- Four characters make a time as the definition says: all of them are digits, and hours and minutes keep their bounds.
+use mathlib.Core.Bool.{true}
+use mathlib.Core.List.{[], _∷_}
+use mathlib.Core.Path.{_≡_, sym, _∙_}
+use lib.ListN.{drop}
 use borrow.Author.Needs.{needs}
+use borrow.Author.Tests.{not-false}
+use Rattle.rules.specs.Text.{Text, digit, all}
+use Rattle.figures.proofs.ExactLaws.{goes-on, stops}
+use Rattle.figures.proofs.TimeLaws.{made-kind, made-hours, made-minutes, made-time}
 use Rattle.figures.proofs.TimeOfDay.from_digits.Statement.{statement}
 use Rattle.figures.proofs.TimeOfDay.from_digits.Tie as tie
 
--- What the tests passed so far tell.
-first-here : (c : tie.Else1) → digit (c .before .before .args .a) ≡ true
-first-here c = sym (c .before .is-digit .ensures) ∙ not-false _ (c .if1 .left)
+-- The four characters; and as many of them as were passed are digits.
+abbrev four : tie.Start → Text
+four c = c .args .a ∷ c .args .b ∷ c .args .c ∷ c .args .d ∷ []
 
-second-here : (c : tie.Else2) → digit (c .before .before .before .before .args .b) ≡ true
-second-here c = sym (c .before .is-digit2 .ensures) ∙ not-false _ (c .if2 .left)
+upto1 : (c : tie.Else1) → all digit (four (c .before .before)) ≡ all digit (drop 2 (four (c .before .before)))
+upto1 c = goes-on _ _ _ (c .before .are-digits .ensures) (c .if1 .left)
 
-third-here : (c : tie.Else3) → digit (c .before .before .before .before .before .before .args .c) ≡ true
-third-here c = sym (c .before .is-digit3 .ensures) ∙ not-false _ (c .if3 .left)
+upto2 : (c : tie.Else2) → all digit (four (c .before .before .before .before)) ≡ all digit []
+upto2 c = upto1 (c .before .before) ∙ goes-on _ _ _ (c .before .are-digits2 .ensures) (c .if2 .left)
 
-four-here : (e : tie.Else4) → let args = e .before .before .before .before .before .before .before .before .args in Four (args .a) (args .b) (args .c) (args .d)
-four-here c =
-    record {
-      first = first-here (c .before .before .before .before .before .before);
-      second = second-here (c .before .before .before .before);
-      third = third-here (c .before .before);
-      fourth = sym (c .before .is-digit4 .ensures) ∙ not-false _ (c .if4 .left);
-    }
+digits : (c : tie.Else2) → all digit (four (c .before .before .before .before)) ≡ true
+unfolding all
+digits c = upto2 c
 
-is-digit-requires : tie.Need-is-digit-requires
-is-digit-requires c κs = search needs
+are-digits-requires : tie.Need-are-digits-requires
+are-digits-requires c κs = tt
 
 returns : tie.Need-returns
-returns c = made-first _ _ _ _ (ap not (sym (c .before .is-digit .ensures)) ∙ c .if1 .taken)
+returns c = made-kind _ _ _ _ (stops _ _ _ (c .before .are-digits .ensures) (c .if1 .taken))
 
-is-digit-requires-2 : tie.Need-is-digit-requires-2
-is-digit-requires-2 c κs = search needs
+are-digits-requires-2 : tie.Need-are-digits-requires-2
+are-digits-requires-2 c κs = tt
 
 returns-2 : tie.Need-returns-2
-returns-2 c = made-second _ _ _ _ (first-here (c .before .before)) (ap not (sym (c .before .is-digit2 .ensures)) ∙ c .if2 .taken)
+returns-2 c = made-kind _ _ _ _ (upto1 (c .before .before) ∙ stops _ _ _ (c .before .are-digits2 .ensures) (c .if2 .taken))
 
-is-digit-requires-3 : tie.Need-is-digit-requires-3
-is-digit-requires-3 c κs = search needs
+two-digits-requires : tie.Need-two-digits-requires
+two-digits-requires c κs =
+    let d = c .before .before in
+    sym (d .before .are-digits .ensures) ∙ not-false _ (d .if1 .left)
 
 returns-3 : tie.Need-returns-3
-returns-3 c =
-    made-third _ _ _ _ (first-here (c .before .before .before .before)) (second-here (c .before .before))
-    (ap not (sym (c .before .is-digit3 .ensures)) ∙ c .if3 .taken)
+returns-3 c = made-hours _ _ _ _ (digits (c .before .before)) (c .before .two-digits .ensures) (search needs)
 
-is-digit-requires-4 : tie.Need-is-digit-requires-4
-is-digit-requires-4 c κs = search needs
+two-digits-requires-2 : tie.Need-two-digits-requires-2
+two-digits-requires-2 c κs =
+    let d = c .before .before in
+    sym (d .before .are-digits2 .ensures) ∙ not-false _ (d .if2 .left)
 
 returns-4 : tie.Need-returns-4
 returns-4 c =
-    made-fourth _ _ _ _ (first-here (c .before .before .before .before .before .before)) (second-here (c .before .before .before .before))
-    (third-here (c .before .before)) (ap not (sym (c .before .is-digit4 .ensures)) ∙ c .if4 .taken)
-
-two-digits-requires : tie.Need-two-digits-requires
-two-digits-requires c κs = (four-here c .first, four-here c .second)
-
-returns-5 : tie.Need-returns-5
-returns-5 c = made-hours _ _ _ _ (four-here (c .before .before)) (c .before .two-digits .ensures) (search needs)
-
-two-digits-requires-2 : tie.Need-two-digits-requires-2
-two-digits-requires-2 c κs = (four-here (c .before .before) .third, four-here (c .before .before) .fourth)
-
-returns-6 : tie.Need-returns-6
-returns-6 c =
-    made-minutes _ _ _ _ (four-here (c .before .before .before .before)) (c .before .before .before .two-digits .ensures) (search needs)
+    made-minutes _ _ _ _ (digits (c .before .before .before .before)) (c .before .before .before .two-digits .ensures) (search needs)
     (c .before .two-digits2 .ensures) (search needs)
 
 mul-t9 : tie.Need-mul-t9
@@ -74,27 +61,23 @@ mul-t9 c = search needs
 add-t10 : tie.Need-add-t10
 add-t10 c = search needs
 
-returns-7 : tie.Need-returns-7
-returns-7 c =
-    made-time _ _ _ _ (four-here (c .before .before .before .before)) (c .before .before .before .two-digits .ensures) (search needs)
+returns-5 : tie.Need-returns-5
+returns-5 c =
+    made-time _ _ _ _ (digits (c .before .before .before .before)) (c .before .before .before .two-digits .ensures) (search needs)
     (c .before .two-digits2 .ensures) (search needs)
 
 pub from-digits-spec : {M : Type 1} → statement M
 from-digits-spec =
     tie.close
     (tie.spec
-    is-digit-requires
+    are-digits-requires
     returns
-    is-digit-requires-2
+    are-digits-requires-2
     returns-2
-    is-digit-requires-3
-    returns-3
-    is-digit-requires-4
-    returns-4
     two-digits-requires
-    returns-5
+    returns-3
     two-digits-requires-2
-    returns-6
+    returns-4
     mul-t9
     add-t10
-    returns-7)
+    returns-5)

@@ -1,3 +1,4 @@
+-- The minutes of a time, by its hours and minutes.
 use native.Mathlib.Omega.{arith}
 use borrow.Author.Needs.{needs}
 use Rattle.figures.specs.Figure.{minutesOf}

@@ -1,0 +1,78 @@
+-- What a caller in C may rely on: the refusal of each answer is the one of the definition, so what is proved of all calls holds of it.
+-- Assumes nothing.
+use Prim.Native.Nat.{ℕ}
+use mathlib.Core.Path.{_≡_, refl}
+use mathlib.Core.List.{List}
+use lib.ListN.{length}
+use Rattle.rules.specs.Text.{Text}
+use Rattle.rules.specs.Rules.{base}
+use Rattle.rules.specs.Judging.{zeroTotals}
+use Rattle.rules.specs.Reading.{Reading, accepted, refused, read}
+use Rattle.rules.specs.Answers.{Viewing, seen, unseen, view, Judgement, judged, unjudged, judge, numbersOfJudgement, Writing, written, unwritten, write, bytesOfWriting, over}
+use Rattle.rules.proofs.GivenCalls.{zero-when-accepted, line-and-field-told}
+use Rattle.pad.specs.Face.{readingFace, viewFace, totalsFace, judgementFace, writtenFace}
+use Rattle.pad.specs.Caller.{Accepts, ToldByRead, ToldByView, ToldByJudge, ToldByWrite, ForTheCaller}
+
+-- # What a refused call leaves
+
+no-records : (r : Reading) → (Accepts ((readingFace r) .refusal) → ⊥) → (readingFace r) .records ≡ 0
+unfolding readingFace
+no-records (accepted log) h = absurd (h refl)
+no-records (refused r) h = refl
+
+no-view : (v : Viewing) → (Accepts ((viewFace v) .refusal) → ⊥) → ((viewFace v) .start ≡ 0) × ((viewFace v) .length ≡ 0)
+unfolding viewFace
+no-view (seen start t) h = absurd (h refl)
+no-view (unseen r) h = (refl, refl)
+
+no-judgement : (j : Judgement) (slice : List ℕ) → (Accepts ((judgementFace j) .refusal) → ⊥) → (judgementFace j ≡ totalsFace ((judgementFace j) .refusal) zeroTotals) × (over (numbersOfJudgement j) slice ≡ slice)
+unfolding judgementFace numbersOfJudgement over
+no-judgement (judged t vs) slice h = absurd (h refl)
+no-judgement (unjudged r) slice h = (refl, refl)
+
+no-writing : (w : Writing) (slice : List ℕ) → (Accepts ((writtenFace w) .refusal) → ⊥) → ((writtenFace w) .length ≡ 0) × (over (bytesOfWriting w) slice ≡ slice)
+unfolding writtenFace bytesOfWriting over
+no-writing (written t) slice h = absurd (h refl)
+no-writing (unwritten r) slice h = (refl, refl)
+
+-- # Each call
+
+told-by-read : (s : Text) → ToldByRead s (readingFace (read base s))
+unfolding readingFace
+told-by-read s =
+    record {
+      accepted = (zero-when-accepted base) .reading s;
+      place = (line-and-field-told base) .reading s;
+      refused = no-records (read base s);
+    }
+
+told-by-view : (s : Text) (k : ℕ) → ToldByView s k (viewFace (view base k s))
+unfolding viewFace
+told-by-view s k =
+    record {
+      accepted = (zero-when-accepted base) .viewing s k;
+      place = (line-and-field-told base) .viewing s k;
+      refused = no-view (view base k s);
+    }
+
+told-by-judge : (s : Text) (slice : List ℕ) → ToldByJudge s slice (judgementFace (judge base (length slice) s)) (over (numbersOfJudgement (judge base (length slice) s)) slice)
+unfolding judgementFace
+told-by-judge s slice =
+    record {
+      accepted = (zero-when-accepted base) .judging s (length slice);
+      place = (line-and-field-told base) .judging s (length slice);
+      refused = no-judgement (judge base (length slice) s) slice;
+    }
+
+told-by-write : (s : Text) (slice : List ℕ) → ToldByWrite s slice (writtenFace (write base (length slice) s)) (over (bytesOfWriting (write base (length slice) s)) slice)
+unfolding writtenFace base
+told-by-write s slice =
+    record {
+      accepted = (zero-when-accepted base) .writing s (length slice);
+      place = (line-and-field-told base) .writing s (length slice);
+      refused = no-writing (write base (length slice) s) slice;
+    }
+
+pub for-the-caller : ForTheCaller
+for-the-caller =
+    record { reading = told-by-read; viewing = told-by-view; judging = told-by-judge; writing = told-by-write }

@@ -1,0 +1,77 @@
+-- What a caller in C may rely on, of any log, any keyword number and any lent slice: demand 1 over the answers of include/sumpquince.h.
+-- Assumes nothing.
+use Prim.Native.Nat.{ℕ, _≤_}
+use mathlib.Core.Path.{_≡_}
+use mathlib.Core.Logic.{_↔_}
+use mathlib.Core.List.{List}
+use lib.ListN.{length}
+use Rattle.rules.specs.declared.Refusal.{Refusal}
+use Rattle.rules.specs.Text.{Text}
+use Rattle.rules.specs.Rules.{base}
+use Rattle.rules.specs.Log.{Log, render, IsWrittenAs, FollowsTheFormat}
+use Rattle.rules.specs.Judging.{zeroTotals}
+use Rattle.rules.specs.Writing.{writtenBack}
+use Rattle.rules.specs.Reading.{refusal, read}
+use Rattle.rules.specs.Answers.{view, judge, numbersOfJudgement, write, bytesOfWriting, over}
+use Rattle.rules.specs.Given.{LineAndField}
+use Rattle.pad.specs.declared.SumpquinceRefusal.{SumpquinceRefusal}
+use Rattle.pad.specs.declared.SumpquinceReading.{SumpquinceReading}
+use Rattle.pad.specs.declared.SumpquinceView.{SumpquinceView}
+use Rattle.pad.specs.declared.SumpquinceJudgement.{SumpquinceJudgement}
+use Rattle.pad.specs.declared.SumpquinceWritten.{SumpquinceWritten}
+use Rattle.pad.specs.Face.{readingFace, viewFace, totalsFace, judgementFace, writtenFace}
+
+-- The struct of a refusal, as document 01 has it.
+abbrev pub refusalIn : SumpquinceRefusal → Refusal
+refusalIn f = refusal (f .number) (f .line) (f .field)
+
+-- The number is 0 exactly where the call is accepted.
+abbrev pub Accepts : SumpquinceRefusal → Type 0
+Accepts f = f .number ≡ 0
+
+-- sumpquince_read: "A file is accepted exactly when it follows the format"; a refused log has no records.
+pub record ToldByRead (s : Text) (r : SumpquinceReading) : Type 0 where
+  pub accepted : Accepts (r .refusal) ↔ FollowsTheFormat base s
+  pub place : LineAndField (refusalIn (r .refusal))
+  pub refused : (Accepts (r .refusal) → ⊥) → r .records ≡ 0
+
+-- sumpquince_view: "A view .. is given only of an accepted log", for a keyword number from 1 to 36; a refused one is empty.
+pub record ToldByView (s : Text) (k : ℕ) (v : SumpquinceView) : Type 0 where
+  pub accepted : Accepts (v .refusal) ↔ ((1 ≤ k) × (k ≤ 36) × FollowsTheFormat base s)
+  pub place : LineAndField (refusalIn (v .refusal))
+  pub refused : (Accepts (v .refusal) → ⊥) → (v .start ≡ 0) × (v .length ≡ 0)
+
+-- sumpquince_judge, with the slice as it is handed over and as it is afterwards: an accepted log of no more records than the slice has bytes;
+-- "the totals are then zero and lent memory is as it was handed over".
+pub record ToldByJudge (s : Text) (slice : List ℕ) (j : SumpquinceJudgement) (afterwards : List ℕ) : Type 0 where
+  pub accepted :
+      Accepts (j .refusal) ↔ ((log : Log) × IsWrittenAs base s log × (length (log .records) ≤ length slice))
+  pub place : LineAndField (refusalIn (j .refusal))
+  pub refused :
+      (Accepts (j .refusal) → ⊥) → (j ≡ totalsFace (j .refusal) zeroTotals) × (afterwards ≡ slice)
+
+-- sumpquince_write, likewise: an accepted log whose result is no longer than a log may be, nor than the slice.
+pub record ToldByWrite (s : Text) (slice : List ℕ) (w : SumpquinceWritten) (afterwards : List ℕ) : Type 0 where
+  pub accepted :
+      Accepts (w .refusal)
+      ↔ ((log : Log)
+      × IsWrittenAs base s log
+      × (length (render (writtenBack base log)) ≤ base .longestLog)
+      × (length (render (writtenBack base log)) ≤ length slice))
+  pub place : LineAndField (refusalIn (w .refusal))
+  pub refused : (Accepts (w .refusal) → ⊥) → (w .length ≡ 0) × (afterwards ≡ slice)
+
+-- The answers and the slices are those of the contracts of src/lib.rt.
+pub record ForTheCaller : Type 0 where
+  pub reading : (s : Text) → ToldByRead s (readingFace (read base s))
+  pub viewing : (s : Text) (k : ℕ) → ToldByView s k (viewFace (view base k s))
+  pub judging :
+      (s : Text) (slice : List ℕ) →
+      ToldByJudge s slice
+      (judgementFace (judge base (length slice) s))
+      (over (numbersOfJudgement (judge base (length slice) s)) slice)
+  pub writing :
+      (s : Text) (slice : List ℕ) →
+      ToldByWrite s slice
+      (writtenFace (write base (length slice) s))
+      (over (bytesOfWriting (write base (length slice) s)) slice)

@@ -1,0 +1,174 @@
+-- An accepted log holds its records one behind the other, and ends behind the last: what is told at the place of each is true of it.
+-- Assumes nothing.
+use Prim.Native.Nat.{ℕ, suc, _+_, _-_, _≤_, _<_}
+use native.Mathlib.Omega.{arith}
+use mathlib.Core.Path.{_≡_, refl, sym, ap, subst, _∙_}
+use mathlib.Core.Bool.{true, cond, not, _||_}
+use mathlib.Core.List.{List, [], _∷_, _++_, map, append-assoc}
+use lib.Dec.{T}
+use lib.ListN.{length, drop, getD, length-append, length-drop}
+use lib.Seq.{drop-drop, drop-append-add, drop-at}
+use Rattle.rules.specs.Text.{Text, bytes, begins, same, joined, value, numberOf}
+use Rattle.rules.specs.Rules.{Rules}
+use Rattle.rules.specs.Fields.{Qso, errorCall, newMark, duplicateMark, isError, emptyOr, pointsRule, fieldsOf, fieldRules}
+use Rattle.rules.specs.Log.{Log, render, countLine, recordLine, crlf, ended, conjunction, recordRules}
+use Rattle.rules.specs.Reading.{read, accepted}
+use Rattle.rules.specs.Judging.{claimsCountry}
+use Rattle.rules.proofs.Tests.{so, holds, and-l, and-r}
+use Rattle.rules.proofs.Passing.{same→equal}
+use Rattle.rules.proofs.ValidLogs.{rule-at, points-ruled, records-valid}
+use Rattle.rules.proofs.Format.{accepted-when-written, render-law}
+use Rattle.rules.proofs.LogLaws.{front, lines-split}
+use Rattle.rules.proofs.FieldLaws.{fields-plain}
+use Rattle.fields.specs.Field.{textAt, endOf}
+use Rattle.reader.specs.Contact.{fieldStart, valueBy, lastEnd, contactAt, behind, between, Describes, Holds}
+use Rattle.reader.proofs.PlaceLaws.{text-by-end}
+use Rattle.reader.proofs.FieldsHeld.{texts-held, starts-held}
+
+-- The lines of records, each with its end.
+abbrev pub recordLines : List Qso → Text
+recordLines qs = ended (map recordLine qs)
+
+-- Records that keep their rules stand at a place, one behind the other, to the end of the text.
+pub record Stand (R : Rules) (s : Text) (at : ℕ) (qs : List Qso) : Type 0 where
+  pub rules : recordRules R qs ≡ true
+  pub lines : drop at s ≡ recordLines qs
+  pub end : at + length (recordLines qs) ≡ length s
+
+-- The first of them.
+module _ (R : Rules) (s : Text) (at : ℕ) (q : Qso) (qs : List Qso) (h : Stand R s at (q ∷ qs)) where
+  pub rules-kept : conjunction (fieldRules R q) ≡ true
+  unfolding recordRules
+  rules-kept = and-l (conjunction (fieldRules R q)) (recordRules R qs) (h .rules)
+
+  pub stands : drop at s ≡ joined (fieldsOf q) ++ (crlf ++ recordLines qs)
+  unfolding ended recordLine
+  stands = h .lines ∙ append-assoc (joined (fieldsOf q)) crlf (recordLines qs)
+
+  -- What stands where one of its fields begins.
+  pub starts-at : (k : ℕ) → k < 15 → drop (fieldStart s at k) s ≡ joined (drop k (fieldsOf q)) ++ (crlf ++ recordLines qs)
+  unfolding fieldsOf
+  starts-at k g = starts-held s at (fieldsOf q) (crlf ++ recordLines qs) (fields-plain R q rules-kept) stands k g
+
+  field-is : (k : ℕ) → suc k < 15 → textAt s (fieldStart s at k) ≡ getD (fieldsOf q) k []
+  unfolding fieldsOf
+  field-is k g = texts-held s at (fieldsOf q) (crlf ++ recordLines qs) (fields-plain R q rules-kept) stands k g
+
+  between-is : (k : ℕ) → suc k < 15 → between s (fieldStart s at k) (endOf s (fieldStart s at k)) ≡ getD (fieldsOf q) k []
+  between-is k g = sym (text-by-end s (fieldStart s at k) refl) ∙ field-is k g
+
+  points-number : numberOf (R .pointsDigits) (q .points) ≡ true
+  unfolding pointsRule
+  points-number =
+      let p = so (pointsRule R q) (points-ruled R q (holds rules-kept)) in
+      and-l (numberOf (R .pointsDigits) (q .points)) (not (isError q) || same (q .points) (bytes "0")) p
+
+  worth-is : valueBy (numberOf (R .pointsDigits)) (textAt s (fieldStart s at 10)) ≡ value (q .points)
+  unfolding valueBy fieldsOf
+  worth-is = rw (field-is 10 (omega arith), points-number)
+
+  pub describes : Describes s (contactAt R s at) q
+  unfolding contactAt fieldsOf isError claimsCountry
+  describes =
+      record {
+        callIs = between-is 2 (omega arith);
+        exchangeIs = between-is 8 (omega arith);
+        locatorIs = between-is 9 (omega arith);
+        pointsAre = between-is 10 (omega arith);
+        worthIs = worth-is;
+        errorIs = ap (λ (t : Text). same t errorCall) (field-is 2 (omega arith));
+        countryIs = ap (λ (t : Text). same t newMark) (field-is 13 (omega arith));
+      }
+
+  last-stands : drop (fieldStart s at 14) s ≡ q .duplicate ++ 13 ∷ 10 ∷ recordLines qs
+  unfolding fieldsOf joined crlf
+  last-stands = starts-at 14 (omega arith)
+
+  -- The last field is a `D` or nothing, and ends with it.
+  last-ruled : T (emptyOr (same duplicateMark) (q .duplicate))
+  unfolding fieldRules
+  last-ruled = rule-at (fieldRules R q) 14 (holds rules-kept)
+
+  end-is : (contactAt R s at) .end ≡ fieldStart s at 14 + length (q .duplicate)
+  unfolding contactAt lastEnd emptyOr duplicateMark begins
+  end-is = ap (λ (t : Text). fieldStart s at 14 + cond (begins duplicateMark t) 1 0) last-stands ∙ last-measured (q .duplicate) last-ruled
+    where
+      last-measured : (t : Text) → T (emptyOr (same duplicateMark) t) → fieldStart s at 14 + cond (begins duplicateMark (t ++ 13 ∷ 10 ∷ recordLines qs)) 1 0 ≡ fieldStart s at 14 + length t
+      last-measured [] h = refl
+      last-measured (c ∷ t) h = subst (λ (u : Text). fieldStart s at 14 + cond (begins duplicateMark (u ++ 13 ∷ 10 ∷ recordLines qs)) 1 0 ≡ fieldStart s at 14 + length u) (same→equal duplicateMark (c ∷ t) h) refl
+
+  next-is : behind (contactAt R s at) ≡ fieldStart s at 14 + (length (q .duplicate) + 2)
+  next-is = omega (arith, end-is)
+
+  -- The next line begins behind the end of this one, within the text.
+  next-stands : drop (behind (contactAt R s at)) s ≡ recordLines qs
+  next-stands =
+      ap (λ (n : ℕ). drop n s) next-is
+      ∙ sym (drop-drop (length (q .duplicate) + 2) (fieldStart s at 14) s)
+      ∙ ap (drop (length (q .duplicate) + 2)) last-stands
+      ∙ drop-append-add (q .duplicate) (13 ∷ 10 ∷ recordLines qs) 2
+
+  next-within : behind (contactAt R s at) + length (recordLines qs) ≡ length s
+  next-within =
+      let n : length s - fieldStart s at 14 ≡ length (q .duplicate ++ 13 ∷ 10 ∷ recordLines qs) = sym (length-drop (fieldStart s at 14) s) ∙ ap length last-stands in
+      omega (arith, length-append (q .duplicate) (13 ∷ 10 ∷ recordLines qs), next-is)
+
+  -- The others stand there.
+  pub others-stand : Stand R s (behind (contactAt R s at)) qs
+  unfolding recordRules
+  others-stand =
+      record {
+        rules = and-r (conjunction (fieldRules R q)) (recordRules R qs) (h .rules);
+        lines = next-stands;
+        end = next-within;
+      }
+
+held : (R : Rules) (s : Text) (qs : List Qso) (at : ℕ) → Stand R s at qs → Holds R s at qs
+unfolding ended
+held R s [] at h = omega arith
+held R s (q ∷ qs) at h = (describes R s at q qs h, held R s qs (behind (contactAt R s at)) (others-stand R s at q qs h))
+
+-- Where the first record of a log that is written begins.
+abbrev pub recordsStart : Text → Log → ℕ
+recordsStart s log = length s - length (recordLines (log .records))
+
+pub ended-append : (a b : List Text) → ended (a ++ b) ≡ ended a ++ ended b
+unfolding ended
+ended-append [] b = refl
+ended-append (l ∷ a) b =
+    ap (λ (t : Text). l ++ crlf ++ t) (ended-append a b) ∙ sym (append-assoc (l ++ crlf) (ended a) (ended b))
+
+-- The lines of the records, and those in front of them, of which the count line is the last.
+module _ (log : Log) where
+  abbrev pub records : List Text
+  records = map recordLine (log .records)
+
+  abbrev pub header : List Text
+  header = front log ++ (countLine (length (log .records)) ∷ [])
+
+  pub rendered : render log ≡ ended header ++ ended records
+  rendered =
+      render-law log
+      ∙ ap ended (lines-split log ∙ sym (append-assoc (front log) (countLine (length (log .records)) ∷ []) records))
+      ∙ ended-append header records
+
+module _ (R : Rules) (s : Text) (log : Log) (w : read R s ≡ accepted log) where
+  pub split : s ≡ ended (header log) ++ ended (records log)
+  split = sym (accepted-when-written R s log .0 w .1) ∙ rendered log
+
+  pub starts : recordsStart s log ≡ length (ended (header log))
+  starts = omega (arith, ap length split, length-append (ended (header log)) (ended (records log)))
+
+  pub records-within : recordsStart s log ≤ length s
+  records-within = omega arith
+
+  pub records-stand : Stand R s (recordsStart s log) (log .records)
+  records-stand =
+      record {
+        rules = so (recordRules R (log .records)) (records-valid R log (accepted-when-written R s log .0 w .0));
+        lines = ap (drop (recordsStart s log)) split ∙ drop-at (ended (header log)) (ended (records log)) (recordsStart s log) (sym starts);
+        end = omega (arith, starts, ap length split, length-append (ended (header log)) (ended (records log)));
+      }
+
+  pub records-held : Holds R s (recordsStart s log) (log .records)
+  records-held = held R s (log .records) (recordsStart s log) records-stand

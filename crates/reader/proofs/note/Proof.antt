@@ -1,0 +1,29 @@
+-- A place is stored where the list has room for it.
+use borrow.Author.Needs.{needs}
+use native.Mathlib.Omega.{arith}
+use mathlib.Core.Path.{sym}
+use lib.Seq.{set-out}
+use Rattle.reader.proofs.HeadLaws.{log-small}
+use Rattle.reader.proofs.note.Statement.{statement}
+use Rattle.reader.proofs.note.Tie as tie
+
+cast-list : tie.Need-cast-list
+cast-list c = omega (arith, c .before .pre, log-small)
+
+mul-list : tie.Need-mul-list
+mul-list c = search needs
+
+slice-write-list : tie.Need-slice-write-list
+slice-write-list c = search needs
+
+same-length : tie.Need-same-length
+same-length c = search needs
+
+returns : tie.Need-returns
+returns c = search needs
+
+returns-2 : tie.Need-returns-2
+returns-2 c = sym (set-out _ _ _ (c .if1 .left))
+
+pub note-spec : {M : Type 1} → statement M
+note-spec = tie.close (tie.spec cast-list mul-list slice-write-list same-length returns returns-2)

@@ -1,0 +1,12 @@
+-- The constant is the limit of the base rules.
+use mathlib.Core.Path.{refl}
+use Rattle.rules.specs.Rules.{base}
+use Rattle.rules.proofs.longest_exchange.Statement.{statement}
+use Rattle.rules.proofs.longest_exchange.Tie as tie
+
+returns : tie.Need-returns
+unfolding base
+returns c = refl
+
+pub longest-exchange-spec : {M : Type 1} → statement M
+longest-exchange-spec = tie.close (tie.spec returns)

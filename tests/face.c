@@ -1,0 +1,74 @@
+/* Tries what include/sumpquince.h says of its shapes and of empty slices: that the structs have the sizes that it gives, and that a slice of
+ * length 0 may have a null pointer, for each function and each of its slices.
+ *
+ *     face < LOG
+ *
+ * LOG is an accepted log with at least one record. Each difference is told in a line. The status is 0 where there is none, 1 where there is one, and
+ * 2 where the log is of no use. */
+#include "sumpquince.h"
+
+#include <stdio.h>
+#include <string.h>
+
+_Static_assert(sizeof(SumpquinceRefusal) == 12 && _Alignof(SumpquinceRefusal) == 4, "a refusal");
+_Static_assert(sizeof(SumpquinceReading) == 24 && _Alignof(SumpquinceReading) == 8, "a reading");
+_Static_assert(sizeof(SumpquinceView) == 32 && _Alignof(SumpquinceView) == 8, "a view");
+_Static_assert(sizeof(SumpquinceJudgement) == 112 && _Alignof(SumpquinceJudgement) == 8, "a judgement");
+_Static_assert(sizeof(SumpquinceWritten) == 24 && _Alignof(SumpquinceWritten) == 8, "a log written back");
+
+enum { LONGEST_LOG = 65535, MOST_RECORDS = 999 };
+
+static uint8_t log[LONGEST_LOG], none[LONGEST_LOG], verdicts[MOST_RECORDS], out[LONGEST_LOG];
+static int tries, differences;
+
+static void hold(const char *what, uint64_t got, uint64_t wanted) {
+    tries++;
+    if (got == wanted) return;
+    differences++;
+    printf("face: %s is %llu and should be %llu\n", what, (unsigned long long)got, (unsigned long long)wanted);
+}
+
+/* A refusal as one number: 210 is number 2, line 1, field 0. */
+static uint64_t digits(SumpquinceRefusal refusal) { return refusal.number * 100 + refusal.line * 10 + refusal.field; }
+
+/* The log with no records: up to its count line, and `[QSORecords;0]`. */
+static size_t without_records(size_t length) {
+    static const char count_line[] = "[QSORecords;";
+    size_t start = 0;
+    while (start < length && memcmp(log + start, count_line, sizeof count_line - 1) != 0) start++;
+    memcpy(none, log, start);
+    memcpy(none + start, "[QSORecords;0]\r\n", 16);
+    return start + 16;
+}
+
+static void try_empty_log(void) {
+    hold("the refusal of reading no log", digits(sumpquince_read(NULL, 0).refusal), 210);
+    hold("the refusal of viewing no log", digits(sumpquince_view(NULL, 0, 1).refusal), 210);
+    hold("the refusal of keyword 0 of no log", digits(sumpquince_view(NULL, 0, 0).refusal), 900);
+    hold("the refusal of judging no log", digits(sumpquince_judge(NULL, 0, verdicts, sizeof verdicts).refusal), 210);
+    hold("the refusal of judging no log into nothing", digits(sumpquince_judge(NULL, 0, NULL, 0).refusal), 210);
+    hold("the refusal of writing no log", digits(sumpquince_write(NULL, 0, out, sizeof out).refusal), 210);
+    hold("the refusal of writing no log into nothing", digits(sumpquince_write(NULL, 0, NULL, 0).refusal), 210);
+}
+
+static void try_empty_results(size_t length) {
+    size_t shorter = without_records(length);
+    SumpquinceJudgement judgement = sumpquince_judge(none, shorter, NULL, 0);
+    hold("the refusal of a log with no records, judged into nothing", digits(judgement.refusal), 0);
+    hold("its total", judgement.total, 0);
+    hold("the refusal of a log with records, judged into nothing", digits(sumpquince_judge(log, length, NULL, 0).refusal), 700);
+    hold("the refusal of a log written into nothing", digits(sumpquince_write(log, length, NULL, 0).refusal), 800);
+}
+
+int main(void) {
+    size_t length = fread(log, 1, sizeof log, stdin);
+    SumpquinceReading reading = sumpquince_read(log, length);
+    if (reading.refusal.number != 0 || reading.records == 0) {
+        fputs("face: the log is refused, or has no records\n", stderr);
+        return 2;
+    }
+    try_empty_log();
+    try_empty_results(length);
+    printf("face: %d answers with null pointers, %d differences\n", tries, differences);
+    return differences == 0 ? 0 : 1;
+}
