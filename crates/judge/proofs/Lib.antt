@@ -1,3 +1,4 @@
+-- The laws of the judge, from what is said of a record to a log as a whole.
 pub mod SaidLaws
 pub mod CountLaws
 pub mod PartLaws

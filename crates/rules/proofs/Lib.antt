@@ -1,3 +1,4 @@
+-- The theorems about the definitions alone: laws of texts, lines and logs, then the three demands, and all of them joined.
 pub mod Tests
 pub mod TextLaws
 pub mod NumberLaws

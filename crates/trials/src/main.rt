@@ -87,7 +87,7 @@ fn show_verdicts(verdicts: &[u8], n: usize) {
 }
 
 fn show_judged(log: &[u8], records: usize) {
-    let mut verdicts = [0u8; 999];
+    let mut verdicts = [0u8; rules::MOST_RECORDS];
     let answer = judge::judge(log, &mut verdicts);
     say(b"  judged:");
     match answer {

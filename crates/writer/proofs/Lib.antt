@@ -1,3 +1,4 @@
+-- The laws of the writer, from a text laid over a list to a log as a whole, and what is shown.
 pub mod WrittenLaws
 pub mod TextsLaws
 pub mod NumberLaws
