@@ -1,9 +1,8 @@
 -- Laws of the parts of a text: where each begins, what it is, and how many there are.
 -- Assumes nothing.
 use Prim.Native.Nat.{ℕ, zero, suc, _+_, _≤_, _<_, max}
-use native.Mathlib.Decide.{decLt, decLe}
+use native.Mathlib.Decide.{decLt}
 use native.Mathlib.Nat.{add-zero, suc-add, add-suc}
-use native.Mathlib.Numerals.{add-one}
 use native.Mathlib.Omega.{arith}
 use mathlib.Core.Bool.{Bool, true, false, cond, not, _&&_, true≢false}
 use mathlib.Core.List.{List, [], _∷_}
@@ -11,7 +10,6 @@ use mathlib.Core.Path.{_≡_, refl, sym, ap, _∙_}
 use lib.Dec.{eqb}
 use lib.ListN.{length, take, drop, getD, drop-of-length-le, length-drop}
 use lib.Seq.{length-take-le, drop-drop, getD-drop}
-use borrow.Author.Tests.{eq-eqb, ne-eqb}
 use Rattle.rules.specs.Text.{Text, span, parts, before, all}
 use Rattle.rules.proofs.TextLaws.{span-short}
 use Rattle.fields.specs.Field.{inField, textAt, endOf}
@@ -106,49 +104,3 @@ module _ (l : Text) where
       ∙ sym (getD-drop k (parts l) 0 [])
       ∙ r 0
       ∙ ap (λ (ts : List Text). getD ts 0 []) (at-end a)
-
-  -- How many parts there are, where that of number k would begin at a.
-  abbrev pub Counts : ℕ → ℕ → Type 0
-  Counts k a =
-      (a ≤ length l → length (parts l) ≡ k + length (parts (drop a l))) × (length l < a → length (parts l) ≤ k)
-
-  pub count-first : Counts 0 0
-  count-first = (λ h. omega arith, λ h. omega arith)
-
-  pub count-next : (k a : ℕ) → Counts k a → Counts (suc k) (endOf l a + 1)
-  count-next k a c =
-      (λ h. omega (arith, c .0 (omega (arith, end-by-span a)), ap length (parts-more a (omega arith))), λ h. by (decLe a (length l)) h)
-    where
-      by : Dec (a ≤ length l) → length l < endOf l a + 1 → length (parts l) ≤ suc k
-      by (yes j) h = omega (arith, c .0 j, ap length (parts-last a (omega arith)))
-      by (no j) h = omega (arith, c .1 (omega arith))
-
-  -- There are as many parts as fields exactly where the last field ends with the line.
-  pub all-counted : (k a : ℕ) → Counts k a → endOf l a ≡ length l → length (parts l) ≡ suc k
-  all-counted k a c e =
-      omega (arith, c .0 (omega (arith, end-by-span a)), ap length (parts-last a (omega arith)))
-
-  pub miscounted : (k a : ℕ) → Counts k a → (endOf l a ≡ length l → ⊥) → length (parts l) ≡ suc k → ⊥
-  miscounted k a c n e = by (decLe a (length l))
-    where
-      by : Dec (a ≤ length l) → ⊥
-      by (yes j) =
-          let inside : endOf l a < length l = omega (arith, end-within a, n) in
-          omega (arith, c .0 j, ap length (parts-more a inside), ap length (at-end (endOf l a + 1)))
-      by (no j) = omega (arith, c .1 (omega arith))
-
-  -- Counting semicolons from a place on.
-  pub count-semicolon : (i : ℕ) → i < length l → getD l i 0 ≡ 59 → length (parts (drop i l)) ≡ length (parts (drop (i + 1) l)) + 1
-  unfolding parts
-  count-semicolon i h e = rw (next l i h, eq-eqb (getD l i 0) 59 e) (sym (add-one _))
-
-  pub count-other : (i : ℕ) → i < length l → (getD l i 0 ≡ 59 → ⊥) → length (parts (drop i l)) ≡ length (parts (drop (i + 1) l))
-  unfolding parts before
-  count-other i h e = rw (next l i h, ne-eqb (getD l i 0) 59 e) (kept (parts-split (drop (i + 1) l)))
-    where
-      kept : {t : Text} {ts : List Text} → parts (drop (i + 1) l) ≡ t ∷ ts → length (before (getD l i 0) (parts (drop (i + 1) l))) ≡ length (parts (drop (i + 1) l))
-      kept p = rw p
-
-  pub count-end : (i : ℕ) → length l ≤ i → length (parts (drop i l)) ≡ 1
-  unfolding parts
-  count-end i h = rw (drop-of-length-le l h)

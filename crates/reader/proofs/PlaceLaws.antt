@@ -100,13 +100,6 @@ module _ (s : Text) where
     unfolding fieldStart
     next-start g = ap (λ (n : ℕ). n + 1) g
 
-    pub fields-on : (j : ℕ) {e a : ℕ} → e ≡ endOf s (fieldStart s at k) → a ≡ fieldStart s (e + 1) j → a ≡ fieldStart s at (suc k + j)
-    fields-on j g h =
-        h ∙ ap (λ (n : ℕ). fieldStart s n j) (next-start g) ∙ start-more at (suc k) j
-
-    pub ends-near : {e : ℕ} → e ≡ endOf s (fieldStart s at k) → e ≤ max at (length s) + k
-    ends-near g = omega (arith, start-within at (suc k), next-start g)
-
   -- The next record begins behind this one, and behind its points.
   pub starts-rise : (at k : ℕ) → at ≤ fieldStart s at k
   unfolding fieldStart

@@ -15,7 +15,6 @@ use Rattle.rules.specs.declared.Verdict.{Verdict}
 use Rattle.rules.specs.Rules.{Rules, base}
 use Rattle.rules.specs.Text.{Text, same, empty}
 use Rattle.rules.specs.Fields.{Qso, isError}
-use Rattle.rules.specs.Log.{Log}
 use Rattle.rules.specs.Judging.{classNumber, is, some, claimsPoints, classOf, square, isNew, claimsCountry, countOf, verdictOf, creditedAfter, verdictsAfter, verdicts, totalsOf, totals, totalsOfLog}
 use Rattle.rules.specs.Demands.{FourCountsAddUp, CallsAreComparedByteForByte, ClassesAndMarksAsDefined, AsTheDocumentDefines, SomeEarlierCredited, sameCallAs, qsoAt, verdictAt, classAt}
 use Rattle.rules.proofs.Passing.{both, first, second, one-of, left, right, failed, decided, same→equal, equal→same}

@@ -13,7 +13,7 @@ use Rattle.rules.specs.declared.Class.{Class}
 use Rattle.rules.specs.declared.Class.the-variants.{Credited, Void, Duplicate}
 use Rattle.rules.specs.declared.Verdict.{Verdict}
 use Rattle.rules.specs.Text.{Text, same, value}
-use Rattle.rules.specs.Rules.{Rules, base}
+use Rattle.rules.specs.Rules.{Rules}
 use Rattle.rules.specs.Fields.{Qso, isError}
 use Rattle.rules.specs.Arguments.{among}
 use Rattle.rules.specs.Log.{Log}

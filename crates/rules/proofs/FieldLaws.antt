@@ -16,7 +16,7 @@ use Rattle.rules.specs.Fields.{dayExists, fullYear, shortDate, timeOfDay
 use Rattle.rules.specs.Arguments.{every}
 use Rattle.rules.specs.Log.{recordLine, lineRule, conjunction}
 use Rattle.rules.specs.Reading.{keeps, breaks, firstBroken, recordRule}
-use Rattle.rules.proofs.Tests.{picked, never, and-l, and-r, and-i, or-cases, not-false}
+use Rattle.rules.proofs.Tests.{_beside_, picked, never, and-l, and-r, and-i, or-cases, not-false}
 use Rattle.rules.proofs.NumberLaws.{number-digits}
 use Rattle.rules.proofs.TextLaws.{all-append, all-halves, all-weaker, same-eq, plain, parts-joined, joined-parts}
 
@@ -280,49 +280,23 @@ rooms R = 6 ∷ 4 ∷ 14 ∷ 1 ∷ 3 ∷ 4 ∷ 3 ∷ 4 ∷ R .longestExchange �
 module _ (R : Rules) where
   fields-within : (q : Qso) → KeepWithin (rooms R) (fieldRules R q) (fieldsOf q)
   unfolding fieldRules fieldsOf
-  fields-within q = (
-    date-fits q,
-    (
-      time-fits (q .time),
-      (
-        call-fits (q .call),
-        (
-          mode-fits (q .mode),
-          (
-            report-fits (q .sentReport),
-            (
-              serial-fits (q .sentNumber),
-              (
-                report-fits (q .receivedReport),
-                (
-                  serial-fits (q .receivedNumber),
-                  (
-                    exchange-fits R (q .exchange),
-                    (
-                      emptyOr-fits 6 locator locator-fits (q .locator),
-                      (
-                        points-fit R q,
-                        (
-                          emptyOr-fits 1 (same newMark) new-fits (q .newExchange),
-                          (
-                            emptyOr-fits 1 (same newMark) new-fits (q .newSquare),
-                            (
-                              emptyOr-fits 1 (same newMark) new-fits (q .newCountry),
-                              (emptyOr-fits 1 (same duplicateMark) duplicate-fits (q .duplicate), tt),
-                            ),
-                          ),
-                        ),
-                      ),
-                    ),
-                  ),
-                ),
-              ),
-            ),
-          ),
-        ),
-      ),
-    ),
-  )
+  fields-within q =
+      date-fits q
+      beside time-fits (q .time)
+      beside call-fits (q .call)
+      beside mode-fits (q .mode)
+      beside report-fits (q .sentReport)
+      beside serial-fits (q .sentNumber)
+      beside report-fits (q .receivedReport)
+      beside serial-fits (q .receivedNumber)
+      beside exchange-fits R (q .exchange)
+      beside emptyOr-fits 6 locator locator-fits (q .locator)
+      beside points-fit R q
+      beside emptyOr-fits 1 (same newMark) new-fits (q .newExchange)
+      beside emptyOr-fits 1 (same newMark) new-fits (q .newSquare)
+      beside emptyOr-fits 1 (same newMark) new-fits (q .newCountry)
+      beside emptyOr-fits 1 (same duplicateMark) duplicate-fits (q .duplicate)
+      beside tt
 
   -- Each field of a record that keeps its rules fits, and so no field holds a semicolon.
   pub fields-fit : (q : Qso) → conjunction (fieldRules R q) ≡ true → AllFit (rooms R) (fieldsOf q)

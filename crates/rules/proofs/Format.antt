@@ -10,12 +10,12 @@ use lib.ListN.{length}
 use native.Mathlib.Omega.{arith}
 use borrow.Author.Tests.{leb-true, le-leb, leb-false}
 use Rattle.rules.specs.Text.{Text}
-use Rattle.rules.specs.Rules.{Rules, base}
+use Rattle.rules.specs.Rules.{Rules}
 use Rattle.rules.specs.Arguments.{entries, every}
 use Rattle.rules.specs.Log.{Log, linesOf, ended, render, lineRule, argumentRules, remarkRule, recordRules, valid, IsWrittenAs}
 use Rattle.rules.specs.declared.Due.the-variants.{Identifier}
 use Rattle.rules.specs.Reading.{Reading, accepted, refused, refusal, Lines, lines, walk, read}
-use Rattle.rules.specs.Demands.{AcceptedExactlyWhenWritten, AcceptedExactlyWhenFormat}
+use Rattle.rules.specs.Demands.{AcceptedExactlyWhenFormat}
 use Rattle.rules.proofs.Tests.{passed, so, holds, fails, and-l, and-r, and-i}
 use Rattle.rules.proofs.LineLaws.{lines-of-ended, lines-are}
 use Rattle.rules.proofs.WalkLaws.{no-log, log-is, log-leads}
@@ -108,9 +108,6 @@ module _ (R : Rules) (s : Text) (log : Log) where
     λ e. let p = read-is e in (holds (valid-of R log (p .0)), p .1),
     λ w. read-as (of-valid R log (so (valid R log) (w .0))) (w .1),
   )
-
-pub accepted-exactly : AcceptedExactlyWhenWritten base
-accepted-exactly s log = accepted-when-written base s log
 
 pub accepted-format : (R : Rules) → AcceptedExactlyWhenFormat R
 accepted-format R s = (

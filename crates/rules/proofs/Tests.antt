@@ -63,3 +63,8 @@ picked false e n = absurd (n e)
 pub passed : {A : Type 0} (b : Bool) {x y z : A} → cond b x z ≡ y → (x ≡ y → ⊥) → (b ≡ false) × (z ≡ y)
 passed true e n = absurd (n e)
 passed false e n = (refl, e)
+
+-- One fact in front of others, so that many are written as a list of them.
+infixr 20 _beside_
+pub _beside_ : {A B : Type 0} → A → B → A × B
+a beside b = (a, b)

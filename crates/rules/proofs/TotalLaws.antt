@@ -1,22 +1,21 @@
 -- The totals are those that the document's words give over the classes and marks of the records.
 -- Assumes nothing.
-use Prim.Native.Nat.{ℕ, zero, suc, _+_}
+use Prim.Native.Nat.{ℕ, _+_}
 use Prim.Native.String.{String}
-use mathlib.Core.Path.{_≡_, refl, sym, ap, ap₂, _∙_}
+use mathlib.Core.Path.{_≡_, refl, ap, _∙_}
 use mathlib.Core.Bool.{Bool, cond}
 use mathlib.Core.List.{List, [], _∷_}
 use lib.ListN.{length, getD}
 use native.Mathlib.Omega.{arith}
-use Rattle.rules.specs.declared.Class.{Class}
 use Rattle.rules.specs.declared.Class.the-variants.{Credited, Void, Duplicate, Error}
 use Rattle.rules.specs.declared.Verdict.{Verdict}
-use Rattle.rules.specs.Text.{Text, bytes, value}
+use Rattle.rules.specs.Text.{bytes, value}
 use Rattle.rules.specs.Rules.{Rules}
 use Rattle.rules.specs.Fields.{Qso}
 use Rattle.rules.specs.Arguments.{part}
 use Rattle.rules.specs.Log.{Log, argument}
 use Rattle.rules.specs.Judging.{is, countOf, creditedPoints, declared, multipliers, verdicts, totalsOf, totals, totalsOfLog}
-use Rattle.rules.specs.Demands.{sumOver, howMany, qsoAt, verdictAt, Declares, TotalsAre, DeclaredIs, TotalsAsDefined}
+use Rattle.rules.specs.Demands.{sumOver, howMany, verdictAt, Declares, TotalsAre, DeclaredIs, TotalsAsDefined}
 use Rattle.rules.proofs.Classes.{length-verdicts}
 
 -- A count over the list is a count over its places.

@@ -4,13 +4,13 @@ use Prim.Native.Nat.{ℕ, zero, suc, _<_}
 use Prim.Native.String.{String}
 use native.Mathlib.Nat.{le-of-suc-le-suc, not-suc-le-zero}
 use native.Mathlib.Omega.{arith}
-use mathlib.Core.Path.{_≡_, refl, sym, ap, _∙_}
+use mathlib.Core.Path.{_≡_, refl, ap, _∙_}
 use mathlib.Core.Bool.{Bool, true, false, cond, not, _||_}
 use mathlib.Core.List.{List, [], _∷_, map}
 use lib.Dec.{T}
-use lib.ListN.{length, getD, take, drop}
+use lib.ListN.{length, getD}
 use Rattle.rules.specs.declared.Class.{Class}
-use Rattle.rules.specs.declared.Class.the-variants.{Credited, Void, Duplicate, Error}
+use Rattle.rules.specs.declared.Class.the-variants.{Credited, Duplicate}
 use Rattle.rules.specs.declared.Verdict.{Verdict}
 use Rattle.rules.specs.declared.Totals.{Totals}
 use Rattle.rules.specs.Text.{Text, bytes, same, digits, parts}
@@ -18,7 +18,7 @@ use Rattle.rules.specs.Rules.{Rules}
 use Rattle.rules.specs.Fields.{Qso, fieldsOf, newMark, duplicateMark}
 use Rattle.rules.specs.Arguments.{Entry, entries, among, meets}
 use Rattle.rules.specs.Log.{Log, argumentIn, argument, argumentRules, valid}
-use Rattle.rules.specs.Judging.{classNumber, is, verdicts, verdictsOfLog, totalsOfLog}
+use Rattle.rules.specs.Judging.{is, verdicts, verdictsOfLog, totalsOfLog}
 use Rattle.rules.specs.Writing.{Claim, recounted, claims, claimed, writtenArguments, writtenRecord, writtenRecords, writtenBack}
 use Rattle.rules.specs.Demands.{IsWhere, RecordIsSet, CountBecomes, ClaimBecomes, ClaimsAreSet, theNine, NamedAreSet, WritingSetsTheNamed}
 use Rattle.rules.proofs.Tests.{so, never, and-r}
@@ -27,7 +27,7 @@ use Rattle.rules.proofs.NumberLaws.{digits-all}
 use Rattle.rules.proofs.FieldLaws.{digits-plain}
 use Rattle.rules.proofs.ValidLogs.{arguments-valid}
 use Rattle.rules.proofs.Classes.{length-verdicts, is→equal, equal→is}
-use Rattle.rules.proofs.WritingLaws.{parts-recounted}
+use Rattle.rules.proofs.WritingLaws.{parts-recounted, unclaimed-stays}
 use Rattle.rules.proofs.WrittenClaims.{argument-kept}
 
 -- # Records
@@ -66,19 +66,6 @@ as-many (v ∷ vs) [] e = refl
 as-many (v ∷ vs) (q ∷ qs) e = ap suc (as-many vs qs (omega arith))
 
 -- # Arguments
-
--- No claim on a keyword leaves its argument.
-unclaimed-stays : (cs : List Claim) (keyword t : Text) → T (not (among (map (λ (c : Claim). c .keyword) cs) keyword)) → claimed cs keyword t ≡ t
-unfolding claimed among
-unclaimed-stays [] keyword t h = refl
-unclaimed-stays (c ∷ cs) keyword t h = by (same (c .keyword) keyword) h (unclaimed-stays cs keyword t)
-  where
-    by : (b : Bool) →
-        T (not (b || among (map (λ (d : Claim). d .keyword) cs) keyword)) →
-        (T (not (among (map (λ (d : Claim). d .keyword) cs) keyword)) → claimed cs keyword t ≡ t) →
-        cond b ((c .becomes) t) (claimed cs keyword t) ≡ t
-    by true n f = absurd n
-    by false n f = f n
 
 -- There is an argument for each keyword, and the one of a keyword that is listed is claimed as the keyword is.
 as-long : (R : Rules) (es : List Entry) (ts : List Text) → argumentRules R es ts ≡ true → length ts ≡ length es

@@ -3,7 +3,7 @@
 use Prim.Native.Nat.{ℕ, _≤_}
 use native.Mathlib.Omega.{arith}
 use mathlib.Core.Path.{_≡_, refl, sym, _∙_}
-use mathlib.Core.Bool.{Bool, true, false, cond, _&&_}
+use mathlib.Core.Bool.{Bool, true, false, cond}
 use lib.Dec.{T, leb}
 use lib.ListN.{length}
 use borrow.Author.Tests.{leb-true, le-leb}

@@ -1,11 +1,11 @@
 -- The log that is written back from a valid log is valid, if it is not too long and what it claims has room.
 -- Assumes nothing.
 use Prim.Native.Nat.{ℕ, suc, _^_, _≤_, _<_}
-use mathlib.Core.Path.{_≡_, refl, ap}
+use mathlib.Core.Path.{_≡_, refl, sym, ap, subst}
 use mathlib.Core.Bool.{Bool, true, false, cond, not, _&&_, _||_}
 use mathlib.Core.List.{List, [], _∷_, _++_, map}
 use lib.Dec.{T}
-use lib.ListN.{length, drop, length-append}
+use lib.ListN.{length, take, drop, length-append}
 use native.Mathlib.Omega.{arith}
 use borrow.Author.Tests.{le-leb}
 use Rattle.rules.specs.declared.Class.the-variants.{Credited, Duplicate}
@@ -14,17 +14,17 @@ use Rattle.rules.specs.declared.Totals.{Totals}
 use Rattle.rules.specs.Text.{Text, bytes, all, allowed, same, empty, numberOf, numberFrom, digits, parts}
 use Rattle.rules.specs.Rules.{base}
 use Rattle.rules.specs.Fields.{Qso, newMark, duplicateMark, isError, emptyOr, fieldRules, pointsRule}
-use Rattle.rules.specs.Arguments.{Rule, claimedPoints, claimedBonus, claimedTotal, countAndMultiplier, countBonusMultiplier, Entry, entries, meets, each, every, count, bonus, multiplier}
+use Rattle.rules.specs.Arguments.{Rule, claimedPoints, claimedBonus, claimedTotal, countAndMultiplier, countBonusMultiplier, Entry, entries, meets, each, every, among, count, bonus, multiplier}
 use Rattle.rules.specs.Log.{Log, identifier, remarksLine, countLine, keywordStart, keywordLines, recordLine, render, lineRule, argumentRules, conjunction, recordRules, valid}
 use Rattle.rules.specs.Judging.{is, verdictsOfLog, totalsOfLog}
 use Rattle.rules.specs.Writing.{recounted, Claim, claims, claimed, writtenArguments, writtenRecord, writtenRecords, writtenBack}
-use Rattle.rules.proofs.Tests.{never, so, holds, and-l, and-r, and-i, or-r}
+use Rattle.rules.proofs.Tests.{_beside_, never, so, holds, and-l, and-r, and-i, or-r}
 use Rattle.rules.proofs.TextLaws.{all-append, same-refl, joined-parts}
 use Rattle.rules.proofs.NumberLaws.{digits-all, digits-length, digits-from, digits-of, number-from, number-length, number-digits}
 use Rattle.rules.proofs.FieldLaws.{Plain, Fits, digits-fit, digits-plain, AllFit, room, joined-short, joined-allowed, record-line-rule}
 use Rattle.rules.proofs.LogLaws.{every-append, every-front, every-back, every-more, every-first, every-others, digits-allowed, front, lines-split}
 use Rattle.rules.proofs.Format.{Rightly, valid-of, of-valid}
-use Rattle.rules.proofs.WritingLaws.{parts-recounted}
+use Rattle.rules.proofs.WritingLaws.{parts-recounted, unclaimed-stays}
 
 -- What has room in the places of the claims.
 pub record HaveRoom (t : Totals) : Type 0 where
@@ -153,117 +153,34 @@ abbrev AllKeep : List Claim → List Entry → Type 0
 AllKeep cs [] = Unit {0}
 AllKeep cs (e ∷ es) = Keeps cs e × AllKeep cs es
 
+-- No claim names the keyword of any of these entries: so their arguments stay.
+abbrev unnamed : List Claim → List Entry → Bool
+unnamed cs [] = true
+unnamed cs (e ∷ es) = not (among (map (λ (c : Claim). c .keyword) cs) (e .keyword)) && unnamed cs es
+
+unnamed-keep : (cs : List Claim) (es others : List Entry) → unnamed cs es ≡ true → AllKeep cs others → AllKeep cs (es ++ others)
+unnamed-keep cs [] others h k = k
+unnamed-keep cs (e ∷ es) others h k =
+    let none = not (among (map (λ (c : Claim). c .keyword) cs) (e .keyword)) in
+    (λ s g. subst (Good e) (sym (unclaimed-stays cs (e .keyword) s (holds (and-l none (unnamed cs es) h)))) g)
+    beside unnamed-keep cs es others (and-r none (unnamed cs es) h) k
+
+-- The claims stand last but for one keyword, CODXC.
 entries-keep : (t : Totals) → HaveRoom t → AllKeep (claims digits t) entries
-unfolding entries claims claimed same all
-entries-keep t h = (
-  stays,
-  (
-    stays,
-    (
-      stays,
-      (
-        stays,
-        (
-          stays,
-          (
-            stays,
-            (
-              stays,
-              (
-                stays,
-                (
-                  stays,
-                  (
-                    stays,
-                    (
-                      stays,
-                      (
-                        stays,
-                        (
-                          stays,
-                          (
-                            stays,
-                            (
-                              stays,
-                              (
-                                stays,
-                                (
-                                  stays,
-                                  (
-                                    stays,
-                                    (
-                                      stays,
-                                      (
-                                        stays,
-                                        (
-                                          stays,
-                                          (
-                                            stays,
-                                            (
-                                              stays,
-                                              (
-                                                stays,
-                                                (
-                                                  stays,
-                                                  (
-                                                    stays,
-                                                    (
-                                                      two-parts (bytes "CQSOs") refl (omega arith) (t .credited) (h .credited),
-                                                      (
-                                                        λ s g. points-claim (bytes "CQSOP") refl (omega arith) (t .points) (h .points),
-                                                        (
-                                                          three-parts (bytes "CWWLs") refl (omega arith) (t .squares) (h .squares),
-                                                          (
-                                                            λ s g. bonus-claim (bytes "CWWLB") refl (omega arith) (t .squarebonus) (h .squarebonus),
-                                                            (
-                                                              three-parts (bytes "CExcs") refl (omega arith) (t .exchanges) (h .exchanges),
-                                                              (
-                                                                λ s g. bonus-claim (bytes "CExcB") refl (omega arith) (t .exchangebonus) (h .exchangebonus),
-                                                                (
-                                                                  three-parts (bytes "CDXCs") refl (omega arith) (t .countries) (h .countries),
-                                                                  (
-                                                                    λ s g. bonus-claim (bytes "CDXCB") refl (omega arith) (t .countrybonus) (h .countrybonus),
-                                                                    (
-                                                                      λ s g. total-claim (bytes "CToSc") refl (omega arith) (t .total) (h .total),
-                                                                      (stays, tt),
-                                                                    ),
-                                                                  ),
-                                                                ),
-                                                              ),
-                                                            ),
-                                                          ),
-                                                        ),
-                                                      ),
-                                                    ),
-                                                  ),
-                                                ),
-                                              ),
-                                            ),
-                                          ),
-                                        ),
-                                      ),
-                                    ),
-                                  ),
-                                ),
-                              ),
-                            ),
-                          ),
-                        ),
-                      ),
-                    ),
-                  ),
-                ),
-              ),
-            ),
-          ),
-        ),
-      ),
-    ),
-  ),
-)
-  where
-    stays : {e : Entry} (s : Text) → Good e s → Good e s
-    stays s g = g
+unfolding entries claims claimed same all among
+entries-keep t h =
+    unnamed-keep (claims digits t) (take 26 entries) (drop 26 entries) refl
+    (two-parts (bytes "CQSOs") refl (omega arith) (t .credited) (h .credited)
+    beside (λ s g. points-claim (bytes "CQSOP") refl (omega arith) (t .points) (h .points))
+    beside three-parts (bytes "CWWLs") refl (omega arith) (t .squares) (h .squares)
+    beside (λ s g. bonus-claim (bytes "CWWLB") refl (omega arith) (t .squarebonus) (h .squarebonus))
+    beside three-parts (bytes "CExcs") refl (omega arith) (t .exchanges) (h .exchanges)
+    beside (λ s g. bonus-claim (bytes "CExcB") refl (omega arith) (t .exchangebonus) (h .exchangebonus))
+    beside three-parts (bytes "CDXCs") refl (omega arith) (t .countries) (h .countries)
+    beside (λ s g. bonus-claim (bytes "CDXCB") refl (omega arith) (t .countrybonus) (h .countrybonus))
+    beside (λ s g. total-claim (bytes "CToSc") refl (omega arith) (t .total) (h .total))
+    beside (λ s g. g)
+    beside tt)
 
 record ArgumentsKept (es : List Entry) (ts : List Text) : Type 0 where
   rules : argumentRules base es ts ≡ true
