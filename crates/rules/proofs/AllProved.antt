@@ -10,6 +10,7 @@ use Rattle.rules.proofs.Format.{accepted-when-written, accepted-format}
 use Rattle.rules.proofs.GivenCalls.{given-exactly-when, zero-when-accepted, line-and-field-told}
 use Rattle.rules.proofs.PremiseNeeded.{premise-is-needed}
 use Rattle.rules.proofs.Refusals.{every-input, refused-with, refused-reading, refused-judging, refused-writing, refused-view}
+use Rattle.rules.proofs.Respelt.{either-case, spellings-counted}
 use Rattle.rules.proofs.Struck.{struck-is-accepted}
 use Rattle.rules.proofs.TotalLaws.{totals-as-defined}
 use Rattle.rules.proofs.WritingLaws.{writing-changes}
@@ -33,6 +34,8 @@ of-any-rules R room =
           };
       acceptedExactlyWhenWritten = accepted-when-written R;
       acceptedExactlyWhenFormat = accepted-format R;
+      eitherCaseIsTakenAlike = either-case R;
+      spellingsAreCounted = spellings-counted R;
       classesAndMarksAsDefined = classes-as-defined R;
       totalsAsDefined = totals-as-defined R;
       fourCountsAddUp = four-counts R;

@@ -12,7 +12,7 @@ use borrow.Author.Tests.{leb-true, le-leb, leb-false}
 use Rattle.rules.specs.Text.{Text}
 use Rattle.rules.specs.Rules.{Rules}
 use Rattle.rules.specs.Arguments.{entries, every}
-use Rattle.rules.specs.Log.{Log, linesOf, ended, render, lineRule, argumentRules, remarkRule, recordRules, valid, IsWrittenAs}
+use Rattle.rules.specs.Log.{Log, linesOf, ended, render, lineRule, keywordRules, argumentRules, remarkRule, recordRules, valid, IsWrittenAs}
 use Rattle.rules.specs.declared.Due.the-variants.{Identifier}
 use Rattle.rules.specs.Reading.{Reading, accepted, refused, refusal, Lines, lines, walk, read}
 use Rattle.rules.specs.Demands.{AcceptedExactlyWhenFormat}
@@ -24,6 +24,7 @@ use Rattle.rules.proofs.WalkLaws.{no-log, log-is, log-leads}
 pub record Rightly (R : Rules) (log : Log) : Type 0 where
   pub short : length (render log) ≤ R .longestLog
   pub lineRules : every (lineRule R) (linesOf log) ≡ true
+  pub spellings : keywordRules entries (log .keywords) ≡ true
   pub rulesOfArguments : argumentRules R entries (log .arguments) ≡ true
   pub remarkRules : every remarkRule (log .remarks) ≡ true
   pub fits : leb (length (log .records)) (R .mostRecords) ≡ true
@@ -33,28 +34,31 @@ module _ (R : Rules) (log : Log) where
   pub valid-of : Rightly R log → valid R log ≡ true
   unfolding valid
   valid-of r =
-      and-i (and-i (and-i (and-i (and-i (le-leb (length (render log)) (R .longestLog) (r .short)) (r .lineRules)) (r .rulesOfArguments)) (r .remarkRules)) (r .fits)) (r .rules)
+      and-i (and-i (and-i (and-i (and-i (and-i (le-leb (length (render log)) (R .longestLog) (r .short)) (r .lineRules)) (r .spellings)) (r .rulesOfArguments)) (r .remarkRules)) (r .fits)) (r .rules)
 
   pub of-valid : valid R log ≡ true → Rightly R log
   unfolding valid
   of-valid v =
       let a = leb (length (render log)) (R .longestLog) in
       let b = every (lineRule R) (linesOf log) in
-      let c = argumentRules R entries (log .arguments) in
-      let d = every remarkRule (log .remarks) in
-      let e = leb (length (log .records)) (R .mostRecords) in
-      let f = recordRules R (log .records) in
-      let v₄ : (a && b && c && d && e) ≡ true = and-l (a && b && c && d && e) f v in
+      let c = keywordRules entries (log .keywords) in
+      let d = argumentRules R entries (log .arguments) in
+      let e = every remarkRule (log .remarks) in
+      let f = leb (length (log .records)) (R .mostRecords) in
+      let g = recordRules R (log .records) in
+      let v₅ : (a && b && c && d && e && f) ≡ true = and-l (a && b && c && d && e && f) g v in
+      let v₄ : (a && b && c && d && e) ≡ true = and-l (a && b && c && d && e) f v₅ in
       let v₃ : (a && b && c && d) ≡ true = and-l (a && b && c && d) e v₄ in
       let v₂ : (a && b && c) ≡ true = and-l (a && b && c) d v₃ in
       let v₁ : (a && b) ≡ true = and-l (a && b) c v₂ in
       record {
         short = leb-true (length (render log)) (R .longestLog) (and-l a b v₁);
         lineRules = and-r a b v₁;
-        rulesOfArguments = and-r (a && b) c v₂;
-        remarkRules = and-r (a && b && c) d v₃;
-        fits = and-r (a && b && c && d) e v₄;
-        rules = and-r (a && b && c && d && e) f v;
+        spellings = and-r (a && b) c v₂;
+        rulesOfArguments = and-r (a && b && c) d v₃;
+        remarkRules = and-r (a && b && c && d) e v₄;
+        fits = and-r (a && b && c && d && e) f v₅;
+        rules = and-r (a && b && c && d && e && f) g v;
       }
 
 pub render-law : (log : Log) → render log ≡ ended (linesOf log)
@@ -83,6 +87,7 @@ module _ (R : Rules) (s : Text) (log : Log) where
         record {
           short = rw text (omega arith);
           lineRules = rw (← w .theLines) (l .rules);
+          spellings = w .spellings;
           rulesOfArguments = w .rulesOfArguments;
           remarkRules = w .remarkRules;
           fits = w .fits;
@@ -101,7 +106,7 @@ module _ (R : Rules) (s : Text) (log : Log) where
       read-law R s
       ∙ ap (λ (c : Bool). cond c (refused (refusal 1 0 0)) (byLine R (lines R s))) b
       ∙ ap (byLine R) (ap (lines R) text ∙ lines-of-ended R (linesOf log) (r .lineRules))
-      ∙ log-leads R 1 log (r .rulesOfArguments) (r .remarkRules) (r .fits) (r .rules)
+      ∙ log-leads R 1 log (r .spellings) (r .rulesOfArguments) (r .remarkRules) (r .fits) (r .rules)
 
   pub accepted-when-written : (read R s ≡ accepted log) ↔ IsWrittenAs R s log
   accepted-when-written = (

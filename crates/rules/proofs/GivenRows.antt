@@ -15,15 +15,16 @@ use Rattle.rules.specs.declared.Due.{Due}
 use Rattle.rules.specs.declared.Due.the-variants.{Identifier, Keyword, Remarks, Remark, Record, End}
 use Rattle.rules.specs.declared.Next.{Next}
 use Rattle.rules.specs.declared.Next.the-variants.{Goes, Stops}
-use Rattle.rules.specs.Text.{Text, bytes, digit, span, same, begins, parts, value, numberFrom, digits}
+use Rattle.rules.specs.Text.{Text, bytes, digit, span, same, sameButCase, begins, parts, value, numberFrom, digits}
 use Rattle.rules.specs.Rules.{Rules}
 use Rattle.rules.specs.Fields.{qsoOf, fieldRules}
 use Rattle.rules.specs.Arguments.{Entry, entries, meets}
-use Rattle.rules.specs.Log.{identifier, remarksLine, countStart, countLine, keywordStart, crlf, lineRule}
-use Rattle.rules.specs.Reading.{FirstLine, aLine, noLine, firstLine, RecordRule, keeps, breaks, firstBroken, recordRule, recordsDue, whole, argumentOn, keywordLine, countRule, afterRecord, step, refused, refusal, atRest}
-use Rattle.rules.specs.Given.{OfTheLine, NoLine, EndsOrGoesOn, HasNoEnd, IsNotTheLineDue, BreaksItsRule, FirstBadField, BreaksField}
+use Rattle.rules.specs.Log.{identifier, remarksLine, countStart, countLine, crlf, lineRule}
+use Rattle.rules.specs.Reading.{FirstLine, aLine, noLine, firstLine, RecordRule, keeps, breaks, firstBroken, recordRule, recordsDue, whole, spellingOn, argumentOn, hasKeyword, keywordLine, countRule, afterRecord, step, refused, refusal, atRest}
+use Rattle.rules.specs.Given.{OfTheLine, NoLine, EndsOrGoesOn, HasNoEnd, IsKeywordLine, IsNotTheLineDue, BreaksItsRule, FirstBadField, BreaksField}
 use Rattle.rules.proofs.Tests.{so, holds, fails, clash}
 use Rattle.rules.proofs.TextLaws.{same-eq, same-of-eq, begins-front, begins-split}
+use Rattle.rules.proofs.SpellingLaws.{argument-on, keyword-had, keyword-has}
 use Rattle.rules.proofs.LineLaws.{first-of-none, first-is}
 use Rattle.rules.proofs.WalkLaws.{count-goes, is-count, step-begun, dueOf, step-keyword}
 use Rattle.rules.proofs.GivenLines.{keyword-after, Left}
@@ -140,10 +141,16 @@ stopped-by false on a number field e = (refl, cc, cc)
 
 -- A line does not begin with the keyword and its `=`, or does and has an argument that breaks its rule.
 abbrev Unkeyed : Entry → Text → Type 0
-Unkeyed e l = (argument : Text) → l ≡ keywordStart e ++ argument → ⊥
+Unkeyed e l = (argument : Text) → IsKeywordLine e l argument → ⊥
 
 abbrev Unruled : Rules → Entry → Text → Type 0
-Unruled R e l = (argument : Text) × (l ≡ keywordStart e ++ argument) × (T (meets R (e .rule) argument) → ⊥)
+Unruled R e l = (argument : Text) × IsKeywordLine e l argument × (T (meets R (e .rule) argument) → ⊥)
+
+is-keyword-line : (e : Entry) (l : Text) → hasKeyword e l ≡ true → IsKeywordLine e l (argumentOn e l)
+is-keyword-line e l b = let h = keyword-has e l b in (spellingOn e l, holds (h .spelt), h .line)
+
+keyword-line-has : (e : Entry) (l t : Text) → IsKeywordLine e l t → hasKeyword e l ≡ true
+keyword-line-has e l t i = let (w, s, q) = i in ap (hasKeyword e) q ∙ keyword-had e w t (so (sameButCase (e .keyword) w) s)
 
 module _ (R : Rules) where
   -- The identifier and `[Remarks]`, compared whole.
@@ -161,27 +168,27 @@ module _ (R : Rules) where
   module _ (e : Entry) (l : Text) (on : Due) where
     keyword-stopped : (number field : ℕ) → keywordLine R e l on ≡ Stops number field →
         (Unkeyed e l × (number ≡ 3) × (field ≡ 0)) ⊎ (Unruled R e l × (number ≡ 4) × (field ≡ 0))
-    unfolding keywordLine argumentOn
-    keyword-stopped number field g = by (begins (keywordStart e) l) refl g
+    unfolding keywordLine
+    keyword-stopped number field g = by (hasKeyword e l) refl g
       where
-        by : (b : Bool) → begins (keywordStart e) l ≡ b → cond b (cond (meets R (e .rule) (argumentOn e l)) (Goes on) (Stops 4 0)) (Stops 3 0) ≡ Stops number field →
+        by : (b : Bool) → hasKeyword e l ≡ b → cond b (cond (meets R (e .rule) (argumentOn e l)) (Goes on) (Stops 4 0)) (Stops 3 0) ≡ Stops number field →
             (Unkeyed e l × (number ≡ 3) × (field ≡ 0)) ⊎ (Unruled R e l × (number ≡ 4) × (field ≡ 0))
         by true b h =
             let (m, k, z) = stopped-by (meets R (e .rule) (argumentOn e l)) on 4 number field h in
-            inr ((argumentOn e l, begins-split (keywordStart e) l b, λ t. clash (so (meets R (e .rule) (argumentOn e l)) t) m), k, z)
-        by false b h =
-            inl (λ t q. clash (ap (begins (keywordStart e)) q ∙ begins-front (keywordStart e) t) b, cc, cc)
+            inr ((argumentOn e l, is-keyword-line e l b, λ t. clash (so (meets R (e .rule) (argumentOn e l)) t) m), k, z)
+        by false b h = inl (λ t i. clash (keyword-line-has e l t i) b, cc, cc)
 
     unkeyed-stops : Unkeyed e l → keywordLine R e l on ≡ Stops 3 0
-    unfolding keywordLine argumentOn
-    unkeyed-stops h = rw (fails (begins (keywordStart e) l) (λ b. h (argumentOn e l) (begins-split (keywordStart e) l b)))
+    unfolding keywordLine
+    unkeyed-stops h = rw (fails (hasKeyword e l) (λ b. h (argumentOn e l) (is-keyword-line e l b)))
 
     unruled-stops : Unruled R e l → keywordLine R e l on ≡ Stops 4 0
-    unfolding keywordLine argumentOn
+    unfolding keywordLine
     unruled-stops p =
-        let (t, q, h) = p in
+        let (t, (w, s, q), h) = p in
         let m : meets R (e .rule) t ≡ false = fails (meets R (e .rule) t) (λ b. h (holds b)) in
-        rw (q, begins-front (keywordStart e) t, drop-append-seam (keywordStart e) t, m)
+        let c = so (sameButCase (e .keyword) w) s in
+        rw (q, keyword-had e w t c, argument-on e w t c, m)
 
   -- The count line.
   count-stopped : (t : Text) (number field : ℕ) → countRule R t ≡ Stops number field → (number ≡ 4) × (field ≡ 0)

@@ -4,9 +4,11 @@ pub mod TextLaws
 pub mod NumberLaws
 pub mod LineLaws
 pub mod FieldLaws
+pub mod SpellingLaws
 pub mod LogLaws
 pub mod WalkLaws
 pub mod Format
+pub mod Respelt
 pub mod Refusals
 pub mod GivenLines
 pub mod GivenStops

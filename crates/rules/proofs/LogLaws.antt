@@ -1,7 +1,7 @@
 -- Laws of the lines of a log: what stands in front of the count line, the count line, and the record lines.
 -- Assumes nothing.
-use Prim.Native.Nat.{ℕ, _+_, _≤_}
-use mathlib.Core.Path.{_≡_, refl}
+use Prim.Native.Nat.{ℕ, suc, _+_, _≤_}
+use mathlib.Core.Path.{_≡_, refl, ap}
 use mathlib.Core.Bool.{Bool, true}
 use mathlib.Core.List.{List, [], _∷_, _++_, map}
 use lib.Dec.{leb}
@@ -10,9 +10,9 @@ use native.Mathlib.Omega.{arith}
 use borrow.Author.Tests.{leb-true, le-leb}
 use Rattle.rules.specs.Text.{Text, bytes, allowed, digit, all, digits}
 use Rattle.rules.specs.Rules.{Rules}
-use Rattle.rules.specs.Arguments.{entries, every}
-use Rattle.rules.specs.Log.{Log, identifier, remarksLine, countStart, countLine, keywordLines, recordLine, linesOf, crlf, ended, lineRule}
-use Rattle.rules.proofs.Tests.{and-l, and-r, and-i}
+use Rattle.rules.specs.Arguments.{Entry, meets, every}
+use Rattle.rules.specs.Log.{Log, identifier, remarksLine, countStart, countLine, keywordLines, recordLine, linesOf, crlf, ended, lineRule, argumentRules}
+use Rattle.rules.proofs.Tests.{never, and-l, and-r, and-i}
 use Rattle.rules.proofs.TextLaws.{all-append}
 use Rattle.rules.proofs.NumberLaws.{digits-all, digits-shorter}
 use Rattle.rules.proofs.FieldLaws.{digits-fit, fits-allowed}
@@ -55,9 +55,17 @@ pub length-ended-append : (a b : List Text) → length (ended (a ++ b)) ≡ leng
 length-ended-append [] b = unfold ended in omega arith
 length-ended-append (l ∷ a) b = omega (arith, length-ended-more l a, length-ended-more l (a ++ b), length-ended-append a b)
 
+-- There is an argument for each keyword.
+pub argument-count : (R : Rules) (es : List Entry) (ts : List Text) → argumentRules R es ts ≡ true → length ts ≡ length es
+unfolding argumentRules
+argument-count R [] [] e = refl
+argument-count R [] (t ∷ ts) e = never e
+argument-count R (f ∷ es) [] e = never e
+argument-count R (f ∷ es) (t ∷ ts) e = ap suc (argument-count R es ts (and-r (meets R (f .rule) t) (argumentRules R es ts) e))
+
 -- What stands in front of the count line.
 unfoldable pub front : Log → List Text
-front log = identifier ∷ keywordLines entries (log .arguments) ++ remarksLine ∷ log .remarks
+front log = identifier ∷ keywordLines (log .keywords) (log .arguments) ++ remarksLine ∷ log .remarks
 
 pub lines-split : (log : Log) → linesOf log ≡ front log ++ countLine (length (log .records)) ∷ map recordLine (log .records)
 unfolding linesOf front

@@ -16,7 +16,7 @@ use Rattle.rules.specs.TableLogs.{promoted}
 -- The log that is read; nothing where the text is refused.
 logOf : Reading → Log
 logOf (accepted log) = log
-logOf (refused r) = record { arguments = []; remarks = []; records = [] }
+logOf (refused r) = record { keywords = []; arguments = []; remarks = []; records = [] }
 
 theLog : Log
 theLog = logOf (read base promoted)

@@ -18,9 +18,9 @@ use Rattle.rules.specs.Text.{Text, bytes, digit, span, same, begins, par
 use Rattle.rules.specs.Rules.{Rules}
 use Rattle.rules.specs.Fields.{fieldRules, qsoOf}
 use Rattle.rules.specs.Arguments.{Entry, entries, meets}
-use Rattle.rules.specs.Log.{Log, identifier, remarksLine, countStart, keywordStart}
-use Rattle.rules.specs.Reading.{RecordRule, keeps, breaks, firstBroken, recordRule, recordsDue, whole, argumentOn, keywordLine, keywordDue, countRule, afterRecord, step, Reading, accepted, refused, refusal, atRest, put, onNext, lines, walk, read}
-use Rattle.rules.specs.Answers.{recordsOfReading, totalsOfJudgement, numbersOfJudgement, bytesOfWriting, startOfView, viewed, over}
+use Rattle.rules.specs.Log.{Log, identifier, remarksLine, countStart}
+use Rattle.rules.specs.Reading.{RecordRule, keeps, breaks, firstBroken, recordRule, recordsDue, whole, argumentOn, hasKeyword, keywordLine, keywordDue, countRule, afterRecord, step, Reading, accepted, refused, refusal, atRest, put, onNext, lines, walk, read}
+use Rattle.rules.specs.Answers.{recordsOfReading, respeltOfReading, totalsOfJudgement, numbersOfJudgement, bytesOfWriting, startOfView, viewed, listedOfView, over}
 use Rattle.rules.specs.Demands.{EveryInputGetsAnAnswer, OfALine, RefusedWithNumberLineField, RefusedJudgingChangesNothing, RefusedWritingChangesNothing, RefusedViewIsEmpty, RefusedReadingHasNoRecords}
 
 pub every-input : (R : Rules) → EveryInputGetsAnAnswer R
@@ -86,7 +86,7 @@ module _ (R : Rules) where
   unfolding keywordLine
   keyword-numbered e l next =
       let m = meets R (e .rule) (argumentOn e l) in
-      on-test (begins (keywordStart e) l) (cond m (Goes next) (Stops 4 0)) (Stops 3 0) (on-test m (Goes next) (Stops 4 0) tt four) three
+      on-test (hasKeyword e l) (cond m (Goes next) (Stops 4 0)) (Stops 3 0) (on-test m (Goes next) (Stops 4 0) tt four) three
 
   due-numbered : (es : List Entry) (k : ℕ) (l : Text) → StopsNumbered (keywordDue R es k l)
   unfolding keywordDue
@@ -182,8 +182,8 @@ refused-with R s r e = named (subst (λ (a : Reading). Told R s a) e (read-place
 
 -- What a refused call leaves.
 pub refused-reading : (R : Rules) → RefusedReadingHasNoRecords R
-unfolding recordsOfReading
-refused-reading R s r e = rw e
+unfolding recordsOfReading respeltOfReading
+refused-reading R s r e = rw e (refl, refl)
 
 pub refused-judging : (R : Rules) → RefusedJudgingChangesNothing R
 unfolding totalsOfJudgement numbersOfJudgement over
@@ -194,5 +194,5 @@ unfolding bytesOfWriting over
 refused-writing R s slice r e = rw e (refl, refl)
 
 pub refused-view : (R : Rules) → RefusedViewIsEmpty R
-unfolding startOfView viewed
-refused-view R s k r e = rw e (refl, refl)
+unfolding startOfView viewed listedOfView
+refused-view R s k r e = rw e (refl, refl, refl)

@@ -88,6 +88,7 @@ module _ (R : Rules) where
       record {
         short = omega (arith, r .short, length-render log, length-render (strike struck log), ap (λ (f : List Text). length (ended f)) (front-struck log struck), length-count (length ps), length-count (length qs), digits-shorter (length qs) (length ps) (k .fewer), k .shorter);
         lineRules = rw (lines-split (strike struck log)) (every-append (lineRule R) (front (strike struck log)) (countLine (length ps) ∷ map recordLine ps) before behind);
+        spellings = r .spellings;
         rulesOfArguments = r .rulesOfArguments;
         remarkRules = r .remarkRules;
         fits = le-leb (length ps) (R .mostRecords) (omega (arith, k .fewer, leb-true (length qs) (R .mostRecords) (r .fits)));

@@ -6,9 +6,9 @@ use mathlib.Core.Path.{_≡_, refl, sym, ap, _∙_}
 use mathlib.Core.Logic.{⊎-elim}
 use mathlib.Core.List.{List, _∷_, _++_, map, List·Memᴰ, List·Memᴰ·head, List·Memᴰ·tail, List·Memᴰ·append-cases, head-eq-of-cons-eq, tail-eq-of-cons-eq}
 use Rattle.rules.specs.Cases.{Case, answer}
-use Rattle.rules.specs.TableArguments.{lineCases, argumentCases, argumentCharacterCases, bandCases, keywordCases, dueCases}
+use Rattle.rules.specs.TableArguments.{lineCases, argumentCases, argumentCharacterCases, bandCases, keywordCases, dueCases, spellingCases}
 use Rattle.rules.specs.TableFields.{fieldCases, fieldCharacterCases, calendarCases}
-use Rattle.rules.specs.TableLogs.{case12Cases, readingCases, lendingCases, squareCases, wrongTurnCases, wideCases, samenessCases, valueCases, limitCases}
+use Rattle.rules.specs.TableLogs.{case12Cases, readingCases, lendingCases, oldSpellingCases, squareCases, wrongTurnCases, wideCases, samenessCases, valueCases, limitCases}
 use Rattle.rules.specs.Table.{table}
 
 -- Each case of the list is answered as it says.
@@ -55,6 +55,10 @@ dueCases-hold : answers dueCases ≡ says dueCases
 unfolding answer dueCases
 dueCases-hold = refl
 
+spellingCases-hold : answers spellingCases ≡ says spellingCases
+unfolding answer spellingCases
+spellingCases-hold = refl
+
 fieldCases-hold : answers fieldCases ≡ says fieldCases
 unfolding answer fieldCases
 fieldCases-hold = refl
@@ -78,6 +82,10 @@ readingCases-hold = refl
 lendingCases-hold : answers lendingCases ≡ says lendingCases
 unfolding answer lendingCases
 lendingCases-hold = refl
+
+oldSpellingCases-hold : answers oldSpellingCases ≡ says oldSpellingCases
+unfolding answer oldSpellingCases
+oldSpellingCases-hold = refl
 
 squareCases-hold : answers squareCases ≡ says squareCases
 unfolding answer squareCases
@@ -112,12 +120,14 @@ table-holds =
     also computed bandCases bandCases-hold
     also computed keywordCases keywordCases-hold
     also computed dueCases dueCases-hold
+    also computed spellingCases spellingCases-hold
     also computed fieldCases fieldCases-hold
     also computed fieldCharacterCases fieldCharacterCases-hold
     also computed calendarCases calendarCases-hold
     also computed case12Cases case12Cases-hold
     also computed readingCases readingCases-hold
     also computed lendingCases lendingCases-hold
+    also computed oldSpellingCases oldSpellingCases-hold
     also computed squareCases squareCases-hold
     also computed wrongTurnCases wrongTurnCases-hold
     also computed wideCases wideCases-hold

@@ -15,14 +15,15 @@ use Rattle.rules.specs.declared.Due.{Due}
 use Rattle.rules.specs.declared.Due.the-variants.{Identifier, Keyword, Remarks, Remark, Record, End}
 use Rattle.rules.specs.declared.Next.{Next}
 use Rattle.rules.specs.declared.Next.the-variants.{Goes, Stops}
-use Rattle.rules.specs.Text.{Text, bytes, digit, span, same, begins, value, number, numberFrom, digits}
+use Rattle.rules.specs.Text.{Text, bytes, digit, span, same, sameButCase, begins, value, number, numberFrom, digits}
 use Rattle.rules.specs.Rules.{Rules}
 use Rattle.rules.specs.Fields.{Qso, qsoOf, fieldRules}
 use Rattle.rules.specs.Arguments.{Entry, entries, meets, every}
-use Rattle.rules.specs.Log.{Log, identifier, remarksLine, countStart, countLine, keywordStart, keywordLines, recordLine, linesOf, argumentRules, remarkRule, conjunction, recordRules}
-use Rattle.rules.specs.Reading.{RecordRule, keeps, breaks, recordRule, recordsDue, whole, argumentOn, keywordLine, keywordDue, countRule, afterRecord, step, Reading, accepted, refused, atRest, argumentDue, withLine, put, onNext, walk}
+use Rattle.rules.specs.Log.{Log, identifier, remarksLine, countStart, countLine, keywordStart, keywordLines, recordLine, linesOf, keywordRules, argumentRules, remarkRule, conjunction, recordRules}
+use Rattle.rules.specs.Reading.{RecordRule, keeps, breaks, recordRule, recordsDue, whole, spellingOn, argumentOn, hasKeyword, keywordLine, keywordDue, countRule, afterRecord, step, Reading, accepted, refused, atRest, spellingDue, argumentDue, withLine, put, onNext, walk}
 use Rattle.rules.proofs.Tests.{never, and-l, and-r, and-i, not-false}
-use Rattle.rules.proofs.TextLaws.{span-run, same-eq, same-refl, begins-front, begins-split}
+use Rattle.rules.proofs.TextLaws.{span-run, same-eq, same-refl, begins-split}
+use Rattle.rules.proofs.SpellingLaws.{HasKeyword, spelling-on, argument-on, keyword-had, keyword-has}
 use Rattle.rules.proofs.NumberLaws.{value-digits, digits-all, digits-value, digits-from, number-from}
 use Rattle.rules.proofs.FieldLaws.{parts-of-record, record-kept, record-is, record-of-fields}
 
@@ -68,7 +69,7 @@ recordLines qs = map recordLine qs
 
 -- A log of records alone.
 abbrev recordsAlone : List Qso → Log
-recordsAlone qs = record { arguments = []; remarks = []; records = qs }
+recordsAlone qs = record { keywords = []; arguments = []; remarks = []; records = qs }
 
 keeps-goes : (m : ℕ) (r : RecordRule) (next : Due) → afterRecord (suc m) r ≡ Goes next → (r ≡ keeps) × (recordsDue m ≡ next)
 unfolding afterRecord
@@ -103,6 +104,7 @@ module _ (R : Rules) where
     pub theLines : ls ≡ recordLines (log .records)
     pub count : length (log .records) ≡ m
     pub rules : recordRules R (log .records) ≡ true
+    pub noKeywords : log .keywords ≡ []
     pub noArguments : log .arguments ≡ []
     pub noRemarks : log .remarks ≡ []
 
@@ -111,7 +113,7 @@ module _ (R : Rules) where
   unfolding walk recordRules
   end-are n [] [] log e =
       let is : recordsAlone [] ≡ log = cc in
-      subst (λ (g : Log). RecordsAre 0 [] [] g) is (record { noMore = refl; theLines = refl; count = refl; rules = refl; noArguments = refl; noRemarks = refl })
+      subst (λ (g : Log). RecordsAre 0 [] [] g) is (record { noMore = refl; theLines = refl; count = refl; rules = refl; noKeywords = refl; noArguments = refl; noRemarks = refl })
   end-are n [] (c ∷ rest) log e = no-log e
   end-are n (l ∷ ls) rest log e = no-log e
 
@@ -129,6 +131,7 @@ module _ (R : Rules) where
         theLines = rw (i .line, k .theLines);
         count = ap suc (k .count);
         rules = and-i (i .rules) (k .rules);
+        noKeywords = k .noKeywords;
         noArguments = k .noArguments;
         noRemarks = k .noRemarks;
       }
@@ -198,15 +201,15 @@ module _ (R : Rules) where
   remarkLines ms qs = ms ++ countLine (length qs) ∷ recordLines qs
 
   abbrev noArguments : List Text → List Qso → Log
-  noArguments ms qs = record { arguments = []; remarks = ms; records = qs }
+  noArguments ms qs = record { keywords = []; arguments = []; remarks = ms; records = qs }
 
   with-count : (m : ℕ) (log : Log) → withLine Remark (countLine m) log ≡ log
   unfolding withLine countLine countStart begins
   with-count m log = refl
 
-  with-remark : (l : Text) (log : Log) → begins countStart l ≡ false → withLine Remark l log ≡ record { arguments = log .arguments; remarks = l ∷ log .remarks; records = log .records }
+  with-remark : (l : Text) (log : Log) → begins countStart l ≡ false → withLine Remark l log ≡ record { keywords = log .keywords; arguments = log .arguments; remarks = l ∷ log .remarks; records = log .records }
   unfolding withLine
-  with-remark l log e = ap (λ (b : Bool). record { arguments = log .arguments; remarks = cond b (log .remarks) (l ∷ log .remarks); records = log .records }) e
+  with-remark l log e = ap (λ (b : Bool). record { keywords = log .keywords; arguments = log .arguments; remarks = cond b (log .remarks) (l ∷ log .remarks); records = log .records }) e
 
   pub remarks-lead : (n : ℕ) (ms : List Text) (qs : List Qso) → every remarkRule ms ≡ true → leb (length qs) (R .mostRecords) ≡ true → recordRules R qs ≡ true → walk R Remark n (remarkLines ms qs) [] ≡ accepted (noArguments ms qs)
   unfolding every remarkRule
@@ -228,6 +231,7 @@ module _ (R : Rules) where
     pub remarkRules : every remarkRule (log .remarks) ≡ true
     pub fits : leb (length (log .records)) (R .mostRecords) ≡ true
     pub rules : recordRules R (log .records) ≡ true
+    pub noSpellings : log .keywords ≡ []
     pub none : log .arguments ≡ []
 
   -- The count line, with the records behind it, and a remark, with the lines behind it.
@@ -244,6 +248,7 @@ module _ (R : Rules) where
         remarkRules = rw few;
         fits = rw many (c .fits);
         rules = k .rules;
+        noSpellings = k .noKeywords;
         none = k .noArguments;
       })
 
@@ -257,6 +262,7 @@ module _ (R : Rules) where
         remarkRules = and-i (not-false b) (k .remarkRules);
         fits = k .fits;
         rules = k .rules;
+        noSpellings = k .noSpellings;
         none = k .none;
       })
 
@@ -302,16 +308,12 @@ module _ (R : Rules) where
   unfolding whole
   whole-went due l on next e = let p = one-test (same l due) on next 3 0 e in (same-eq l due (p .0), p .1)
 
-  pub keyword-goes : (e : Entry) (t : Text) (next : Due) → meets R (e .rule) t ≡ true → keywordLine R e (keywordStart e ++ t) next ≡ Goes next
-  unfolding keywordLine argumentOn
-  keyword-goes e t next m = rw (begins-front (keywordStart e) t, drop-append-seam (keywordStart e) t, m)
-
-  argument-on : (e : Entry) (t : Text) → argumentOn e (keywordStart e ++ t) ≡ t
-  unfolding argumentOn
-  argument-on e t = drop-append-seam (keywordStart e) t
+  pub keyword-goes : (e : Entry) (w t : Text) (next : Due) → sameButCase (e .keyword) w ≡ true → meets R (e .rule) t ≡ true → keywordLine R e (keywordStart w ++ t) next ≡ Goes next
+  unfolding keywordLine
+  keyword-goes e w t next c m = rw (keyword-had e w t c, argument-on e w t c, m)
 
   pub record IsKeyword (e : Entry) (l : Text) (on next : Due) : Type 0 where
-    pub line : l ≡ keywordStart e ++ argumentOn e l
+    pub has : HasKeyword e l
     pub rule : meets R (e .rule) (argumentOn e l) ≡ true
     pub due : on ≡ next
 
@@ -320,10 +322,10 @@ module _ (R : Rules) where
   two-tests false m on next e = let z : _≡_ {A = ℕ} 0 1 = cc in absurd (omega arith)
 
   pub keyword-went : (e : Entry) (l : Text) (on next : Due) → keywordLine R e l on ≡ Goes next → IsKeyword e l on next
-  unfolding keywordLine argumentOn
+  unfolding keywordLine
   keyword-went e l on next g =
-      let p = two-tests (begins (keywordStart e) l) (meets R (e .rule) (argumentOn e l)) on next g in
-      record { line = begins-split (keywordStart e) l (p .0); rule = p .1; due = p .2 }
+      let p = two-tests (hasKeyword e l) (meets R (e .rule) (argumentOn e l)) on next g in
+      record { has = keyword-has e l (p .0); rule = p .1; due = p .2 }
 
   due-keyword : (e : Entry) (es : List Entry) (k : ℕ) (l : Text) → keywordDue R (e ∷ es) k l ≡ keywordLine R e l (dueOf es (k + 1))
   unfolding keywordDue
@@ -334,37 +336,41 @@ module _ (R : Rules) where
   unfolding step
   step-keyword e es k l h = ap (λ (x : List Entry). keywordDue R x k l) h ∙ due-keyword e es k l
 
-  with-keyword : (e : Entry) (es : List Entry) (k : ℕ) (l : Text) (log : Log) → drop k entries ≡ e ∷ es → withLine (Keyword k) l log ≡ record { arguments = argumentOn e l ∷ log .arguments; remarks = log .remarks; records = log .records }
-  unfolding withLine argumentDue
-  with-keyword e es k l log h = ap (λ (x : List Entry). record { arguments = argumentDue x l ∷ log .arguments; remarks = log .remarks; records = log .records }) h
+  abbrev logOf : List Text → List Text → List Text → List Qso → Log
+  logOf ws ts ms qs = record { keywords = ws; arguments = ts; remarks = ms; records = qs }
+
+  with-keyword : (e : Entry) (es : List Entry) (k : ℕ) (l : Text) (log : Log) → drop k entries ≡ e ∷ es → withLine (Keyword k) l log ≡ logOf (spellingOn e l ∷ log .keywords) (argumentOn e l ∷ log .arguments) (log .remarks) (log .records)
+  unfolding withLine spellingDue argumentDue
+  with-keyword e es k l log h = ap (λ (x : List Entry). logOf (spellingDue x l ∷ log .keywords) (argumentDue x l ∷ log .arguments) (log .remarks) (log .records)) h
 
   abbrev behind : List Text → List Qso → List Text
   behind ms qs = remarksLine ∷ remarkLines R ms qs
 
-  abbrev logOf : List Text → List Text → List Qso → Log
-  logOf ts ms qs = record { arguments = ts; remarks = ms; records = qs }
-
   module _ (ms : List Text) (qs : List Qso) (remarks : every remarkRule ms ≡ true) (fits : leb (length qs) (R .mostRecords) ≡ true) (records : recordRules R qs ≡ true) where
-    pub keywords-lead : (es : List Entry) (k n : ℕ) (ts : List Text) → drop k entries ≡ es → argumentRules R es ts ≡ true → walk R (dueOf es k) n (keywordLines es ts ++ behind ms qs) [] ≡ accepted (logOf ts ms qs)
-    unfolding keywordLines argumentRules
-    keywords-lead [] k n [] h e =
+    pub keywords-lead : (es : List Entry) (k n : ℕ) (ws ts : List Text) → drop k entries ≡ es → keywordRules es ws ≡ true → argumentRules R es ts ≡ true → walk R (dueOf es k) n (keywordLines ws ts ++ behind ms qs) [] ≡ accepted (logOf ws ts ms qs)
+    unfolding keywordLines keywordRules argumentRules
+    keywords-lead [] k n [] [] h c e =
         walk-goes R Remarks Remark n remarksLine (remarkLines R ms qs) [] (noArguments R ms qs)
         (unfold step in whole-goes remarksLine Remark)
         (remarks-lead R (n + 1) ms qs remarks fits records)
         ∙ unfold withLine in refl
-    keywords-lead [] k n (t ∷ ts) h e = never e
-    keywords-lead (w ∷ es) k n [] h e = never e
-    keywords-lead (w ∷ es) k n (t ∷ ts) h e =
+    keywords-lead [] k n (w ∷ ws) ts h c e = never c
+    keywords-lead [] k n [] (t ∷ ts) h c e = never e
+    keywords-lead (x ∷ es) k n [] ts h c e = never c
+    keywords-lead (x ∷ es) k n (w ∷ ws) [] h c e = never e
+    keywords-lead (x ∷ es) k n (w ∷ ws) (t ∷ ts) h c e =
         let l = keywordStart w ++ t in
-        let m : meets R (w .rule) t ≡ true = and-l (meets R (w .rule) t) (argumentRules R es ts) e in
-        walk-goes R (Keyword k) (dueOf es (k + 1)) n l (keywordLines es ts ++ behind ms qs) [] (logOf ts ms qs)
-        (step-keyword w es k l h ∙ keyword-goes w t (dueOf es (k + 1)) m)
-        (keywords-lead es (k + 1) (n + 1) ts (drop-next k entries h) (and-r (meets R (w .rule) t) (argumentRules R es ts) e))
-        ∙ ap accepted (with-keyword w es k l (logOf ts ms qs) h ∙ ap (λ (x : Text). logOf (x ∷ ts) ms qs) (argument-on w t))
+        let s : sameButCase (x .keyword) w ≡ true = and-l (sameButCase (x .keyword) w) (keywordRules es ws) c in
+        let m : meets R (x .rule) t ≡ true = and-l (meets R (x .rule) t) (argumentRules R es ts) e in
+        walk-goes R (Keyword k) (dueOf es (k + 1)) n l (keywordLines ws ts ++ behind ms qs) [] (logOf ws ts ms qs)
+        (step-keyword x es k l h ∙ keyword-goes x w t (dueOf es (k + 1)) s m)
+        (keywords-lead es (k + 1) (n + 1) ws ts (drop-next k entries h) (and-r (sameButCase (x .keyword) w) (keywordRules es ws) c) (and-r (meets R (x .rule) t) (argumentRules R es ts) e))
+        ∙ ap accepted (with-keyword x es k l (logOf ws ts ms qs) h ∙ rw (spelling-on x w t s, argument-on x w t s))
 
   pub record KeywordsAre (es : List Entry) (ls : List Text) (rest : Text) (log : Log) : Type 0 where
     pub noMore : rest ≡ []
-    pub theLines : ls ≡ keywordLines es (log .arguments) ++ behind (log .remarks) (log .records)
+    pub theLines : ls ≡ keywordLines (log .keywords) (log .arguments) ++ behind (log .remarks) (log .records)
+    pub spellings : keywordRules es (log .keywords) ≡ true
     pub rulesOfArguments : argumentRules R es (log .arguments) ≡ true
     pub remarkRules : every remarkRule (log .remarks) ≡ true
     pub fits : leb (length (log .records)) (R .mostRecords) ≡ true
@@ -372,12 +378,14 @@ module _ (R : Rules) where
 
   -- The line in front of the remarks, and a keyword, each with the lines behind it.
   headed-are : (ls : List Text) (rest : Text) (log : Log) → RemarksAre R ls rest log → KeywordsAre [] (remarksLine ∷ ls) rest log
-  unfolding keywordLines argumentRules
+  unfolding keywordLines keywordRules argumentRules
   headed-are ls rest log k =
       let few : log .arguments ≡ [] = k .none in
+      let unspelt : log .keywords ≡ [] = k .noSpellings in
       record {
         noMore = k .noMore;
-        theLines = ap {B = List Text} (λ r. remarksLine ∷ r) (k .theLines);
+        theLines = rw unspelt (ap {B = List Text} (λ r. remarksLine ∷ r) (k .theLines));
+        spellings = rw unspelt;
         rulesOfArguments = rw few;
         remarkRules = k .remarkRules;
         fits = k .fits;
@@ -385,12 +393,13 @@ module _ (R : Rules) where
       }
 
   worded-are : (e : Entry) (es : List Entry) (k : ℕ) (l : Text) (ls : List Text) (rest : Text) (on next : Due) (after : Log) → drop k entries ≡ e ∷ es → IsKeyword e l on next → KeywordsAre es ls rest after → KeywordsAre (e ∷ es) (l ∷ ls) rest (withLine (Keyword k) l after)
-  unfolding keywordLines argumentRules
+  unfolding keywordLines keywordRules argumentRules
   worded-are e es k l ls rest on next after h i r =
       rw (with-keyword e es k l after h)
       (record {
         noMore = r .noMore;
-        theLines = ap {B = List Text} (λ x. x ∷ ls) (i .line) ∙ ap {B = List Text} (λ x. (keywordStart e ++ argumentOn e l) ∷ x) (r .theLines);
+        theLines = ap {B = List Text} (λ x. x ∷ ls) (i .has .line) ∙ ap {B = List Text} (λ x. (keywordStart (spellingOn e l) ++ argumentOn e l) ∷ x) (r .theLines);
+        spellings = and-i (i .has .spelt) (r .spellings);
         rulesOfArguments = and-i (i .rule) (r .rulesOfArguments);
         remarkRules = r .remarkRules;
         fits = r .fits;
@@ -428,15 +437,16 @@ module _ (R : Rules) where
 
   -- # The whole log
 
-  lines-of : (log : Log) → linesOf log ≡ identifier ∷ (keywordLines entries (log .arguments) ++ behind (log .remarks) (log .records))
+  lines-of : (log : Log) → linesOf log ≡ identifier ∷ (keywordLines (log .keywords) (log .arguments) ++ behind (log .remarks) (log .records))
   unfolding linesOf
   lines-of log =
       ap {B = List Text} (λ r. identifier ∷ r)
-      (append-assoc (keywordLines entries (log .arguments)) (remarksLine ∷ log .remarks) (countLine (length (log .records)) ∷ recordLines (log .records)))
+      (append-assoc (keywordLines (log .keywords) (log .arguments)) (remarksLine ∷ log .remarks) (countLine (length (log .records)) ∷ recordLines (log .records)))
 
   pub record LogIs (ls : List Text) (rest : Text) (log : Log) : Type 0 where
     pub noMore : rest ≡ []
     pub theLines : ls ≡ linesOf log
+    pub spellings : keywordRules entries (log .keywords) ≡ true
     pub rulesOfArguments : argumentRules R entries (log .arguments) ≡ true
     pub remarkRules : every remarkRule (log .remarks) ≡ true
     pub fits : leb (length (log .records)) (R .mostRecords) ≡ true
@@ -470,6 +480,7 @@ module _ (R : Rules) where
       record {
         noMore = k .noMore;
         theLines = ap {B = List Text} (λ x. x ∷ ls) (g .0) ∙ ap {B = List Text} (λ x. identifier ∷ x) (k .theLines) ∙ sym (lines-of log);
+        spellings = k .spellings;
         rulesOfArguments = k .rulesOfArguments;
         remarkRules = k .remarkRules;
         fits = k .fits;
@@ -477,11 +488,12 @@ module _ (R : Rules) where
       }
 
   -- The lines of a log that keeps the rules lead to its end.
-  pub log-leads : (n : ℕ) (log : Log) → argumentRules R entries (log .arguments) ≡ true → every remarkRule (log .remarks) ≡ true → leb (length (log .records)) (R .mostRecords) ≡ true → recordRules R (log .records) ≡ true → walk R Identifier n (linesOf log) [] ≡ accepted log
-  log-leads n log a m f r =
-      let more : walk R (Keyword 0) (n + 1) (keywordLines entries (log .arguments) ++ behind (log .remarks) (log .records)) [] ≡ accepted log = rw first-keyword at (keywords-lead (log .remarks) (log .records) m f r entries 0 (n + 1) (log .arguments) refl a) in
+  pub log-leads : (n : ℕ) (log : Log) → keywordRules entries (log .keywords) ≡ true → argumentRules R entries (log .arguments) ≡ true → every remarkRule (log .remarks) ≡ true → leb (length (log .records)) (R .mostRecords) ≡ true → recordRules R (log .records) ≡ true → walk R Identifier n (linesOf log) [] ≡ accepted log
+  log-leads n log c a m f r =
+      let keywords = keywordLines (log .keywords) (log .arguments) ++ behind (log .remarks) (log .records) in
+      let more : walk R (Keyword 0) (n + 1) keywords [] ≡ accepted log = rw first-keyword at (keywords-lead (log .remarks) (log .records) m f r entries 0 (n + 1) (log .keywords) (log .arguments) refl c a) in
       rw (lines-of log)
-      (walk-goes R Identifier (Keyword 0) n identifier (keywordLines entries (log .arguments) ++ behind (log .remarks) (log .records)) [] log
+      (walk-goes R Identifier (Keyword 0) n identifier keywords [] log
       (unfold step in whole-goes identifier (Keyword 0))
       more
       ∙ ap accepted (with-identifier identifier log))

@@ -12,6 +12,7 @@ use Rattle.rules.specs.Text.{Text, all, same, digits, parts, joined}
 use Rattle.rules.specs.Rules.{Rules}
 use Rattle.rules.specs.Fields.{Qso}
 use Rattle.rules.specs.Arguments.{Entry, entries, every, among}
+use Rattle.rules.specs.Log.{keywordsOf}
 use Rattle.rules.specs.Judging.{zeroTotals, verdictsOfLog, totalsOfLog}
 use Rattle.rules.specs.Writing.{recounted, Claim, claims, claimed, writtenArguments, writtenRecords, writtenBack, unclaimedRecord, unclaimed}
 use Rattle.rules.specs.Demands.{WritingChangesOnlyTheNamed}
@@ -102,6 +103,6 @@ records-again (v ∷ vs) (q ∷ qs) = ap {B = List Qso} (λ r. unclaimedRecord q
 pub writing-changes : (R : Rules) → WritingChangesOnlyTheNamed R
 unfolding unclaimed writtenBack
 writing-changes R log =
-    ap₂ (λ (ts : List Text) (qs : List Qso). record { arguments = ts; remarks = log .remarks; records = qs })
+    ap₂ (λ (ts : List Text) (qs : List Qso). record { keywords = keywordsOf entries; arguments = ts; remarks = log .remarks; records = qs })
     (arguments-again (claims digits (totalsOfLog R log)) (claims (λ n. []) zeroTotals) entries (log .arguments) (later-claims (λ n. []) (totalsOfLog R log) zeroTotals))
     (records-again (verdictsOfLog R log) (log .records))

@@ -16,15 +16,16 @@ use Rattle.rules.specs.declared.Totals.{Totals}
 use Rattle.rules.specs.Text.{Text, bytes, same, digits, parts}
 use Rattle.rules.specs.Rules.{Rules}
 use Rattle.rules.specs.Fields.{Qso, fieldsOf, newMark, duplicateMark}
-use Rattle.rules.specs.Arguments.{Entry, entries, among, meets}
+use Rattle.rules.specs.Arguments.{Entry, entries, among}
 use Rattle.rules.specs.Log.{Log, argumentIn, argument, argumentRules, valid}
 use Rattle.rules.specs.Judging.{is, verdicts, verdictsOfLog, totalsOfLog}
 use Rattle.rules.specs.Writing.{Claim, recounted, claims, claimed, writtenArguments, writtenRecord, writtenRecords, writtenBack}
 use Rattle.rules.specs.Demands.{IsWhere, RecordIsSet, CountBecomes, ClaimBecomes, ClaimsAreSet, theNine, NamedAreSet, WritingSetsTheNamed}
-use Rattle.rules.proofs.Tests.{so, never, and-r}
+use Rattle.rules.proofs.Tests.{so, never}
 use Rattle.rules.proofs.TextLaws.{same-eq}
 use Rattle.rules.proofs.NumberLaws.{digits-all}
 use Rattle.rules.proofs.FieldLaws.{digits-plain}
+use Rattle.rules.proofs.LogLaws.{argument-count}
 use Rattle.rules.proofs.ValidLogs.{arguments-valid}
 use Rattle.rules.proofs.Classes.{length-verdicts, is→equal, equal→is}
 use Rattle.rules.proofs.WritingLaws.{parts-recounted, unclaimed-stays}
@@ -67,14 +68,7 @@ as-many (v ∷ vs) (q ∷ qs) e = ap suc (as-many vs qs (omega arith))
 
 -- # Arguments
 
--- There is an argument for each keyword, and the one of a keyword that is listed is claimed as the keyword is.
-as-long : (R : Rules) (es : List Entry) (ts : List Text) → argumentRules R es ts ≡ true → length ts ≡ length es
-unfolding argumentRules
-as-long R [] [] e = refl
-as-long R [] (t ∷ ts) e = never e
-as-long R (f ∷ es) [] e = never e
-as-long R (f ∷ es) (t ∷ ts) e = ap suc (as-long R es ts (and-r (meets R (f .rule) t) (argumentRules R es ts) e))
-
+-- The argument of a keyword that is listed is claimed as the keyword is.
 argument-set : (cs : List Claim) (keyword : Text) (es : List Entry) (ts : List Text) →
     length ts ≡ length es →
     among (map (λ (e : Entry). e .keyword) es) keyword ≡ true →
@@ -104,7 +98,7 @@ module _ (R : Rules) (log : Log) (v : T (valid R log)) where
   unfolding argument writtenBack
   becomes keyword m =
       argument-set (claims digits sums) keyword entries (log .arguments)
-      (as-long R entries (log .arguments) (so (argumentRules R entries (log .arguments)) (arguments-valid R log v))) m
+      (argument-count R entries (log .arguments) (so (argumentRules R entries (log .arguments)) (arguments-valid R log v))) m
 
   count-becomes : (keyword : String) (n : ℕ) →
       among (map (λ (e : Entry). e .keyword) entries) (bytes keyword) ≡ true →
@@ -145,6 +139,7 @@ module _ (R : Rules) (log : Log) (v : T (valid R log)) where
   unfolding writtenBack verdictsOfLog
   named-set =
       record {
+        keywords = refl;
         claims = claims-set;
         otherArguments = others-stay;
         remarks = refl;

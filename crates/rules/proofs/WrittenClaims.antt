@@ -13,7 +13,7 @@ use Rattle.rules.specs.Text.{Text, bytes, same, value, digits, parts}
 use Rattle.rules.specs.Rules.{Rules}
 use Rattle.rules.specs.Fields.{Qso}
 use Rattle.rules.specs.Arguments.{Entry, entries, part}
-use Rattle.rules.specs.Log.{Log, argumentIn, argument}
+use Rattle.rules.specs.Log.{Log, argumentIn, argument, keywordsOf}
 use Rattle.rules.specs.Judging.{classNumber, is, Declared, declared, creditedPoints, totalsOf, totals, totalsOfLog, verdictsOfLog}
 use Rattle.rules.specs.Writing.{Claim, recounted, claims, claimed, writtenArguments, writtenRecord, writtenRecords, writtenBack}
 use Rattle.rules.proofs.TextLaws.{same-eq}
@@ -126,6 +126,7 @@ module _ (R : Rules) (log : Log) where
 writtenWith : Totals → List Verdict → Log → Log
 writtenWith t vs log =
     record {
+      keywords = keywordsOf entries;
       arguments = writtenArguments (claims digits t) entries (log .arguments);
       remarks = log .remarks;
       records = writtenRecords vs (log .records);

@@ -15,15 +15,18 @@ use Rattle.rules.specs.Text.{Text, bytes, all, allowed, same, empty, num
 use Rattle.rules.specs.Rules.{base}
 use Rattle.rules.specs.Fields.{Qso, newMark, duplicateMark, isError, emptyOr, fieldRules, pointsRule}
 use Rattle.rules.specs.Arguments.{Rule, claimedPoints, claimedBonus, claimedTotal, countAndMultiplier, countBonusMultiplier, Entry, entries, meets, each, every, among, count, bonus, multiplier}
-use Rattle.rules.specs.Log.{Log, identifier, remarksLine, countLine, keywordStart, keywordLines, recordLine, render, lineRule, argumentRules, conjunction, recordRules, valid}
+use Rattle.rules.specs.Log.{Log, identifier, remarksLine, countLine, keywordStart, keywordLines, keywordsOf, recordLine, render, lineRule, argumentRules, conjunction, recordRules, valid}
 use Rattle.rules.specs.Judging.{is, verdictsOfLog, totalsOfLog}
 use Rattle.rules.specs.Writing.{recounted, Claim, claims, claimed, writtenArguments, writtenRecord, writtenRecords, writtenBack}
+use Rattle.rules.specs.Demands.{spelt}
 use Rattle.rules.proofs.Tests.{_beside_, never, so, holds, and-l, and-r, and-i, or-r}
 use Rattle.rules.proofs.TextLaws.{all-append, same-refl, joined-parts}
 use Rattle.rules.proofs.NumberLaws.{digits-all, digits-length, digits-from, digits-of, number-from, number-length, number-digits}
 use Rattle.rules.proofs.FieldLaws.{Plain, Fits, digits-fit, digits-plain, AllFit, room, joined-short, joined-allowed, record-line-rule}
 use Rattle.rules.proofs.LogLaws.{every-append, every-front, every-back, every-more, every-first, every-others, digits-allowed, front, lines-split}
 use Rattle.rules.proofs.Format.{Rightly, valid-of, of-valid}
+use Rattle.rules.proofs.SpellingLaws.{listed-spelling}
+use Rattle.rules.proofs.Respelt.{spelt-rightly, spelt-totals, spelt-written}
 use Rattle.rules.proofs.WritingLaws.{parts-recounted, unclaimed-stays}
 
 -- What has room in the places of the claims.
@@ -41,7 +44,7 @@ pub record HaveRoom (t : Totals) : Type 0 where
 -- A keyword line: its argument keeps its rule, and it keeps the rule of lines.
 record Good (e : Entry) (t : Text) : Type 0 where
   rule : meets base (e .rule) t ≡ true
-  line : lineRule base (keywordStart e ++ t) ≡ true
+  line : lineRule base (keywordStart (e .keyword) ++ t) ≡ true
 
 -- A keyword and an argument that is not too long are a line.
 line-of : (k t : Text) → all allowed k ≡ true → length k ≤ 6 → all allowed t ≡ true → length t ≤ 69 → lineRule base (k ++ t) ≡ true
@@ -117,25 +120,25 @@ abbrev at : Text → Rule → Entry
 at word rule = record { keyword = word; rule = rule }
 
 module _ (word : Text) (characters : all allowed (word ++ bytes "=") ≡ true) (short : length (word ++ bytes "=") ≤ 6) (n : ℕ) where
-  word-line : (rule : Rule) (t : Text) → all allowed t ≡ true → length t ≤ 69 → lineRule base (keywordStart (at word rule) ++ t) ≡ true
+  word-line : (t : Text) → all allowed t ≡ true → length t ≤ 69 → lineRule base (keywordStart word ++ t) ≡ true
   unfolding keywordStart
-  word-line rule t a h = line-of (word ++ bytes "=") t characters short a h
+  word-line t a h = line-of (word ++ bytes "=") t characters short a h
 
   two-parts : n ≤ base .mostCount → (t : Text) → Good (at word countAndMultiplier) t → Good (at word countAndMultiplier) (recounted (digits n) t)
   unfolding meets
   two-parts h t g =
       let k = recounted-rightly (count base) (multiplier base ∷ []) (4 ∷ 2 ∷ []) (digits n) t (count-fits, (multiplier-fits, tt)) (digits-plain (digits n) (digits-all n)) (digits-count n h) (g .rule) in
-      record { rule = k .rule; line = word-line countAndMultiplier (recounted (digits n) t) (k .characters) (omega (arith, k .short)) }
+      record { rule = k .rule; line = word-line (recounted (digits n) t) (k .characters) (omega (arith, k .short)) }
 
   three-parts : n ≤ base .mostCount → (t : Text) → Good (at word countBonusMultiplier) t → Good (at word countBonusMultiplier) (recounted (digits n) t)
   unfolding meets
   three-parts h t g =
       let k = recounted-rightly (count base) (bonus base ∷ multiplier base ∷ []) (4 ∷ 4 ∷ 2 ∷ []) (digits n) t (count-fits, (bonus-fits, (multiplier-fits, tt))) (digits-plain (digits n) (digits-all n)) (digits-count n h) (g .rule) in
-      record { rule = k .rule; line = word-line countBonusMultiplier (recounted (digits n) t) (k .characters) (omega (arith, k .short)) }
+      record { rule = k .rule; line = word-line (recounted (digits n) t) (k .characters) (omega (arith, k .short)) }
 
   whole-number : (rule : Rule) (k : ℕ) → suc k ≤ 69 → n < 10 ^ suc k → meets base rule (digits n) ≡ true → Good (at word rule) (digits n)
   whole-number rule k h g e =
-      record { rule = e; line = word-line rule (digits n) (digits-allowed (digits n) (digits-all n)) (omega (arith, digits-length k n g)) }
+      record { rule = e; line = word-line (digits n) (digits-allowed (digits n) (digits-all n)) (omega (arith, digits-length k n g)) }
 
   points-claim : n < 10 ^ base .claimedPointsDigits → Good (at word claimedPoints) (digits n)
   unfolding meets base
@@ -184,17 +187,17 @@ entries-keep t h =
 
 record ArgumentsKept (es : List Entry) (ts : List Text) : Type 0 where
   rules : argumentRules base es ts ≡ true
-  lines : every (lineRule base) (keywordLines es ts) ≡ true
+  lines : every (lineRule base) (keywordLines (keywordsOf es) ts) ≡ true
 
 arguments-keep : (cs : List Claim) (es : List Entry) (ts : List Text) → AllKeep cs es → ArgumentsKept es ts → ArgumentsKept es (writtenArguments cs es ts)
-unfolding writtenArguments argumentRules keywordLines every
+unfolding writtenArguments argumentRules keywordsOf keywordLines every
 arguments-keep cs [] ts k g = g
 arguments-keep cs (e ∷ es) [] k g = g
 arguments-keep cs (e ∷ es) (t ∷ ts) k g =
     let a = meets base (e .rule) t in
     let b = argumentRules base es ts in
-    let c = lineRule base (keywordStart e ++ t) in
-    let d = every (lineRule base) (keywordLines es ts) in
+    let c = lineRule base (keywordStart (e .keyword) ++ t) in
+    let d = every (lineRule base) (keywordLines (keywordsOf es) ts) in
     let here = k .0 t (record { rule = and-l a b (g .rules); line = and-l c d (g .lines) }) in
     let later = arguments-keep cs es ts (k .1) (record { rules = and-r a b (g .rules); lines = and-r c d (g .lines) }) in
     record { rules = and-i (here .rule) (later .rules); lines = and-i (here .line) (later .lines) }
@@ -301,6 +304,10 @@ records-lines (q ∷ qs) e =
     and-i (record-line-rule base q (unfold base in omega arith) (and-l a (recordRules base qs) e)) (records-lines qs (and-r a (recordRules base qs) e))
 
 -- What is written back, part by part.
+written-keywords : (log : Log) → (writtenBack base log) .keywords ≡ keywordsOf entries
+unfolding writtenBack
+written-keywords log = refl
+
 written-arguments : (log : Log) → (writtenBack base log) .arguments ≡ writtenArguments (claims digits (totalsOfLog base log)) entries (log .arguments)
 unfolding writtenBack
 written-arguments log = refl
@@ -319,10 +326,15 @@ record FrontKept (log : Log) : Type 0 where
   arguments : ArgumentsKept entries (log .arguments)
   behind : every (lineRule base) (remarksLine ∷ log .remarks) ≡ true
 
-front-kept : (log : Log) → every (lineRule base) (front log) ≡ true → argumentRules base entries (log .arguments) ≡ true → FrontKept log
+-- The lines in front of the count line, of a log in the listed spelling.
+front-listed : (log : Log) → log .keywords ≡ keywordsOf entries → front log ≡ identifier ∷ keywordLines (keywordsOf entries) (log .arguments) ++ remarksLine ∷ log .remarks
 unfolding front
-front-kept log e a =
-    let k = keywordLines entries (log .arguments) in
+front-listed log w = rw w
+
+front-kept : (log : Log) → log .keywords ≡ keywordsOf entries → every (lineRule base) (front log) ≡ true → argumentRules base entries (log .arguments) ≡ true → FrontKept log
+front-kept log w r a =
+    let k = keywordLines (keywordsOf entries) (log .arguments) in
+    let e : every (lineRule base) (identifier ∷ k ++ remarksLine ∷ log .remarks) ≡ true = rw (front-listed log w) at r in
     let before : every (lineRule base) (identifier ∷ k) ≡ true = every-front (lineRule base) (identifier ∷ k) (remarksLine ∷ log .remarks) e in
     record {
       first = every-first (lineRule base) identifier k before;
@@ -330,18 +342,18 @@ front-kept log e a =
       behind = every-back (lineRule base) (identifier ∷ k) (remarksLine ∷ log .remarks) e;
     }
 
-kept-front : (log : Log) → FrontKept log → every (lineRule base) (front log) ≡ true
-unfolding front
-kept-front log f =
-    let k = keywordLines entries (log .arguments) in
-    every-append (lineRule base) (identifier ∷ k) (remarksLine ∷ log .remarks) (every-more (lineRule base) identifier k (f .first) (f .arguments .lines)) (f .behind)
+kept-front : (log : Log) → log .keywords ≡ keywordsOf entries → FrontKept log → every (lineRule base) (front log) ≡ true
+kept-front log w f =
+    let k = keywordLines (keywordsOf entries) (log .arguments) in
+    rw (front-listed log w) (every-append (lineRule base) (identifier ∷ k) (remarksLine ∷ log .remarks) (every-more (lineRule base) identifier k (f .first) (f .arguments .lines)) (f .behind))
 
-module _ (log : Log) (h : HaveRoom (totalsOfLog base log)) where
+-- Of a log in the listed spelling.
+module _ (log : Log) (w : log .keywords ≡ keywordsOf entries) (h : HaveRoom (totalsOfLog base log)) where
   front-still : every (lineRule base) (front log) ≡ true → argumentRules base entries (log .arguments) ≡ true → (every (lineRule base) (front (writtenBack base log)) ≡ true) × (argumentRules base entries ((writtenBack base log) .arguments) ≡ true)
   front-still e a =
-      let f = front-kept log e a in
+      let f = front-kept log w e a in
       let k : ArgumentsKept entries ((writtenBack base log) .arguments) = rw (written-arguments log) (arguments-keep (claims digits (totalsOfLog base log)) entries (log .arguments) (entries-keep (totalsOfLog base log) h) (f .arguments)) in
-      (kept-front (writtenBack base log) (record { first = f .first; arguments = k; behind = rw (written-remarks log) (f .behind) }), k .rules)
+      (kept-front (writtenBack base log) (written-keywords log) (record { first = f .first; arguments = k; behind = rw (written-remarks log) (f .behind) }), k .rules)
 
   written-rightly : Rightly base log → length (render (writtenBack base log)) ≤ base .longestLog → Rightly base (writtenBack base log)
   written-rightly r s =
@@ -356,12 +368,18 @@ module _ (log : Log) (h : HaveRoom (totalsOfLog base log)) where
       record {
         short = s;
         lineRules = rw (lines-split new) (every-append (lineRule base) (front new) (countLine (length (new .records)) ∷ map recordLine (new .records)) (f .0) (every-more (lineRule base) (countLine (length (new .records))) (map recordLine (new .records)) line (records-lines (new .records) rules)));
+        spellings = rw (written-keywords log) (listed-spelling entries);
         rulesOfArguments = f .1;
         remarkRules = rw (written-remarks log) (r .remarkRules);
         fits = rw number (r .fits);
         rules = rules;
       }
 
-  -- The log that is written back from a valid log is valid, if it is not too long.
-  pub written-valid : T (valid base log) → length (render (writtenBack base log)) ≤ base .longestLog → T (valid base (writtenBack base log))
-  written-valid v s = holds (valid-of base (writtenBack base log) (written-rightly (of-valid base log (so (valid base log) v)) s))
+-- The log that is written back from a valid log is valid, if it is not too long: it is the one that is written from the log in the listed
+-- spelling.
+pub written-valid : (log : Log) → HaveRoom (totalsOfLog base log) → T (valid base log) → length (render (writtenBack base log)) ≤ base .longestLog → T (valid base (writtenBack base log))
+written-valid log h v s =
+    let listed = spelt (keywordsOf entries) log in
+    let same : writtenBack base listed ≡ writtenBack base log = spelt-written base log (keywordsOf entries) in
+    let rightly = spelt-rightly base log (keywordsOf entries) (of-valid base log (so (valid base log) v)) (listed-spelling entries) in
+    holds (valid-of base (writtenBack base log) (rw same at (written-rightly listed refl (rw (spelt-totals base log (keywordsOf entries)) h) rightly (rw same s))))

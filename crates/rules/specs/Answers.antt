@@ -1,16 +1,16 @@
 -- "When the desk says no": the refusals 7 to 9, what is answered to each call, and what a lent slice holds afterwards.
 -- Assumes nothing.
 use Prim.Native.Nat.{ℕ, _+_, _-_}
-use mathlib.Core.Bool.{cond, _&&_}
+use mathlib.Core.Bool.{Bool, false, cond, _&&_}
 use mathlib.Core.List.{List, [], _∷_, _++_, map}
 use lib.Dec.{leb, ltb}
-use lib.ListN.{length, take, drop}
+use lib.ListN.{length, getD, take, drop}
 use Rattle.rules.specs.declared.Refusal.{Refusal}
 use Rattle.rules.specs.declared.Totals.{Totals}
-use Rattle.rules.specs.Text.{Text}
+use Rattle.rules.specs.Text.{Text, same}
 use Rattle.rules.specs.Rules.{Rules}
 use Rattle.rules.specs.Arguments.{Entry, entries}
-use Rattle.rules.specs.Log.{Log, argument, linesOf, ended, render, keywordStart}
+use Rattle.rules.specs.Log.{Log, argument, linesOf, ended, render, keywordStart, respelt}
 use Rattle.rules.specs.Judging.{verdictNumber, verdictsOfLog, totalsOfLog, zeroTotals}
 use Rattle.rules.specs.Writing.{writtenBack}
 use Rattle.rules.specs.Reading.{Reading, accepted, refused, refusal, read}
@@ -19,7 +19,7 @@ use Rattle.rules.specs.Reading.{Reading, accepted, refused, refusal, rea
 unfoldable pub noRefusal : Refusal
 noRefusal = refusal 0 0 0
 
--- Reading: the refusal, and how many records an accepted log has.
+-- Reading: the refusal, how many records an accepted log has, and how many of its keywords are not spelt as they are listed.
 unfoldable pub refusalOfReading : Reading → Refusal
 unfolding noRefusal
 refusalOfReading (accepted log) = noRefusal
@@ -29,21 +29,33 @@ unfoldable pub recordsOfReading : Reading → ℕ
 recordsOfReading (accepted log) = length (log .records)
 recordsOfReading (refused r) = 0
 
--- "A view is the named argument's part of the log, and is given only of an accepted log": where it starts, and the argument.
+unfoldable pub respeltOfReading : Reading → ℕ
+unfolding respelt entries
+respeltOfReading (accepted log) = respelt entries (log .keywords)
+respeltOfReading (refused r) = 0
+
+-- "A view is the named argument's part of the log, and is given only of an accepted log": where it starts, the argument, and whether its keyword
+-- is spelt as it is listed.
 pub data Viewing : Type 0 where
-  seen : ℕ → Text → Viewing
+  seen : ℕ → Text → Bool → Viewing
   unseen : Refusal → Viewing
 
 -- The bytes in front of a keyword's argument: the identifier, the lines of the keywords before it, and the keyword itself.
 unfoldable pub argumentStart : Log → ℕ → Entry → ℕ
 unfolding ended linesOf keywordStart
-argumentStart log k e = length (ended (take k (linesOf log))) + length (keywordStart e)
+argumentStart log k e = length (ended (take k (linesOf log))) + length (keywordStart (e .keyword))
+
+-- The k-th keyword of the log is spelt as it is listed.
+unfoldable pub isListed : Log → ℕ → Entry → Bool
+unfolding same
+isListed log k e = same (e .keyword) (getD (log .keywords) (k - 1) [])
 
 -- 9: "the keyword number is not 1 to 36"; "Order: 9, 1, then line by line"
 unfoldable pub viewOfReading : ℕ → List Entry → Reading → Viewing
-unfolding argumentStart argument
+unfolding argumentStart argument isListed
 viewOfReading k [] r = unseen (refusal 9 0 0)
-viewOfReading k (e ∷ es) (accepted log) = seen (argumentStart log k e) (argument log (e .keyword))
+viewOfReading k (e ∷ es) (accepted log) =
+    seen (argumentStart log k e) (argument log (e .keyword)) (isListed log k e)
 viewOfReading k (e ∷ es) (refused r) = unseen r
 
 unfoldable pub view : Rules → ℕ → Text → Viewing
@@ -52,16 +64,20 @@ view R k s = cond (leb 1 k) (viewOfReading k (drop (k - 1) entries) (read R s)) 
 
 unfoldable pub refusalOfView : Viewing → Refusal
 unfolding noRefusal
-refusalOfView (seen start t) = noRefusal
+refusalOfView (seen start t listed) = noRefusal
 refusalOfView (unseen r) = r
 
 unfoldable pub startOfView : Viewing → ℕ
-startOfView (seen start t) = start
+startOfView (seen start t listed) = start
 startOfView (unseen r) = 0
 
 unfoldable pub viewed : Viewing → Text
-viewed (seen start t) = t
+viewed (seen start t listed) = t
 viewed (unseen r) = []
+
+unfoldable pub listedOfView : Viewing → Bool
+listedOfView (seen start t listed) = listed
+listedOfView (unseen r) = false
 
 -- Judging with a verdict slice of so many bytes. 7: "the verdict slice is shorter than N"
 pub data Judgement : Type 0 where

@@ -10,7 +10,7 @@ use Rattle.rules.specs.declared.Totals.{Totals}
 use Rattle.rules.specs.declared.Due.{Due}
 use Rattle.rules.specs.declared.Next.{Next}
 use Rattle.rules.specs.declared.Next.the-variants.{Goes, Stops}
-use Rattle.rules.specs.Text.{Text, bytes}
+use Rattle.rules.specs.Text.{Text, bytes, sameButCase}
 use Rattle.rules.specs.Rules.{base}
 use Rattle.rules.specs.Fields.{dayExists, fullYear}
 use Rattle.rules.specs.Arguments.{Rule, meets}
@@ -18,7 +18,7 @@ use Rattle.rules.specs.Log.{Log, render, valid}
 use Rattle.rules.specs.Judging.{declared, verdictNumber, verdictsOfLog, totalsOfLog}
 use Rattle.rules.specs.Writing.{writtenBack, unclaimed}
 use Rattle.rules.specs.Reading.{FirstLine, aLine, noLine, firstLine, RecordRule, keeps, breaks, recordRule, Reading, accepted, refused, read, step}
-use Rattle.rules.specs.Answers.{view, refusalOfView, startOfView, viewed, judge, refusalOfJudgement, totalsOfJudgement, numbersOfJudgement, write, refusalOfWriting, bytesOfWriting, refusalOfReading, recordsOfReading, over}
+use Rattle.rules.specs.Answers.{view, refusalOfView, startOfView, viewed, listedOfView, judge, refusalOfJudgement, totalsOfJudgement, numbersOfJudgement, write, refusalOfWriting, bytesOfWriting, refusalOfReading, recordsOfReading, respeltOfReading, over}
 use Rattle.rules.specs.Striking.{Places, strike, placeAfter, struckWorth}
 use Rattle.rules.specs.Desk.{desk}
 
@@ -30,12 +30,17 @@ pub data Question : Type 0 where
   -- of two digits: the year; of a year, a month and a day: 1 where the day is in the calendar, else 0
   isYear : ℕ → Question
   hasDay : ℕ → ℕ → ℕ → Question
+  -- of two texts: 1 where they are the same but for the case of their letters, else 0
+  spellsAlike : Text → Text → Question
   -- of an argument: 1 where it keeps its rule, else 0
   meetsRule : Rule → Text → Question
   -- of a record line: 0 where it is taken, else 5 and the field
   isRecord : Text → Question
   -- of a log: number, line and field, and the number of records
   isRead : Text → Question
+  -- of a log: how many of its keywords are not spelt as they are listed; and of a keyword's number besides: 1 where that one is, else 0
+  respells : Text → Question
+  spellsAsListed : ℕ → Text → Question
   -- of an accepted log: whether it is valid and written as the text
   isLog : Text → Question
   -- of an accepted log: 1 where it is valid after this change, else 0
@@ -112,14 +117,17 @@ unfolding read base render strike totalsOfLog verdictsOfLog verdictNumber
 afterStrike struck log = ofLog judgedIn (read base (render (strike struck log)))
 
 unfoldable pub answer : Question → List ℕ
-unfolding firstLine step dayExists fullYear meets recordRule read refusalOfReading recordsOfReading valid render judge refusalOfJudgement numbersOfJudgement totalsOfJudgement desk write refusalOfWriting bytesOfWriting over unclaimed view refusalOfView startOfView viewed afterStrike writtenBack strike struckWorth declared verdictsOfLog placeAfter base
+unfolding firstLine step dayExists fullYear sameButCase meets recordRule read refusalOfReading recordsOfReading respeltOfReading valid render judge refusalOfJudgement numbersOfJudgement totalsOfJudgement desk write refusalOfWriting bytesOfWriting over unclaimed view refusalOfView startOfView viewed listedOfView afterStrike writtenBack strike struckWorth declared verdictsOfLog placeAfter base
 answer (hasLine s) = lineIn (firstLine base s)
 answer (leads due l) = nextIn (step base due l)
 answer (isYear yy) = fullYear yy ∷ []
 answer (hasDay year month day) = truth (dayExists year month day)
+answer (spellsAlike s t) = truth (sameButCase s t)
 answer (meetsRule rule t) = truth (meets base rule t)
 answer (isRecord l) = recordIn (recordRule base l)
 answer (isRead s) = let r = read base s in paper (refusalOfReading r) ++ recordsOfReading r ∷ []
+answer (respells s) = respeltOfReading (read base s) ∷ []
+answer (spellsAsListed k s) = truth (listedOfView (view base k s))
 answer (isLog s) = ofLog (λ log. truth (valid base log) ++ render log) (read base s)
 answer (isValidWith change s) = ofLog (λ log. truth (valid base (change log))) (read base s)
 answer (isJudged room s) = let j = judge base room s in paper (refusalOfJudgement j) ++ numbersOfJudgement j

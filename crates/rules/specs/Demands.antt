@@ -17,12 +17,12 @@ use Rattle.rules.specs.declared.Totals.{Totals}
 use Rattle.rules.specs.Text.{Text, bytes, same, empty, parts, value, digits}
 use Rattle.rules.specs.Rules.{Rules, base}
 use Rattle.rules.specs.Fields.{Qso, isError, fieldsOf}
-use Rattle.rules.specs.Arguments.{among}
-use Rattle.rules.specs.Log.{Log, argument, valid, render, IsWrittenAs, FollowsTheFormat}
+use Rattle.rules.specs.Arguments.{entries, among}
+use Rattle.rules.specs.Log.{Log, argument, keywordsOf, keywordRules, valid, render, IsWrittenAs, FollowsTheFormat}
 use Rattle.rules.specs.Judging.{Declared, is, claimsPoints, sameCall, square, exchangeOf, claimsCountry, verdicts, multipliers, declared, verdictsOfLog, totalsOfLog, zeroTotals}
 use Rattle.rules.specs.Writing.{writtenBack, unclaimed}
 use Rattle.rules.specs.Reading.{accepted, refused, refusal, lines, read}
-use Rattle.rules.specs.Answers.{recordsOfReading, unseen, view, startOfView, viewed, unjudged, judge, totalsOfJudgement, numbersOfJudgement, written, unwritten, write, bytesOfWriting, over}
+use Rattle.rules.specs.Answers.{recordsOfReading, respeltOfReading, unseen, view, startOfView, viewed, listedOfView, unjudged, judge, totalsOfJudgement, numbersOfJudgement, written, unwritten, write, bytesOfWriting, over}
 use Rattle.rules.specs.Given.{GivenExactlyWhen, ZeroWhenAccepted, LineAndFieldToldRightly}
 use Rattle.rules.specs.Striking.{Places, strike, placeAfter, struckWorth}
 
@@ -67,11 +67,13 @@ abbrev pub RefusedViewIsEmpty : Rules → Type 0
 RefusedViewIsEmpty R =
     (s : Text) (k : ℕ) (r : Refusal) →
     view R k s ≡ unseen r →
-    (startOfView (view R k s) ≡ 0) × (viewed (view R k s) ≡ [])
+    (startOfView (view R k s) ≡ 0) × (viewed (view R k s) ≡ []) × (listedOfView (view R k s) ≡ false)
 
 abbrev pub RefusedReadingHasNoRecords : Rules → Type 0
 RefusedReadingHasNoRecords R =
-    (s : Text) (r : Refusal) → read R s ≡ refused r → recordsOfReading (read R s) ≡ 0
+    (s : Text) (r : Refusal) →
+    read R s ≡ refused r →
+    (recordsOfReading (read R s) ≡ 0) × (respeltOfReading (read R s) ≡ 0)
 
 -- One statement of it: whatever is refused changes nothing and shows nothing.
 pub record ARefusalChangesNothing (R : Rules) : Type 0 where
@@ -88,6 +90,38 @@ AcceptedExactlyWhenWritten R = (s : Text) (log : Log) → (read R s ≡ accepted
 
 abbrev pub AcceptedExactlyWhenFormat : Rules → Type 0
 AcceptedExactlyWhenFormat R = (s : Text) → ((log : Log) × (read R s ≡ accepted log)) ↔ FollowsTheFormat R s
+
+-- W1: "Read a keyword in either letter case": an accepted log whose keywords are spelt otherwise, but for nothing more than the case of their
+-- letters, is accepted too, judged alike and written back alike.
+abbrev pub spelt : List Text → Log → Log
+spelt keywords log =
+    record {
+      keywords = keywords;
+      arguments = log .arguments;
+      remarks = log .remarks;
+      records = log .records;
+    }
+
+pub record TakenAlike (R : Rules) (log other : Log) : Type 0 where
+  pub reads : read R (render other) ≡ accepted other
+  pub sameVerdicts : verdictsOfLog R other ≡ verdictsOfLog R log
+  pub sameTotals : totalsOfLog R other ≡ totalsOfLog R log
+  pub writtenAlike : writtenBack R other ≡ writtenBack R log
+
+abbrev pub EitherCaseIsTakenAlike : Rules → Type 0
+EitherCaseIsTakenAlike R =
+    (s : Text) (log : Log) (keywords : List Text) →
+    read R s ≡ accepted log →
+    T (keywordRules entries keywords) →
+    TakenAlike R log (spelt keywords log)
+
+-- W1: "the keyword matcher now also says whether the spelling was the listed one": of an accepted log, none of the 36 is counted exactly where
+-- all stand in the listed spelling.
+abbrev pub SpellingsAreCounted : Rules → Type 0
+SpellingsAreCounted R =
+    (s : Text) (log : Log) →
+    read R s ≡ accepted log →
+    ((respeltOfReading (read R s) ≡ 0) ↔ (log .keywords ≡ keywordsOf entries)) × (respeltOfReading (read R s) ≤ 36)
 
 -- The record and the verdict at a place of a list, the first of which is 0.
 abbrev pub qsoAt : List Qso → ℕ → Qso
@@ -230,7 +264,7 @@ mostTotal R =
 abbrev pub TotalIsBounded : Rules → Type 0
 TotalIsBounded R = (s : Text) (log : Log) → read R s ≡ accepted log → (totalsOfLog R log) .total ≤ mostTotal R
 
--- "Writing back changes only the claims, points and marks named there": without them the two logs are one.
+-- "Writing back changes only the claims, points and marks named there", and by W1 the spellings: without them the two logs are one.
 abbrev pub WritingChangesOnlyTheNamed : Rules → Type 0
 WritingChangesOnlyTheNamed R = (log : Log) → unclaimed (writtenBack R log) ≡ unclaimed log
 
@@ -281,8 +315,9 @@ theNine =
     ∷ bytes "CToSc"
     ∷ []
 
--- "Every byte is copied but these"
+-- "Every byte is copied but these"; W1: "Writing back uses the listed spelling".
 pub record NamedAreSet (R : Rules) (before after : Log) : Type 0 where
+  pub keywords : after .keywords ≡ keywordsOf entries
   pub claims : ClaimsAreSet (totalsOfLog R before) before after
   pub otherArguments :
       (keyword : Text) → T (not (among theNine keyword)) → argument after keyword ≡ argument before keyword
@@ -398,6 +433,8 @@ pub record TheThreeDemands (R : Rules) : Type 0 where
   pub aRefusalChangesNothing : ARefusalChangesNothing R
   pub acceptedExactlyWhenWritten : AcceptedExactlyWhenWritten R
   pub acceptedExactlyWhenFormat : AcceptedExactlyWhenFormat R
+  pub eitherCaseIsTakenAlike : EitherCaseIsTakenAlike R
+  pub spellingsAreCounted : SpellingsAreCounted R
   pub classesAndMarksAsDefined : ClassesAndMarksAsDefined R
   pub totalsAsDefined : TotalsAsDefined R
   pub fourCountsAddUp : FourCountsAddUp R

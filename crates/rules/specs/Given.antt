@@ -11,11 +11,11 @@ use lib.ListN.{length, take, drop, getD}
 use Rattle.rules.specs.declared.Refusal.{Refusal}
 use Rattle.rules.specs.declared.Due.{Due}
 use Rattle.rules.specs.declared.Due.the-variants.{Identifier, Keyword, Remarks, Remark, Record, End}
-use Rattle.rules.specs.Text.{Text, bytes, parts, digits}
+use Rattle.rules.specs.Text.{Text, bytes, sameButCase, parts, digits}
 use Rattle.rules.specs.Rules.{Rules}
 use Rattle.rules.specs.Fields.{Qso, qsoOf, fieldRules}
 use Rattle.rules.specs.Arguments.{Entry, entries, meets, every}
-use Rattle.rules.specs.Log.{Log, identifier, remarksLine, countStart, countLine, keywordStart, keywordLines, recordLine, crlf, ended, lineRule, argumentRules, remarkRule, recordRules, render, IsWrittenAs, FollowsTheFormat}
+use Rattle.rules.specs.Log.{Log, identifier, remarksLine, countStart, countLine, keywordStart, keywordLines, recordLine, crlf, ended, lineRule, keywordRules, argumentRules, remarkRule, recordRules, render, IsWrittenAs, FollowsTheFormat}
 use Rattle.rules.specs.Writing.{writtenBack}
 use Rattle.rules.specs.Reading.{refused, refusal, recordsDue, read}
 use Rattle.rules.specs.Answers.{unseen, view, unjudged, judge, unwritten, write, refusalOfReading, refusalOfView, refusalOfJudgement, refusalOfWriting}
@@ -23,39 +23,43 @@ use Rattle.rules.specs.Answers.{unseen, view, unjudged, judge, unwritten
 -- # The lines so far
 
 -- The lines in front of the count line.
-abbrev pub headLines : List Text → List Text → List Text
-headLines arguments remarks = identifier ∷ keywordLines entries arguments ++ remarksLine ∷ remarks
+abbrev pub headLines : List Text → List Text → List Text → List Text
+headLines keywords arguments remarks = identifier ∷ keywordLines keywords arguments ++ remarksLine ∷ remarks
 
 -- The lines at the front of a log, each right as it is due, and what is due behind them. "In order: `[REG1TEST;1]`; the 36 keyword lines ..;
 -- `[Remarks]`; zero or more remark lines; `[QSORecords;N]`; N records; nothing more."
 pub data Front (R : Rules) : List Text → Due → Type 0 where
   -- no line yet: the identifier is due
   noLines : Front R [] Identifier
-  -- the identifier and k keyword lines, whose arguments keep their rules: the next keyword is due
+  -- the identifier and k keyword lines, each keyword in either letter case, whose arguments keep their rules: the next keyword is due
   keywordsSoFar :
-      (k : ℕ) (arguments : List Text) →
+      (k : ℕ) (keywords arguments : List Text) →
       k < length entries →
+      T (keywordRules (take k entries) keywords) →
       T (argumentRules R (take k entries) arguments) →
-      Front R (identifier ∷ keywordLines (take k entries) arguments) (Keyword k)
+      Front R (identifier ∷ keywordLines keywords arguments) (Keyword k)
   -- all of them: `[Remarks]` is due
   allKeywords :
-      (arguments : List Text) →
+      (keywords arguments : List Text) →
+      T (keywordRules entries keywords) →
       T (argumentRules R entries arguments) →
-      Front R (identifier ∷ keywordLines entries arguments) Remarks
+      Front R (identifier ∷ keywordLines keywords arguments) Remarks
   -- `[Remarks]` and remark lines, none of which begins as the count line does: another, or the count line, is due
   remarksSoFar :
-      (arguments remarks : List Text) →
+      (keywords arguments remarks : List Text) →
+      T (keywordRules entries keywords) →
       T (argumentRules R entries arguments) →
       T (every remarkRule remarks) →
-      Front R (headLines arguments remarks) Remark
+      Front R (headLines keywords arguments remarks) Remark
   -- the count line and as many of its N records, which keep their rules, as leave so many due: after the last nothing more is
   recordsSoFar :
-      (arguments remarks : List Text) (records : List Qso) (left : ℕ) →
+      (keywords arguments remarks : List Text) (records : List Qso) (left : ℕ) →
+      T (keywordRules entries keywords) →
       T (argumentRules R entries arguments) →
       T (every remarkRule remarks) →
       length records + left ≤ R .mostRecords →
       T (recordRules R records) →
-      Front R (headLines arguments remarks ++ countLine (length records + left) ∷ map recordLine records) (recordsDue left)
+      Front R (headLines keywords arguments remarks ++ countLine (length records + left) ∷ map recordLine records) (recordsDue left)
 
 -- "Order: .. 1, then line by line": the text is short enough, and the lines in front of the one of this number are right; this is due there,
 -- and this is left of the text. "Line numbers start at 1".
@@ -95,11 +99,16 @@ HasNoEnd R due rest = (due ≡ End → ⊥) × NoLine R rest × (EndsOrGoesOn du
 abbrev pub IsKeywordAfter : ℕ → Entry → Type 0
 IsKeywordAfter k e = (others : List Entry) × (drop k entries ≡ e ∷ others)
 
--- 3: "the line is not the identifier, does not begin with the keyword and its `=`, or is not the `[Remarks]`, whichever is due there"
+-- The line is a keyword, spelt as it is listed but for the case of its letters, its `=` and this argument.
+abbrev pub IsKeywordLine : Entry → Text → Text → Type 0
+IsKeywordLine e l argument = (keyword : Text) × T (sameButCase (e .keyword) keyword) × (l ≡ keywordStart keyword ++ argument)
+
+-- 3: "the line is not the identifier, does not begin with the keyword and its `=`, or is not the `[Remarks]`, whichever is due there"; W1: "a
+-- keyword now gives 3 only if letters differ by more than case or `=` is missing"
 abbrev pub IsNotTheLineDue : Due → Text → Type 0
 IsNotTheLineDue Identifier l = l ≡ identifier → ⊥
 IsNotTheLineDue (Keyword k) l =
-    (e : Entry) × IsKeywordAfter k e × ((argument : Text) → l ≡ keywordStart e ++ argument → ⊥)
+    (e : Entry) × IsKeywordAfter k e × ((argument : Text) → IsKeywordLine e l argument → ⊥)
 IsNotTheLineDue Remarks l = l ≡ remarksLine → ⊥
 IsNotTheLineDue Remark l = ⊥
 IsNotTheLineDue (Record left) l = ⊥
@@ -112,7 +121,7 @@ BreaksItsRule R (Keyword k) l =
     (e : Entry)
     × IsKeywordAfter k e
     × (argument : Text)
-    × (l ≡ keywordStart e ++ argument)
+    × IsKeywordLine e l argument
     × (T (meets R (e .rule) argument) → ⊥)
 BreaksItsRule R Remarks l = ⊥
 BreaksItsRule R Remark l =

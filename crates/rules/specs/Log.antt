@@ -1,19 +1,20 @@
 -- "Shape of a log": a log as a value, which logs are valid, and the bytes that a log is written as. The format is a set of texts: those
 -- that a valid log is written as.
 -- Assumes nothing.
-use Prim.Native.Nat.{ℕ}
+use Prim.Native.Nat.{ℕ, _+_}
 use mathlib.Core.Path.{_≡_}
 use mathlib.Core.Bool.{Bool, true, false, cond, not, _&&_}
 use mathlib.Core.List.{List, [], _∷_, _++_, map}
 use lib.Dec.{T, leb}
 use lib.ListN.{length}
-use Rattle.rules.specs.Text.{Text, bytes, all, allowed, same, begins, joined, digits}
+use Rattle.rules.specs.Text.{Text, bytes, all, allowed, same, sameButCase, begins, joined, digits}
 use Rattle.rules.specs.Rules.{Rules}
 use Rattle.rules.specs.Fields.{Qso, fieldsOf, fieldRules}
 use Rattle.rules.specs.Arguments.{Entry, entries, meets, every}
 
--- The arguments of the 36 keywords, the remark lines and the records; N is the number of records.
+-- The 36 keywords as they are spelt, their arguments, the remark lines and the records; N is the number of records.
 pub record Log : Type 0 where
+  pub keywords : List Text
   pub arguments : List Text
   pub remarks : List Text
   pub records : List Qso
@@ -46,14 +47,25 @@ unfolding countStart digits
 countLine n = countStart ++ digits n ++ bytes "]"
 
 -- "The keyword is followed at once by `=`."
-unfoldable pub keywordStart : Entry → Text
-keywordStart e = e .keyword ++ bytes "="
+unfoldable pub keywordStart : Text → Text
+keywordStart keyword = keyword ++ bytes "="
 
-unfoldable pub keywordLines : List Entry → List Text → List Text
+unfoldable pub keywordLines : List Text → List Text → List Text
 unfolding keywordStart
 keywordLines [] ts = []
-keywordLines (e ∷ es) [] = []
-keywordLines (e ∷ es) (t ∷ ts) = (keywordStart e ++ t) ∷ keywordLines es ts
+keywordLines (w ∷ ws) [] = []
+keywordLines (w ∷ ws) (t ∷ ts) = (keywordStart w ++ t) ∷ keywordLines ws ts
+
+-- The listed spelling of these keywords.
+unfoldable pub keywordsOf : List Entry → List Text
+keywordsOf es = map (λ e. e .keyword) es
+
+-- W1: "the keyword matcher now also says whether the spelling was the listed one": how many keywords are not spelt as they are listed.
+unfoldable pub respelt : List Entry → List Text → ℕ
+unfolding same
+respelt [] ws = 0
+respelt (e ∷ es) [] = 0
+respelt (e ∷ es) (w ∷ ws) = cond (same (e .keyword) w) 0 1 + respelt es ws
 
 -- "Exactly 14 semicolons"
 unfoldable pub recordLine : Qso → Text
@@ -61,10 +73,10 @@ unfolding joined fieldsOf
 recordLine q = joined (fieldsOf q)
 
 unfoldable pub linesOf : Log → List Text
-unfolding identifier entries keywordLines remarksLine countLine recordLine
+unfolding identifier keywordLines remarksLine countLine recordLine
 linesOf log =
     identifier
-    ∷ keywordLines entries (log .arguments)
+    ∷ keywordLines (log .keywords) (log .arguments)
     ++ remarksLine
     ∷ log .remarks
     ++ countLine (length (log .records))
@@ -88,6 +100,14 @@ render log = ended (linesOf log)
 unfoldable pub lineRule : Rules → Text → Bool
 unfolding all
 lineRule R l = leb (length l) (R .longestLine) && all allowed l
+
+-- W1: "Read a keyword in either letter case": each of the 36 is spelt as it is listed, but for the case of its letters.
+unfoldable pub keywordRules : List Entry → List Text → Bool
+unfolding sameButCase
+keywordRules [] [] = true
+keywordRules [] (w ∷ ws) = false
+keywordRules (e ∷ es) [] = false
+keywordRules (e ∷ es) (w ∷ ws) = sameButCase (e .keyword) w && keywordRules es ws
 
 -- Each of the 36 keywords has its argument, and "the other nineteen are forced".
 unfoldable pub argumentRules : Rules → List Entry → List Text → Bool
@@ -113,10 +133,11 @@ recordRules R [] = true
 recordRules R (q ∷ qs) = conjunction (fieldRules R q) && recordRules R qs
 
 unfoldable pub valid : Rules → Log → Bool
-unfolding render linesOf entries every lineRule argumentRules remarkRule recordRules
+unfolding render linesOf entries every lineRule keywordRules argumentRules remarkRule recordRules
 valid R log =
     leb (length (render log)) (R .longestLog)
     && every (lineRule R) (linesOf log)
+    && keywordRules entries (log .keywords)
     && argumentRules R entries (log .arguments)
     && every remarkRule (log .remarks)
     && leb (length (log .records)) (R .mostRecords)

@@ -10,7 +10,7 @@ use Rattle.rules.specs.declared.Due.{Due}
 use Rattle.rules.specs.declared.Due.the-variants.{Identifier, Keyword, Remarks, Remark, Record, End}
 use Rattle.rules.specs.declared.Next.{Next}
 use Rattle.rules.specs.declared.Next.the-variants.{Goes, Stops}
-use Rattle.rules.specs.Text.{Text, bytes, allowed, digit, span, same, begins, parts, value, numberFrom}
+use Rattle.rules.specs.Text.{Text, bytes, allowed, digit, span, same, sameButCase, begins, parts, value, numberFrom}
 use Rattle.rules.specs.Rules.{Rules}
 use Rattle.rules.specs.Fields.{qsoOf, fieldRules}
 use Rattle.rules.specs.Arguments.{Entry, entries, meets}
@@ -80,17 +80,26 @@ unfoldable pub whole : Text → Text → Due → Next
 unfolding same
 whole due line next = cond (same line due) (Goes next) (Stops 3 0)
 
--- What stands behind the keyword and its `=`.
+-- The keyword as a line spells it, and what stands behind it and its `=`.
+unfoldable pub spellingOn : Entry → Text → Text
+spellingOn e line = take (length (e .keyword)) line
+
 unfoldable pub argumentOn : Entry → Text → Text
 unfolding keywordStart
-argumentOn e line = drop (length (keywordStart e)) line
+argumentOn e line = drop (length (keywordStart (e .keyword))) line
+
+-- W1: "a keyword now gives 3 only if letters differ by more than case or `=` is missing"
+unfoldable pub hasKeyword : Entry → Text → Bool
+unfolding sameButCase spellingOn begins
+hasKeyword e line =
+    sameButCase (e .keyword) (spellingOn e line) && begins (bytes "=") (drop (length (e .keyword)) line)
 
 -- 3 as above; 4: "a forced argument .. breaks its rule"
 unfoldable pub keywordLine : Rules → Entry → Text → Due → Next
-unfolding keywordStart begins meets argumentOn
+unfolding hasKeyword meets argumentOn
 keywordLine R e line next =
     let ruled = cond (meets R (e .rule) (argumentOn e line)) (Goes next) (Stops 4 0) in
-    cond (begins (keywordStart e) line) ruled (Stops 3 0)
+    cond (hasKeyword e line) ruled (Stops 3 0)
 
 -- The first of the keywords that are left is due, after k of them; behind the last of them comes `[Remarks]`.
 unfoldable pub keywordDue : Rules → List Entry → ℕ → Text → Next
@@ -135,10 +144,15 @@ atRest Remarks n s = refused (refusal 2 n 0)
 atRest Remark n s = refused (refusal 2 n 0)
 atRest (Record m) n [] = refused (refusal 6 n 0)
 atRest (Record m) n (c ∷ s) = refused (refusal 2 n 0)
-atRest End n [] = accepted (record { arguments = []; remarks = []; records = [] })
+atRest End n [] = accepted (record { keywords = []; arguments = []; remarks = []; records = [] })
 atRest End n (c ∷ s) = refused (refusal 6 n 0)
 
--- The argument that the line of the first keyword brings.
+-- The spelling and the argument that the line of the first keyword brings.
+unfoldable pub spellingDue : List Entry → Text → Text
+unfolding spellingOn
+spellingDue [] line = []
+spellingDue (e ∷ es) line = spellingOn e line
+
 unfoldable pub argumentDue : List Entry → Text → Text
 unfolding argumentOn
 argumentDue [] line = []
@@ -146,10 +160,11 @@ argumentDue (e ∷ es) line = argumentOn e line
 
 -- The log with what a line brings in front.
 unfoldable pub withLine : Due → Text → Log → Log
-unfolding entries argumentDue begins countStart qsoOf parts
+unfolding entries spellingDue argumentDue begins countStart qsoOf parts
 withLine Identifier l log = log
 withLine (Keyword k) l log =
     record {
+      keywords = spellingDue (drop k entries) l ∷ log .keywords;
       arguments = argumentDue (drop k entries) l ∷ log .arguments;
       remarks = log .remarks;
       records = log .records;
@@ -157,12 +172,18 @@ withLine (Keyword k) l log =
 withLine Remarks l log = log
 withLine Remark l log =
     record {
+      keywords = log .keywords;
       arguments = log .arguments;
       remarks = cond (begins countStart l) (log .remarks) (l ∷ log .remarks);
       records = log .records;
     }
 withLine (Record n) l log =
-    record { arguments = log .arguments; remarks = log .remarks; records = qsoOf (parts l) ∷ log .records }
+    record {
+      keywords = log .keywords;
+      arguments = log .arguments;
+      remarks = log .remarks;
+      records = qsoOf (parts l) ∷ log .records;
+    }
 withLine End l log = log
 
 unfoldable pub put : Due → Text → Reading → Reading

@@ -26,7 +26,12 @@ kept struck (a ∷ l) = cond (struck 0) (kept (later struck) l) (a ∷ kept (lat
 unfoldable pub strike : Places → Log → Log
 unfolding kept
 strike struck log =
-    record { arguments = log .arguments; remarks = log .remarks; records = kept struck (log .records) }
+    record {
+      keywords = log .keywords;
+      arguments = log .arguments;
+      remarks = log .remarks;
+      records = kept struck (log .records);
+    }
 
 -- The place that a record has once those before it are struck.
 unfoldable pub placeAfter : Places → ℕ → ℕ

@@ -2,9 +2,9 @@
 -- Assumes nothing.
 use mathlib.Core.List.{List, _++_}
 use Rattle.rules.specs.Cases.{Case}
-use Rattle.rules.specs.TableArguments.{lineCases, argumentCases, argumentCharacterCases, bandCases, keywordCases, dueCases}
+use Rattle.rules.specs.TableArguments.{lineCases, argumentCases, argumentCharacterCases, bandCases, keywordCases, dueCases, spellingCases}
 use Rattle.rules.specs.TableFields.{fieldCases, fieldCharacterCases, calendarCases}
-use Rattle.rules.specs.TableLogs.{case12Cases, readingCases, lendingCases, squareCases, wrongTurnCases, wideCases, samenessCases, valueCases, limitCases}
+use Rattle.rules.specs.TableLogs.{case12Cases, readingCases, lendingCases, oldSpellingCases, squareCases, wrongTurnCases, wideCases, samenessCases, valueCases, limitCases}
 
 unfoldable pub table : List Case
 table =
@@ -14,12 +14,14 @@ table =
     ++ bandCases
     ++ keywordCases
     ++ dueCases
+    ++ spellingCases
     ++ fieldCases
     ++ fieldCharacterCases
     ++ calendarCases
     ++ case12Cases
     ++ readingCases
     ++ lendingCases
+    ++ oldSpellingCases
     ++ squareCases
     ++ wrongTurnCases
     ++ wideCases

@@ -1,14 +1,16 @@
 -- The table's cases of lines, of arguments and of the 36 keywords.
 -- Assumes nothing.
-use Prim.Native.Nat.{ℕ, _-_}
+use Prim.Native.Nat.{ℕ, _+_, _-_}
 use Prim.Native.String.{String}
+use mathlib.Core.Bool.{cond, _&&_}
 use mathlib.Core.List.{List, [], _∷_, _++_, map}
+use lib.Dec.{leb}
 use lib.ListN.{length, take, replicate}
 use Rattle.rules.specs.declared.Due.{Due}
 use Rattle.rules.specs.declared.Due.the-variants.{Identifier, Keyword, Remarks, Remark, Record, End}
 use Rattle.rules.specs.Text.{Text, bytes}
 use Rattle.rules.specs.Arguments.{Rule, twoDates, aCall, emptyOrCall, emptyOrCalls, aLocator, anExchange, aBand, countAndMultiplier, countBonusMultiplier, claimedPoints, claimedBonus, claimedTotal, bestContact, anything}
-use Rattle.rules.specs.Cases.{Case, ask, texts, varied, hasLine, leads, meetsRule}
+use Rattle.rules.specs.Cases.{Case, case, ask, texts, varied, hasLine, leads, spellsAlike, meetsRule}
 
 -- Arguments that keep a rule, and arguments that break it.
 abbrev right : Rule → List String → List Case
@@ -152,11 +154,21 @@ bandCases =
     ∷ "134 GHz"
     ∷ [])
 
--- The line of the keyword of this number, the first of which is 1, with each of these arguments: those that are taken, and those that are
--- refused 4. Without its `=`, or with a space before it, the line is refused 3.
+-- Each letter of a text in its other case.
+unfoldable pub turned : Text → Text
+turned [] = []
+turned (c ∷ s) =
+    let toSmall = (c + 32) ∷ turned s in
+    let toCapital = (c - 32) ∷ turned s in
+    let asItIs = c ∷ turned s in
+    cond (leb 65 c && leb c 90) toSmall (cond (leb 97 c && leb c 122) toCapital asItIs)
+
+-- The line of the keyword of this number, the first of which is 1, with each of these arguments: those that are taken, with every letter of the
+-- keyword in its other case too, and those that are refused 4. Without its `=`, or with a space before it, the line is refused 3.
 abbrev forced : ℕ → String → List String → List String → List Case
 forced k name rights wrongs =
     ask (leads (Keyword (k - 1))) (0 ∷ []) (map (λ s. bytes name ++ 61 ∷ bytes s) rights)
+    ++ ask (leads (Keyword (k - 1))) (0 ∷ []) (map (λ s. turned (bytes name) ++ 61 ∷ bytes s) rights)
     ++ ask (leads (Keyword (k - 1))) (4 ∷ 0 ∷ []) (map (λ s. bytes name ++ 61 ∷ bytes s) wrongs)
     ++ ask (leads (Keyword (k - 1))) (3 ∷ 0 ∷ []) (map (λ s. bytes name ++ bytes s) ("" ∷ " =" ∷ ":" ∷ []))
 
@@ -166,6 +178,7 @@ free k name = forced k name ("" ∷ "a; = ;z" ∷ []) []
 
 -- Each of the 36 keywords, right and wrong by its own rule and by no other's.
 unfoldable pub keywordCases : List Case
+unfolding turned
 keywordCases =
     free 1 "TName"
     ++ forced 2 "TDate" ("20240302;20240303" ∷ []) ("" ∷ "20240303;20240302" ∷ [])
@@ -215,22 +228,25 @@ unfoldable pub dueCases : List Case
 dueCases =
     goes Identifier ("[REG1TEST;1]" ∷ [])
     ++ stops Identifier 3 ("" ∷ "[REG1TEST;2]" ∷ "[REG1TEST;1] " ∷ "[reg1test;1]" ∷ "REG1TEST;1" ∷ "[REG1TEST;1" ∷ "[REG1TEST:1]" ∷ "[REG1TEST;1];" ∷ "TName=" ∷ [])
-    ++ goes (Keyword 0) ("TName=" ∷ "TName=any = text;" ∷ [])
-    ++ stops (Keyword 0) 3 ("" ∷ "TName" ∷ "TName =" ∷ "Tname=x" ∷ " TName=x" ∷ "TDate=20240302;20240303" ∷ [])
+    ++ goes (Keyword 0) ("TName=" ∷ "TName=any = text;" ∷ "Tname=x" ∷ "tnAME=x" ∷ [])
+    ++ stops (Keyword 0) 3 ("" ∷ "TName" ∷ "TName =" ∷ "Tnane=x" ∷ "tnam=x" ∷ "tnames=x" ∷ " TName=x" ∷ "TDate=20240302;20240303" ∷ [])
     ++ goes (Keyword 2) ("PCall=OZ1FDJ" ∷ [])
     ++ stops (Keyword 2) 4 ("PCall=" ∷ "PCall= OZ1FDJ" ∷ [])
-    -- a wrong keyword is told before its wrong argument
-    ++ stops (Keyword 2) 3 ("Pcall=OZ" ∷ "PCallOZ1FDJ" ∷ [])
-    -- as 000 and the samples misspell them
-    ++ stops (Keyword 4) 3 ("PEXch=" ∷ [])
-    ++ stops (Keyword 19) 3 ("MOpel=OZ1FTU" ∷ [])
-    ++ stops (Keyword 25) 3 ("SAnth=" ∷ [])
-    ++ stops (Keyword 26) 3 ("CQSOS=24;1" ∷ "CQS0s=24;1" ∷ [])
+    -- a wrong keyword is told before its wrong argument, and a keyword in another spelling is none
+    ++ stops (Keyword 2) 3 ("PcalL:OZ" ∷ "PCa11=OZ" ∷ "PCallOZ1FDJ" ∷ [])
+    ++ stops (Keyword 2) 4 ("Pcall=OZ" ∷ [])
+    -- as 000 and the samples spell them: W1 takes what differs in the case of letters alone
+    ++ goes (Keyword 4) ("PEXch=" ∷ [])
+    ++ goes (Keyword 19) ("mope1=OZ1FTU" ∷ "MOPE1=OZ1FTU" ∷ [])
+    ++ stops (Keyword 19) 3 ("MOpel=OZ1FTU" ∷ "MOpeL=OZ1FTU" ∷ "MOpeQ=OZ1FTU" ∷ "MOpeq=OZ1FTU" ∷ [])
+    ++ goes (Keyword 25) ("SAnth=" ∷ [])
+    ++ goes (Keyword 26) ("CQSOS=24;1" ∷ [])
+    ++ stops (Keyword 26) 3 ("CQS0s=24;1" ∷ [])
     ++ stops (Keyword 28) 3 ("CWWLP=24;0;1" ∷ [])
-    ++ stops (Keyword 30) 3 ("CEXcs=24;0;1" ∷ [])
+    ++ goes (Keyword 30) ("CEXcs=24;0;1" ∷ [])
     ++ stops (Keyword 32) 3 ("CDXCc=24;0;1" ∷ [])
-    ++ goes (Keyword 35) ("CODXC=;;0" ∷ [])
-    ++ stops (Keyword 35) 3 ("CODXc=;;0" ∷ "[Remarks]" ∷ [])
+    ++ goes (Keyword 35) ("CODXC=;;0" ∷ "CODXc=;;0" ∷ [])
+    ++ stops (Keyword 35) 3 ("[Remarks]" ∷ [])
     ++ goes Remarks ("[Remarks]" ∷ [])
     ++ stops Remarks 3 ("" ∷ "[Remarks] " ∷ "[remarks]" ∷ "[Remarks" ∷ [])
     ++ goes Remark ("" ∷ "[Remarks]" ∷ "[QSORecords" ∷ "[QSORecords:1]" ∷ " [QSORecords;1]" ∷ "[QSORecords;0]" ∷ "[QSORecords;999]" ∷ [])
@@ -254,3 +270,23 @@ dueCases =
     ++ goes (Record 2) ("240302;1401;DK1AA;1;59;001;59;004;;JO40AA;120;;N;N;" ∷ [])
     ++ ask (leads (Record 2)) (5 ∷ 11 ∷ []) (texts ("240302;1401;DK1AA;1;59;001;59;004;;JO40AA;007;;N;N;" ∷ []))
     ++ stops End 6 ("" ∷ "x" ∷ [])
+
+-- Texts that are the same but for the case of their letters: of the characters that differ by 32, letters alone.
+abbrev alike : String → String → Case
+alike s t = case (spellsAlike (bytes s) (bytes t)) (1 ∷ [])
+
+abbrev unlike : ℕ → ℕ → Case
+unlike c d = case (spellsAlike (c ∷ []) (d ∷ [])) (0 ∷ [])
+
+unfoldable pub spellingCases : List Case
+spellingCases =
+    alike "" ""
+    ∷ alike "ABCDEFGHIJKLMNOPQRSTUVWXYZ" "abcdefghijklmnopqrstuvwxyz"
+    ∷ alike "abcdefghijklmnopqrstuvwxyz" "ABCDEFGHIJKLMNOPQRSTUVWXYZ"
+    ∷ alike "aBcD1;= " "AbCd1;= "
+    ∷ case (spellsAlike (bytes "ab") (bytes "a")) (0 ∷ [])
+    ∷ case (spellsAlike (bytes "a") (bytes "ab")) (0 ∷ [])
+    ∷ case (spellsAlike (bytes "ab") (bytes "ac")) (0 ∷ [])
+    ∷ case (spellsAlike (bytes "ab") (bytes "BA")) (0 ∷ [])
+    ∷ map (λ c. unlike c (c + 32)) (32 ∷ 42 ∷ 48 ∷ 49 ∷ 57 ∷ 61 ∷ 64 ∷ 91 ∷ 92 ∷ 93 ∷ 94 ∷ 95 ∷ 96 ∷ 97 ∷ 122 ∷ 123 ∷ [])
+    ++ map (λ c. unlike (c + 32) c) (16 ∷ 17 ∷ 29 ∷ 32 ∷ 48 ∷ 49 ∷ 57 ∷ 64 ∷ 91 ∷ 92 ∷ 93 ∷ 94 ∷ 95 ∷ 97 ∷ 122 ∷ [])

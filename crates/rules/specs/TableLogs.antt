@@ -10,7 +10,8 @@ use Rattle.rules.specs.Text.{Text, bytes, parts}
 use Rattle.rules.specs.Fields.{Qso, qsoOf}
 use Rattle.rules.specs.Log.{Log}
 use Rattle.rules.specs.Striking.{Places}
-use Rattle.rules.specs.Cases.{Case, case, texts, isRead, isLog, isValidWith, isJudged, comesTo, isShown, isWritten, leavesJudging, leavesWriting, isUnclaimed, isViewed, isStruck, isWrittenAndStruck, isStruckTo, isWorth, comesToStand}
+use Rattle.rules.specs.TableArguments.{turned}
+use Rattle.rules.specs.Cases.{Case, case, texts, isRead, respells, spellsAsListed, isLog, isValidWith, isJudged, comesTo, isShown, isWritten, leavesJudging, leavesWriting, isUnclaimed, isViewed, isStruck, isWrittenAndStruck, isStruckTo, isWorth, comesToStand}
 
 -- The text of these lines. The table puts its lines together itself, and rests on no definition that it asks about.
 unfoldable pub lined : List Text → Text
@@ -86,17 +87,19 @@ unfolding opening
 plain = opening ("0;1" ∷ "77" ∷ "9;500;1" ∷ "0" ∷ "0;0;1" ∷ "0" ∷ "0;0;1" ∷ "0" ∷ "123456789" ∷ [])
 
 -- Case 12: its five records, and the same log as it is to be written back, with 2 contacts, 200 points, 1 square and a total of 700.
-unfoldable pub case12 : Text
-unfolding textOf plain
-case12 =
-    textOf plain
-    ("[QSORecords;5]"
+unfoldable pub case12Records : List String
+case12Records =
+    "[QSORecords;5]"
     ∷ "240302;1401;DK1AA;1;59;001;59;004;;JO40AA;120;;N;N;"
     ∷ "240302;1405;OZ1BB;1;59;002;59;010;;JO40BC;80;;;N;"
     ∷ "240302;1410;ERROR;;;003;;;;;0;;;;"
     ∷ "240302;1412;DK1AA;2;599;004;599;009;;JO40AA;120;;;;"
     ∷ "240302;1420;SM5CC;1;53;005;;;;;0;;;;"
-    ∷ [])
+    ∷ []
+
+unfoldable pub case12 : Text
+unfolding textOf plain case12Records
+case12 = textOf plain case12Records
 
 unfoldable pub case12Written : Text
 unfolding textOf opening
@@ -176,6 +179,7 @@ readingCases =
     ∷ reads 2 38 0 0 (lined (take 37 plain) ++ bytes "[Remarks]")
     ∷ reads 2 39 0 0 (textOf plain [])
     ∷ reads 2 40 0 0 (textOf plain ("a remark" ∷ []))
+    ∷ reads 2 40 0 0 (textOf plain ("[qsorecords;0]" ∷ []))
     ∷ reads 2 39 0 0 (textOf plain [] ++ replicate 76 65 ++ bytes "\r\n")
     ∷ reads 2 40 0 0 (textOf plain ("[QSORecords;1]" ∷ []) ++ replicate 76 65 ++ bytes "\r\n")
     ∷ reads 0 0 0 0 (textOf plain [] ++ replicate 75 65 ++ bytes "\r\n" ++ bytes "[QSORecords;0]" ++ bytes "\r\n")
@@ -186,13 +190,17 @@ readingCases =
     ∷ reads 2 40 0 0 (textOf plain ("[QSORecords;1]" ∷ []) ++ bytes "x")
     -- 2 is told before 3, 4 and 5 of its line
     ∷ reads 2 1 0 0 (bytes "no identifier")
-    ∷ reads 2 2 0 0 (bytes "[REG1TEST;1]" ++ bytes "\r\n" ++ bytes "Tname=" ++ 10 ∷ [])
+    ∷ reads 2 2 0 0 (bytes "[REG1TEST;1]" ++ bytes "\r\n" ++ bytes "Tnane=" ++ 10 ∷ [])
     ∷ reads 2 40 0 0 (textOf plain ("[QSORecords;1]" ∷ []) ++ bytes "240230" ++ 13 ∷ [])
     -- 3
     ∷ reads 3 1 0 0 (bytes "no identifier" ++ bytes "\r\n")
-    ∷ reads 3 2 0 0 (textOf (withLine 2 "Tname=x") [])
+    ∷ reads 3 1 0 0 (bytes "[reg1test;1]" ++ bytes "\r\n")
+    ∷ reads 3 2 0 0 (textOf (withLine 2 "Tnane=x") [])
+    ∷ reads 3 2 0 0 (textOf (withLine 2 "TName:x") [])
     ∷ reads 3 21 0 0 (textOf (withLine 21 "MOpel=") [])
+    ∷ reads 3 34 0 0 (textOf (withLine 34 "CDXCc=0;0;1") [])
     ∷ reads 3 37 0 0 (textOf (withLine 37 "[Remarks]") [])
+    ∷ reads 3 38 0 0 (textOf (withLine 38 "[remarks]") [])
     ∷ reads 3 38 0 0 (textOf (withLine 38 "[QSORecords;0]") [])
     -- 4, and of two bad lines the first
     ∷ reads 4 3 0 0 (textOf (withLine 3 "TDate=20240302") [])
@@ -250,6 +258,74 @@ lendingCases =
     ∷ case (isViewed 2 case12) (0 ∷ 0 ∷ 0 ∷ 42 ∷ bytes "20240302;20240303")
     ∷ case (isViewed 5 case12) (0 ∷ 0 ∷ 0 ∷ 95 ∷ [])
     ∷ case (isViewed 36 emptyLog) (0 ∷ 0 ∷ 0 ∷ 414 ∷ bytes "OZ1BB;JO40BC;80")
+    ∷ []
+
+-- W1: the log of case 12 as old programs spell its keywords, and with every letter of every keyword in its other case.
+unfoldable pub oldHeader : List Text
+unfolding plain
+oldHeader =
+    set (set (set (set (set (set plain 26 (bytes "SAnth=14;41"))
+    27 (bytes "CQSOS=0;1"))
+    31 (bytes "CEXcs=0;0;1"))
+    1 (bytes "tnAME=Spring contest"))
+    20 (bytes "mope1="))
+    36 (bytes "CODXc=OZ1BB;JO40BC;80")
+
+unfoldable pub oldCase12 : Text
+unfolding textOf oldHeader case12Records
+oldCase12 = textOf oldHeader case12Records
+
+unfoldable pub oldStruck : Text
+unfolding textOf oldHeader case12Records
+oldStruck = textOf oldHeader ("[QSORecords;4]" ∷ drop 2 case12Records)
+
+abbrev otherCase : Text → Text
+otherCase l = turned (take 5 l) ++ drop 5 l
+
+unfoldable pub turnedCase12 : Text
+unfolding textOf plain turned case12Records
+turnedCase12 = textOf (take 1 plain ++ map otherCase (take 36 (drop 1 plain)) ++ drop 37 plain) case12Records
+
+unfoldable pub case12Unclaimed : Text
+unfolding textOf opening
+case12Unclaimed =
+    textOf (opening (";1" ∷ "" ∷ ";500;1" ∷ "" ∷ ";0;1" ∷ "" ∷ ";0;1" ∷ "" ∷ "" ∷ []))
+    ("[QSORecords;5]"
+    ∷ "240302;1401;DK1AA;1;59;001;59;004;;JO40AA;;;;;"
+    ∷ "240302;1405;OZ1BB;1;59;002;59;010;;JO40BC;;;;;"
+    ∷ "240302;1410;ERROR;;;003;;;;;;;;;"
+    ∷ "240302;1412;DK1AA;2;599;004;599;009;;JO40AA;;;;;"
+    ∷ "240302;1420;SM5CC;1;53;005;;;;;;;;;"
+    ∷ [])
+
+-- They are read as they are spelt, come to what case 12 comes to, and are written back in the listed spelling; a strike leaves the spelling.
+unfoldable pub oldSpellingCases : List Case
+unfolding case12 case12Written case12Unclaimed oldCase12 oldStruck turnedCase12 emptyLog
+oldSpellingCases =
+    reads 0 0 0 5 oldCase12
+    ∷ reads 0 0 0 5 turnedCase12
+    ∷ case (isLog oldCase12) (1 ∷ oldCase12)
+    ∷ case (isLog turnedCase12) (1 ∷ turnedCase12)
+    ∷ case (respells case12) (0 ∷ [])
+    ∷ case (respells oldCase12) (6 ∷ [])
+    ∷ case (respells turnedCase12) (36 ∷ [])
+    ∷ case (respells (oldCase12 ++ bytes "x")) (0 ∷ [])
+    ∷ case (isJudged 5 oldCase12) (0 ∷ 0 ∷ 0 ∷ 96 ∷ 64 ∷ 3 ∷ 2 ∷ 1 ∷ [])
+    ∷ case (comesTo oldCase12) (2 ∷ 1 ∷ 1 ∷ 1 ∷ 200 ∷ 1 ∷ 0 ∷ 2 ∷ 500 ∷ 0 ∷ 0 ∷ 700 ∷ [])
+    ∷ case (comesTo turnedCase12) (2 ∷ 1 ∷ 1 ∷ 1 ∷ 200 ∷ 1 ∷ 0 ∷ 2 ∷ 500 ∷ 0 ∷ 0 ∷ 700 ∷ [])
+    ∷ case (isShown oldCase12) (bytes "QSOS 2\nPOINTS 200\nWWLS 1\nEXCHANGES 0\nDXCCS 2\nTOTAL 700\n")
+    ∷ case (isWritten 65535 oldCase12) (0 ∷ 0 ∷ 0 ∷ case12Written)
+    ∷ case (isWritten (length case12Written) turnedCase12) (0 ∷ 0 ∷ 0 ∷ case12Written)
+    ∷ case (isUnclaimed case12) case12Unclaimed
+    ∷ case (isUnclaimed oldCase12) case12Unclaimed
+    ∷ case (isStruckTo first oldCase12) oldStruck
+    ∷ case (isStruck first oldCase12) (700 ∷ 96 ∷ 3 ∷ 0 ∷ 1 ∷ [])
+    ∷ case (isWrittenAndStruck first oldCase12) (580 ∷ 96 ∷ 3 ∷ 1 ∷ 1 ∷ [])
+    ∷ case (isViewed 1 oldCase12) (0 ∷ 0 ∷ 0 ∷ 20 ∷ bytes "Spring contest")
+    ∷ case (isViewed 36 oldCase12) (0 ∷ 0 ∷ 0 ∷ 414 ∷ bytes "OZ1BB;JO40BC;80")
+    ∷ map (λ k. case (spellsAsListed k oldCase12) (1 ∷ [])) (2 ∷ 3 ∷ 19 ∷ 21 ∷ 25 ∷ 28 ∷ 30 ∷ 32 ∷ 35 ∷ [])
+    ++ map (λ k. case (spellsAsListed k oldCase12) (0 ∷ [])) (0 ∷ 1 ∷ 20 ∷ 26 ∷ 27 ∷ 31 ∷ 36 ∷ 37 ∷ [])
+    ++ case (spellsAsListed 1 (bytes "x")) (0 ∷ [])
     ∷ []
 
 -- Case 9: a locator of six characters and one of four in one square; an empty one is in none, and an exchange is new once.
@@ -559,14 +635,40 @@ samenessCases =
 
 -- A log as a value: what makes a valid one invalid.
 abbrev withArguments : (List Text → List Text) → Log → Log
-withArguments change log = record { arguments = change (log .arguments); remarks = log .remarks; records = log .records }
+withArguments change log =
+    record {
+      keywords = log .keywords;
+      arguments = change (log .arguments);
+      remarks = log .remarks;
+      records = log .records;
+    }
+
+abbrev withKeywords : (List Text → List Text) → Log → Log
+withKeywords change log =
+    record {
+      keywords = change (log .keywords);
+      arguments = log .arguments;
+      remarks = log .remarks;
+      records = log .records;
+    }
 
 abbrev withRemarks : List Text → Log → Log
-withRemarks remarks log = record { arguments = log .arguments; remarks = remarks; records = log .records }
+withRemarks remarks log =
+    record {
+      keywords = log .keywords;
+      arguments = log .arguments;
+      remarks = remarks;
+      records = log .records;
+    }
 
 abbrev withRecords : List Text → Log → Log
 withRecords records log =
-    record { arguments = log .arguments; remarks = log .remarks; records = map (λ l. qsoOf (parts l)) records }
+    record {
+      keywords = log .keywords;
+      arguments = log .arguments;
+      remarks = log .remarks;
+      records = map (λ l. qsoOf (parts l)) records;
+    }
 
 unfoldable pub valueCases : List Case
 unfolding emptyLog aRecord
@@ -580,6 +682,12 @@ valueCases =
     ∷ case (isValidWith (withArguments (λ ts. set ts 0 (128 ∷ []))) emptyLog) (0 ∷ [])
     ∷ case (isValidWith (withArguments (λ ts. take 35 ts)) emptyLog) (0 ∷ [])
     ∷ case (isValidWith (withArguments (λ ts. ts ++ bytes "x" ∷ [])) emptyLog) (0 ∷ [])
+    ∷ case (isValidWith (withKeywords (λ ws. set ws 0 (bytes "tNaMe"))) emptyLog) (1 ∷ [])
+    ∷ case (isValidWith (withKeywords (λ ws. set ws 0 (bytes "TNane"))) emptyLog) (0 ∷ [])
+    ∷ case (isValidWith (withKeywords (λ ws. set ws 0 (bytes "TNam"))) emptyLog) (0 ∷ [])
+    ∷ case (isValidWith (withKeywords (λ ws. set ws 35 (bytes "CODXCs"))) emptyLog) (0 ∷ [])
+    ∷ case (isValidWith (withKeywords (λ ws. take 35 ws)) emptyLog) (0 ∷ [])
+    ∷ case (isValidWith (withKeywords (λ ws. ws ++ bytes "x" ∷ [])) emptyLog) (0 ∷ [])
     ∷ case (isValidWith (withRemarks (replicate 75 65 ∷ bytes "[QSORecords" ∷ [] ∷ [])) emptyLog) (1 ∷ [])
     ∷ case (isValidWith (withRemarks (replicate 76 65 ∷ [])) emptyLog) (0 ∷ [])
     ∷ case (isValidWith (withRemarks ((31 ∷ []) ∷ [])) emptyLog) (0 ∷ [])

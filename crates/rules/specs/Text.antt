@@ -4,7 +4,7 @@ use Prim.Native.Nat.{ℕ, zero, suc, _+_, _*_, _-_, _/_, _%_}
 use Prim.Native.Char.{code}
 use Prim.Native.String.{String, [] as []ˢ, _∷_ as _∷ˢ_}
 use mathlib.Core.Bool.{Bool, true, false, cond, not, _&&_, _||_}
-use mathlib.Core.List.{List, [], _∷_, _++_}
+use mathlib.Core.List.{List, [], _∷_, _++_, map}
 use lib.Dec.{leb, ltb, eqb}
 use lib.ListN.{length}
 
@@ -52,6 +52,15 @@ same [] [] = true
 same [] (d ∷ t) = false
 same (c ∷ s) [] = false
 same (c ∷ s) (d ∷ t) = eqb c d && same s t
+
+-- The small letter of a capital; every other character is its own.
+abbrev pub lower : ℕ → ℕ
+lower c = cond (capital c) (c + 32) c
+
+-- The two texts are the same but for the case of their letters.
+unfoldable pub sameButCase : Text → Text → Bool
+unfolding same
+sameButCase s t = same (map lower s) (map lower t)
 
 -- The second text begins with the first.
 unfoldable pub begins : Text → Text → Bool

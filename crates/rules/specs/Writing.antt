@@ -12,7 +12,7 @@ use Rattle.rules.specs.Text.{Text, bytes, same, digits, parts, joined}
 use Rattle.rules.specs.Rules.{Rules}
 use Rattle.rules.specs.Fields.{Qso, newMark, duplicateMark}
 use Rattle.rules.specs.Arguments.{Entry, entries}
-use Rattle.rules.specs.Log.{Log}
+use Rattle.rules.specs.Log.{Log, keywordsOf}
 use Rattle.rules.specs.Judging.{is, zeroTotals, verdictsOfLog, totalsOfLog}
 
 -- The first of several arguments becomes this text.
@@ -91,16 +91,18 @@ writtenRecords [] qs = qs
 writtenRecords (v ∷ vs) [] = []
 writtenRecords (v ∷ vs) (q ∷ qs) = writtenRecord v q ∷ writtenRecords vs qs
 
+-- W1: "Writing back uses the listed spelling, which joins the named changes."
 unfoldable pub writtenBack : Rules → Log → Log
-unfolding writtenArguments claims digits entries totalsOfLog writtenRecords verdictsOfLog
+unfolding keywordsOf writtenArguments claims digits entries totalsOfLog writtenRecords verdictsOfLog
 writtenBack R log =
     record {
+      keywords = keywordsOf entries;
       arguments = writtenArguments (claims digits (totalsOfLog R log)) entries (log .arguments);
       remarks = log .remarks;
       records = writtenRecords (verdictsOfLog R log) (log .records);
     }
 
--- What of a log writing back may not change: the log with nothing in the places of the claims, and in the fields 11 to 15.
+-- What of a log writing back may not change: the log in the listed spelling, with nothing in the places of the claims and in the fields 11 to 15.
 unfoldable pub unclaimedRecord : Qso → Qso
 unclaimedRecord q =
     record {
@@ -122,9 +124,10 @@ unclaimedRecord q =
     }
 
 unfoldable pub unclaimed : Log → Log
-unfolding writtenArguments claims zeroTotals entries unclaimedRecord
+unfolding keywordsOf writtenArguments claims zeroTotals entries unclaimedRecord
 unclaimed log =
     record {
+      keywords = keywordsOf entries;
       arguments = writtenArguments (claims (λ n. []) zeroTotals) entries (log .arguments);
       remarks = log .remarks;
       records = map unclaimedRecord (log .records);

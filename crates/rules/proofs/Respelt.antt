@@ -1,0 +1,198 @@
+-- A valid log whose keywords are spelt otherwise, but for nothing more than the case of their letters, is valid, is judged alike and is written
+-- back alike; and how many are spelt otherwise is told rightly.
+-- Assumes nothing.
+use Prim.Native.Nat.{ℕ, _+_, _≤_}
+use native.Mathlib.Omega.{arith}
+use mathlib.Core.Path.{_≡_, refl, sym, ap, ap₂, _∙_}
+use mathlib.Core.Bool.{Bool, true, false, cond, _&&_}
+use mathlib.Core.List.{List, [], _∷_, _++_, map, append-assoc}
+use lib.Dec.{leb}
+use lib.ListN.{length, length-append}
+use borrow.Author.Tests.{leb-true, le-leb}
+use Rattle.rules.specs.Text.{Text, bytes, all, allowed, capital, lower, sameButCase}
+use Rattle.rules.specs.Rules.{Rules}
+use Rattle.rules.specs.Arguments.{Entry, entries, every}
+use Rattle.rules.specs.Log.{Log, argument, identifier, remarksLine, countLine, keywordStart, keywordLines, respelt, recordLine, linesOf, ended, render, lineRule, keywordRules, valid}
+use Rattle.rules.specs.Judging.{declared, verdictsOfLog, totalsOfLog}
+use Rattle.rules.specs.Writing.{writtenBack}
+use Rattle.rules.specs.Reading.{accepted, read}
+use Rattle.rules.specs.Answers.{respeltOfReading}
+use Rattle.rules.specs.Demands.{spelt, EitherCaseIsTakenAlike, SpellingsAreCounted}
+use Rattle.rules.proofs.Tests.{so, holds, never, and-l, and-r, and-i}
+use Rattle.rules.proofs.TextLaws.{same-eq}
+use Rattle.rules.proofs.SpellingLaws.{case-length, length-start, spelling-count, none-respelt, respelt-none, respelt-most}
+use Rattle.rules.proofs.LogLaws.{length-ended-more, length-ended-append}
+use Rattle.rules.proofs.Format.{Rightly, valid-of, of-valid, render-law, accepted-when-written}
+
+-- # A spelling is as long as any other, and has as many allowed characters
+
+lower-allowed : (c : ℕ) → allowed (lower c) ≡ allowed c
+lower-allowed c = by (capital c) refl
+  where
+    by : (b : Bool) → capital c ≡ b → allowed (cond b (c + 32) c) ≡ allowed c
+    by true e =
+        let low : 65 ≤ c = leb-true 65 c (and-l (leb 65 c) (leb c 90) e) in
+        let high : c ≤ 90 = leb-true c 90 (and-r (leb 65 c) (leb c 90) e) in
+        and-i (le-leb 32 (c + 32) (omega arith)) (le-leb (c + 32) 127 (omega arith))
+        ∙ sym (and-i (le-leb 32 c (omega arith)) (le-leb c 127 (omega arith)))
+    by false e = refl
+
+all-lower : (s : Text) → all allowed (map lower s) ≡ all allowed s
+unfolding all
+all-lower [] = refl
+all-lower (c ∷ s) = rw (lower-allowed c, all-lower s)
+
+case-allowed : (s t : Text) → sameButCase s t ≡ true → all allowed s ≡ all allowed t
+unfolding sameButCase
+case-allowed s t e = sym (all-lower s) ∙ ap (all allowed) (same-eq (map lower s) (map lower t) e) ∙ all-lower t
+
+all-split : (f : ℕ → Bool) (s t : Text) → all f (s ++ t) ≡ (all f s && all f t)
+unfolding all
+all-split f [] t = refl
+all-split f (c ∷ s) t = by (f c) (all-split f s t)
+  where
+    by : (b : Bool) → all f (s ++ t) ≡ (all f s && all f t) → (b && all f (s ++ t)) ≡ (b && all f s && all f t)
+    by true e = e
+    by false e = refl
+
+every-split : (f : Text → Bool) (a b : List Text) → every f (a ++ b) ≡ (every f a && every f b)
+unfolding every
+every-split f [] b = refl
+every-split f (t ∷ a) b = by (f t) (every-split f a b)
+  where
+    by : (c : Bool) → every f (a ++ b) ≡ (every f a && every f b) → (c && every f (a ++ b)) ≡ (c && every f a && every f b)
+    by true e = e
+    by false e = refl
+
+-- Two spellings of a keyword, in front of the same argument.
+module _ (e : Entry) (v w t : Text) (a : sameButCase (e .keyword) v ≡ true) (b : sameButCase (e .keyword) w ≡ true) where
+  line-as-long : length (keywordStart v ++ t) ≡ length (keywordStart w ++ t)
+  line-as-long =
+      length-append (keywordStart v) t
+      ∙ omega (arith, length-start v, length-start w, case-length (e .keyword) v a, case-length (e .keyword) w b)
+      ∙ sym (length-append (keywordStart w) t)
+
+  line-allowed : all allowed (keywordStart v ++ t) ≡ all allowed (keywordStart w ++ t)
+  unfolding keywordStart
+  line-allowed =
+      let alike : all allowed v ≡ all allowed w = sym (case-allowed (e .keyword) v a) ∙ case-allowed (e .keyword) w b in
+      rw (all-split allowed (v ++ bytes "=") t, all-split allowed v (bytes "="), all-split allowed (w ++ bytes "=") t, all-split allowed w (bytes "="), alike)
+
+  line-alike : (R : Rules) → lineRule R (keywordStart v ++ t) ≡ lineRule R (keywordStart w ++ t)
+  unfolding lineRule
+  line-alike R = ap₂ (λ (n : ℕ) (c : Bool). leb n (R .longestLine) && c) line-as-long line-allowed
+
+lines-alike : (R : Rules) (es : List Entry) (vs ws ts : List Text) →
+    keywordRules es vs ≡ true →
+    keywordRules es ws ≡ true →
+    (every (lineRule R) (keywordLines vs ts) ≡ every (lineRule R) (keywordLines ws ts))
+    × (length (ended (keywordLines vs ts)) ≡ length (ended (keywordLines ws ts)))
+unfolding keywordRules keywordLines every
+lines-alike R [] [] [] ts a b = (refl, refl)
+lines-alike R [] [] (w ∷ ws) ts a b = never b
+lines-alike R [] (v ∷ vs) ws ts a b = never a
+lines-alike R (e ∷ es) [] ws ts a b = never a
+lines-alike R (e ∷ es) (v ∷ vs) [] ts a b = never b
+lines-alike R (e ∷ es) (v ∷ vs) (w ∷ ws) [] a b = (refl, refl)
+lines-alike R (e ∷ es) (v ∷ vs) (w ∷ ws) (t ∷ ts) a b =
+    let x = and-l (sameButCase (e .keyword) v) (keywordRules es vs) a in
+    let y = and-l (sameButCase (e .keyword) w) (keywordRules es ws) b in
+    let more = lines-alike R es vs ws ts (and-r (sameButCase (e .keyword) v) (keywordRules es vs) a) (and-r (sameButCase (e .keyword) w) (keywordRules es ws) b) in (
+      ap₂ (λ (c d : Bool). c && d) (line-alike e v w t x y R) (more .0),
+      length-ended-more (keywordStart v ++ t) (keywordLines vs ts)
+          ∙ omega (arith, line-as-long e v w t x y, more .1)
+          ∙ sym (length-ended-more (keywordStart w ++ t) (keywordLines ws ts)),
+    )
+
+-- # The log
+
+module _ (R : Rules) (log : Log) (ws : List Text) where
+  -- The lines of the two logs: the identifier, the keyword lines, and what stands behind them.
+  behind : List Text
+  behind = remarksLine ∷ log .remarks ++ countLine (length (log .records)) ∷ map recordLine (log .records)
+
+  lines-are : linesOf log ≡ identifier ∷ (keywordLines (log .keywords) (log .arguments) ++ behind)
+  unfolding linesOf behind
+  lines-are =
+      ap {B = List Text} (λ r. identifier ∷ r)
+      (append-assoc (keywordLines (log .keywords) (log .arguments)) (remarksLine ∷ log .remarks) (countLine (length (log .records)) ∷ map recordLine (log .records)))
+
+  spelt-lines-are : linesOf (spelt ws log) ≡ identifier ∷ (keywordLines ws (log .arguments) ++ behind)
+  unfolding linesOf behind
+  spelt-lines-are =
+      ap {B = List Text} (λ r. identifier ∷ r)
+      (append-assoc (keywordLines ws (log .arguments)) (remarksLine ∷ log .remarks) (countLine (length (log .records)) ∷ map recordLine (log .records)))
+
+  module _ (a : keywordRules entries (log .keywords) ≡ true) (b : keywordRules entries ws ≡ true) where
+    alike : (every (lineRule R) (keywordLines ws (log .arguments)) ≡ every (lineRule R) (keywordLines (log .keywords) (log .arguments))) × (length (ended (keywordLines ws (log .arguments))) ≡ length (ended (keywordLines (log .keywords) (log .arguments))))
+    alike = lines-alike R entries ws (log .keywords) (log .arguments) b a
+
+    rules-alike : every (lineRule R) (linesOf (spelt ws log)) ≡ every (lineRule R) (linesOf log)
+    unfolding every
+    rules-alike =
+        rw (lines-are, spelt-lines-are, every-split (lineRule R) (keywordLines ws (log .arguments)) behind, every-split (lineRule R) (keywordLines (log .keywords) (log .arguments)) behind, alike .0)
+
+    as-long : length (render (spelt ws log)) ≡ length (render log)
+    as-long =
+        ap length (render-law (spelt ws log) ∙ ap ended spelt-lines-are)
+        ∙ omega (
+          arith,
+          length-ended-more identifier (keywordLines ws (log .arguments) ++ behind),
+          length-ended-more identifier (keywordLines (log .keywords) (log .arguments) ++ behind),
+          length-ended-append (keywordLines ws (log .arguments)) behind,
+          length-ended-append (keywordLines (log .keywords) (log .arguments)) behind,
+          alike .1,
+        )
+        ∙ sym (ap length (render-law log ∙ ap ended lines-are))
+
+  -- A log that is valid is so in any spelling that is read.
+  pub spelt-rightly : Rightly R log → keywordRules entries ws ≡ true → Rightly R (spelt ws log)
+  spelt-rightly r b =
+      record {
+        short = rw (as-long (r .spellings) b) (r .short);
+        lineRules = rules-alike (r .spellings) b ∙ r .lineRules;
+        spellings = b;
+        rulesOfArguments = r .rulesOfArguments;
+        remarkRules = r .remarkRules;
+        fits = r .fits;
+        rules = r .rules;
+      }
+
+  pub spelt-verdicts : verdictsOfLog R (spelt ws log) ≡ verdictsOfLog R log
+  unfolding verdictsOfLog
+  spelt-verdicts = refl
+
+  pub spelt-totals : totalsOfLog R (spelt ws log) ≡ totalsOfLog R log
+  unfolding totalsOfLog declared argument
+  spelt-totals = refl
+
+  pub spelt-written : writtenBack R (spelt ws log) ≡ writtenBack R log
+  unfolding writtenBack verdictsOfLog totalsOfLog declared argument
+  spelt-written = refl
+
+pub either-case : (R : Rules) → EitherCaseIsTakenAlike R
+either-case R s log ws e b =
+    let v = accepted-when-written R s log .0 e in
+    let r = spelt-rightly R log ws (of-valid R log (so (valid R log) (v .0))) (so (keywordRules entries ws) b) in
+    record {
+      reads = accepted-when-written R (render (spelt ws log)) (spelt ws log) .1 (holds (valid-of R (spelt ws log) r), refl);
+      sameVerdicts = spelt-verdicts R log ws;
+      sameTotals = spelt-totals R log ws;
+      writtenAlike = spelt-written R log ws;
+    }
+
+counted : (s : Text) (R : Rules) (log : Log) → read R s ≡ accepted log → respeltOfReading (read R s) ≡ respelt entries (log .keywords)
+unfolding respeltOfReading
+counted s R log e = rw e
+
+pub spellings-counted : (R : Rules) → SpellingsAreCounted R
+spellings-counted R s log e =
+    let v = accepted-when-written R s log .0 e in
+    let n = spelling-count entries (log .keywords) (of-valid R log (so (valid R log) (v .0)) .spellings) in
+    let c = counted s R log e in (
+      (
+        λ z. respelt-none entries (log .keywords) n (sym c ∙ z),
+        λ l. c ∙ ap (respelt entries) l ∙ none-respelt entries,
+      ),
+      rw c (unfold entries in respelt-most entries (log .keywords)),
+    )
