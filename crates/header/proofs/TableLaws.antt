@@ -4,20 +4,21 @@ use Prim.Native.Nat.{ℕ, zero, suc, _≤_, _<_}
 use native.Mathlib.Nat.{le-of-suc-le-suc, not-suc-le-zero}
 use mathlib.Core.Bool.{Bool, true, false, cond}
 use mathlib.Core.List.{List, [], _∷_, map}
-use mathlib.Core.Path.{_≡_, refl, sym, ap, _∙_}
+use mathlib.Core.Path.{_≡_, refl, sym, ap, ap₂, _∙_}
 use lib.Dec.{T, eqb, eqb→eq}
-use lib.ListN.{length, drop, getD, drop-of-length-le}
+use lib.ListN.{length, drop, getD, replicate, drop-of-length-le}
 use Rattle.rules.specs.Arguments.{Entry, entries}
-use Rattle.rules.specs.Log.{keywordStart}
-use Rattle.rules.specs.Text.{Text, begins}
+use Rattle.rules.specs.Log.{keywordStart, keywordsOf}
+use Rattle.rules.specs.Text.{Text, begins, lower}
 use Rattle.header.specs.declared.KeywordRead.{KeywordRead}
 use Rattle.header.specs.declared.KeywordRead.the-variants as KeywordRead
-use Rattle.header.specs.Header.{firstKeyword, keywordAt}
+use Rattle.header.specs.Header.{firstKeyword, keywordAt, listedAt}
+use Rattle.header.proofs.WordLaws.{has-keyword-by}
 
 -- The words, by the paper.
 abbrev pub words : List Text
-unfolding entries keywordStart
-words = map keywordStart entries
+unfolding entries keywordsOf keywordStart
+words = map keywordStart (keywordsOf entries)
 
 -- Every word of a list has six characters.
 abbrev sixes : List Text → Bool
@@ -38,25 +39,57 @@ six (w ∷ ws) (suc k) d t h = six ws k d (later (eqb (length w) 6) t) (le-of-su
     later false u = absurd u
 
 pub word-length : (k : ℕ) (d : Text) → k < 36 → 6 ≡ length (getD words k d)
-unfolding entries keywordStart
+unfolding entries keywordsOf keywordStart
 word-length k d h = six words k d tt h
 
--- The word at a place decides whether the line begins with the keyword that is due there.
+-- The word at a place decides how the line begins where that keyword is due: by a test of its bytes, and one of its letters.
+abbrev told : Bool → Bool → KeywordRead
+told listed has =
+    let otherwise = cond has KeywordRead.Respelt KeywordRead.Differs in
+    cond listed KeywordRead.Listed otherwise
+
 picked : (es : List Entry) (k : ℕ) (d line : Text) →
     k < length es →
-    cond (begins (getD (map keywordStart es) k d) line) KeywordRead.Listed KeywordRead.Differs ≡ firstKeyword (drop k es) line
-unfolding firstKeyword
+    let word = getD (map keywordStart (keywordsOf es)) k d in
+    told (begins word line) (begins (map lower word) (map lower line)) ≡ firstKeyword (drop k es) line
+unfolding firstKeyword keywordsOf
 picked [] k d line h = absurd (not-suc-le-zero h)
-picked (e ∷ es) zero d line h = refl
+picked (e ∷ es) zero d line h = ap (told (begins (keywordStart (e .keyword)) line)) (has-keyword-by e line)
 picked (e ∷ es) (suc k) d line h = picked es k d line (le-of-suc-le-suc h)
 
-pub keyword-known : (k : ℕ) (d line : Text) (b : Bool) →
-    k < 36 →
-    begins (getD words k d) line ≡ b →
-    cond b KeywordRead.Listed KeywordRead.Differs ≡ keywordAt k line
-unfolding keywordAt entries
-keyword-known k d line b h e = sym (ap (λ (t : Bool). cond t KeywordRead.Listed KeywordRead.Differs) e) ∙ picked entries k d line h
+module _ (k : ℕ) (d line : Text) (h : k < 36) where
+  known : (a b : Bool) → begins (getD words k d) line ≡ a → begins (map lower (getD words k d)) (map lower line) ≡ b → told a b ≡ keywordAt k line
+  unfolding keywordAt entries words
+  known a b e f = sym (ap₂ told e f) ∙ picked entries k d line h
+
+  pub keyword-listed : begins (getD words k d) line ≡ true → KeywordRead.Listed ≡ keywordAt k line
+  keyword-listed e = known true (begins (map lower (getD words k d)) (map lower line)) e refl
+
+  pub keyword-respelt : begins (getD words k d) line ≡ false → begins (map lower (getD words k d)) (map lower line) ≡ true → KeywordRead.Respelt ≡ keywordAt k line
+  keyword-respelt e f = known false true e f
+
+  pub keyword-differs : begins (getD words k d) line ≡ false → begins (map lower (getD words k d)) (map lower line) ≡ false → KeywordRead.Differs ≡ keywordAt k line
+  keyword-differs e f = known false false e f
 
 pub keyword-beyond : (k : ℕ) (line : Text) → 36 ≤ k → KeywordRead.Differs ≡ keywordAt k line
 unfolding keywordAt entries firstKeyword
 keyword-beyond k line h = rw (drop-of-length-le entries {i = k} h)
+
+-- The word itself, and noughts beyond the last.
+pub listed-within : (k : ℕ) → k < 36 → (d : Text) → getD words k d ≡ listedAt k
+unfolding listedAt entries keywordsOf keywordStart
+listed-within k h d = other words k d (replicate 6 0) h
+  where
+    other : (ws : List Text) (k : ℕ) (c d : Text) → k < length ws → getD ws k c ≡ getD ws k d
+    other [] k c d h = absurd (not-suc-le-zero h)
+    other (w ∷ ws) zero c d h = refl
+    other (w ∷ ws) (suc k) c d h = other ws k c d (le-of-suc-le-suc h)
+
+pub listed-beyond : (k : ℕ) → 36 ≤ k → replicate 6 0 ≡ listedAt k
+unfolding listedAt entries keywordsOf keywordStart
+listed-beyond k h = sym (beyond words k h)
+  where
+    beyond : (ws : List Text) (k : ℕ) → length ws ≤ k → getD ws k (replicate 6 0) ≡ replicate 6 0
+    beyond [] k h = refl
+    beyond (w ∷ ws) zero h = absurd (not-suc-le-zero h)
+    beyond (w ∷ ws) (suc k) h = beyond ws k (le-of-suc-le-suc h)

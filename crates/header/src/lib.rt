@@ -2,13 +2,13 @@
 
 ghost use Prim.Native.Nat.{_<_};
 ghost use mathlib.Core.Bool.{cond};
-ghost use mathlib.Core.List.{[]};
+ghost use mathlib.Core.List.{[], map};
 ghost use mathlib.Core.Path.{_≡_};
 ghost use lib.ListN.{getD};
 ghost use Rattle.rules.specs.Arguments.{meets, twoDates, aCall, emptyOrCall, emptyOrCalls, aLocator, anExchange, aBand, countAndMultiplier, countBonusMultiplier, claimedPoints, claimedBonus, claimedTotal, bestContact};
 ghost use Rattle.rules.specs.Rules.{base, bandNames};
-ghost use Rattle.rules.specs.Text.{same, begins};
-ghost use Rattle.header.specs.Header.{keywordAt, bandOf, argumentOf};
+ghost use Rattle.rules.specs.Text.{same, begins, lower};
+ghost use Rattle.header.specs.Header.{keywordAt, listedAt, bandOf, argumentOf};
 use fields::CallRead;
 use fields::ExchangeRead;
 use fields::LocatorRead;
@@ -102,9 +102,37 @@ pub fn same_text(a: &[u8], b: &[u8]) -> bool
     begins_with(a, b)
 }
 
-// Whether a line begins with the keyword that is due and its `=`.
+// The small letter of a capital; every other byte is its own.
+pub fn lower(b: u8) -> u8
+    ensures { λ r. ⌜ r ≡ lower b ⌝ }
+{
+    if fields::is_capital(b) {
+        return b + 32;
+    }
+    b
+}
+
+// The text begins with the word, but for the case of letters.
+pub fn begins_in_any_case(word: &[u8], s: &[u8]) -> bool
+    ensures { λ r. ⌜ r ≡ begins (map lower (now (word .entry))) (map lower (now (s .entry))) ⌝ }
+{
+    if s.len() < word.len() {
+        return false;
+    }
+    let mut i = 0;
+    while i < word.len() {
+        if lower(word[i]) != lower(s[i]) {
+            return false;
+        }
+        i += 1;
+    }
+    true
+}
+
+// Whether a line begins with the keyword that is due and its `=`: as it is listed, with letters in their other case, or not at all.
 pub enum KeywordRead {
     Listed,
+    Respelt,
     Differs,
 }
 
@@ -117,7 +145,21 @@ pub fn keyword(k: usize, line: &[u8]) -> KeywordRead
     if begins_with(&KEYWORDS[k], line) {
         return KeywordRead::Listed;
     }
+    // asked only where bytes differ, which is rare
+    if begins_in_any_case(&KEYWORDS[k], line) {
+        return KeywordRead::Respelt;
+    }
     KeywordRead::Differs
+}
+
+// The keyword that comes after k others, as it is listed, with its `=`; noughts where there is none.
+pub fn listed(k: usize) -> [u8; 6]
+    ensures { λ r. ⌜ r ≡ listedAt k ⌝ }
+{
+    if 36 <= k {
+        return [0u8; 6];
+    }
+    KEYWORDS[k]
 }
 
 // The text is the band's name at this place of the table, compared whole.
