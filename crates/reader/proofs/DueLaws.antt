@@ -3,10 +3,11 @@
 use Prim.Native.Nat.{ℕ, suc, _+_, _-_, _≤_, _<_}
 use native.Mathlib.Omega.{arith}
 use native.Mathlib.Decide.{decLt}
-use mathlib.Core.Path.{_≡_, refl, sym, ap, _∙_}
+use mathlib.Core.Path.{_≡_, refl, sym, ap, ap₂, _∙_}
 use mathlib.Core.Bool.{Bool, true, false, cond, true≢false}
 use mathlib.Core.List.{[], _∷_}
-use lib.ListN.{length, take, drop, getD, length-drop, List·getD-map, drop-of-length-le}
+use lib.Dec.{ltb}
+use lib.ListN.{length, take, drop, getD, length-append, length-drop, List·getD-map, drop-of-length-le}
 use lib.Seq.{drop-cons, take-all}
 use Rattle.rules.specs.Text.{Text, same, begins}
 use Rattle.rules.specs.Rules.{Rules}
@@ -15,9 +16,11 @@ use Rattle.rules.specs.declared.Due.the-variants as Due
 use Rattle.rules.specs.declared.Next.{Next}
 use Rattle.rules.specs.declared.Next.the-variants as Next
 use Rattle.rules.specs.Arguments.{Entry, entries, anything, meets}
-use Rattle.rules.specs.Log.{identifier, remarksLine, keywordStart, countStart}
-use Rattle.rules.specs.Reading.{RecordRule, keeps, breaks, recordRule, recordsDue, whole, argumentOn, keywordLine, keywordDue, countRule, afterRecord, step}
-use Rattle.rules.proofs.Tests.{picked, passed}
+use Rattle.rules.specs.Log.{identifier, remarksLine, keywordStart, keywordsOf, countStart}
+use Rattle.rules.specs.Reading.{RecordRule, keeps, breaks, recordRule, recordsDue, whole, spellingOn, argumentOn, hasKeyword, keywordLine, keywordDue, countRule, afterRecord, step}
+use borrow.Author.Tests.{le-ltb, lt-ltb}
+use Rattle.rules.proofs.Tests.{fails}
+use Rattle.rules.proofs.SpellingLaws.{case-length, length-start, keyword-has, listed-has, listed-spelt}
 use Rattle.header.specs.declared.KeywordRead.{KeywordRead}
 use Rattle.header.specs.declared.KeywordRead.the-variants as KeywordRead
 use Rattle.header.specs.declared.ArgumentRead.{ArgumentRead}
@@ -30,6 +33,8 @@ use Rattle.reader.specs.declared.RecordRead.{RecordRead}
 use Rattle.reader.specs.declared.RecordRead.the-variants as RecordRead
 use Rattle.reader.specs.Contact.{contactAt}
 use Rattle.reader.specs.Record.{recordOn, toldBy}
+use Rattle.reader.specs.Read.{afterArgument, isRespelt, respeltBy, stepOf}
+use Rattle.reader.specs.declared.Stepped.{Stepped}
 
 -- A line that has to be these words.
 module _ (words line : Text) (next : Due) where
@@ -57,37 +62,101 @@ behind n s = take-all (length s - n) (drop n s) (omega (arith, length-drop n s))
 abbrev none : Entry
 none = record { keyword = []; rule = anything }
 
-abbrev entryAt : ℕ → Entry
+abbrev pub entryAt : ℕ → Entry
 entryAt k = getD entries k none
 
 pub entries-length : length entries ≡ 36
 unfolding entries
 entries-length = refl
 
-entry-due : (k : ℕ) → k < 36 → drop k entries ≡ entryAt k ∷ drop (suc k) entries
+pub entry-due : (k : ℕ) → k < 36 → drop k entries ≡ entryAt k ∷ drop (suc k) entries
 entry-due k h = drop-cons entries k none (omega (arith, entries-length))
 
-start-six : (k : ℕ) → k < 36 → length (keywordStart (entryAt k)) ≡ 6
-unfolding entries keywordStart
-start-six k h = ap length (sym (List·getD-map keywordStart entries k none)) ∙ sym (word-length k (keywordStart none) h)
+start-six : (k : ℕ) → k < 36 → length (keywordStart ((entryAt k) .keyword)) ≡ 6
+unfolding entries keywordsOf keywordStart
+start-six k h =
+    ap (λ (w : Text). length (keywordStart w)) (sym (List·getD-map (λ (e : Entry). e .keyword) entries k none))
+    ∙ ap length (sym (List·getD-map keywordStart (keywordsOf entries) k []))
+    ∙ sym (word-length k (keywordStart []) h)
 
--- What the two readers tell of a listed keyword.
-differs-not : KeywordRead.Differs ≡ KeywordRead.Listed → ⊥
-differs-not p = let z : _≡_ {A = ℕ} 0 1 = cc in omega arith
-
-broken-not : ArgumentRead.Broken ≡ ArgumentRead.Kept → ⊥
-broken-not p = let z : _≡_ {A = ℕ} 0 1 = cc in omega arith
-
-keyword-by : (k : ℕ) (line : Text) → k < 36 → keywordAt k line ≡ cond (begins (keywordStart (entryAt k)) line) KeywordRead.Listed KeywordRead.Differs
+-- What the matcher tells, by a test of the bytes and one of the letters.
+keyword-by : (k : ℕ) (line : Text) →
+    k < 36 →
+    keywordAt k line
+    ≡ cond (begins (keywordStart ((entryAt k) .keyword)) line) KeywordRead.Listed (cond (hasKeyword (entryAt k) line) KeywordRead.Respelt KeywordRead.Differs)
 unfolding keywordAt firstKeyword
 keyword-by k line h = rw (entry-due k h)
 
-listed-within : (k : ℕ) (line : Text) → keywordAt k line ≡ KeywordRead.Listed → k < 36
-listed-within k line e = by (decLt k 36)
-  where
-    by : Dec (k < 36) → k < 36
-    by (yes h) = h
-    by (no h) = absurd (differs-not (keyword-beyond k line (omega arith) ∙ e))
+-- A keyword stands on the line, in the listed spelling or in another.
+pub record Stands (k : ℕ) (line : Text) : Type 0 where
+  pub within : k < 36
+  pub has : hasKeyword (entryAt k) line ≡ true
+
+-- The three cases, by their numbers.
+abbrev caseOf : KeywordRead → ℕ
+caseOf KeywordRead.Listed = 0
+caseOf KeywordRead.Respelt = 1
+caseOf KeywordRead.Differs = 2
+
+module _ (k : ℕ) (line : Text) where
+  abbrev word : Text
+  word = keywordStart ((entryAt k) .keyword)
+
+  stands-by : (a b : Bool) → begins word line ≡ a → hasKeyword (entryAt k) line ≡ b → (caseOf (cond a KeywordRead.Listed (cond b KeywordRead.Respelt KeywordRead.Differs)) ≡ 2 → ⊥) → hasKeyword (entryAt k) line ≡ true
+  stands-by true b e f h = listed-has (entryAt k) line e
+  stands-by false true e f h = f
+  stands-by false false e f h = absurd (h refl)
+
+  stands : {r : KeywordRead} → keywordAt k line ≡ r → (caseOf r ≡ 2 → ⊥) → Stands k line
+  stands {r} e h = by (decLt k 36)
+    where
+      by : Dec (k < 36) → Stands k line
+      by (yes w) =
+          record {
+            within = w;
+            has = stands-by (begins word line) (hasKeyword (entryAt k) line) refl refl (λ q. h (ap caseOf (sym e ∙ keyword-by k line w) ∙ q));
+          }
+      by (no w) = absurd (h (sym (ap caseOf (keyword-beyond k line (omega arith) ∙ e))))
+
+  pub stands-listed : keywordAt k line ≡ KeywordRead.Listed → Stands k line
+  stands-listed e = stands e (λ q. omega arith)
+
+  pub stands-respelt : keywordAt k line ≡ KeywordRead.Respelt → Stands k line
+  stands-respelt e = stands e (λ q. omega arith)
+
+  no-keyword : keywordAt k line ≡ KeywordRead.Differs → k < 36 → hasKeyword (entryAt k) line ≡ false
+  no-keyword e w = by (begins word line) (hasKeyword (entryAt k) line) refl (ap caseOf (sym (keyword-by k line w) ∙ e))
+    where
+      by : (a b : Bool) → hasKeyword (entryAt k) line ≡ b → caseOf (cond a KeywordRead.Listed (cond b KeywordRead.Respelt KeywordRead.Differs)) ≡ 2 → hasKeyword (entryAt k) line ≡ false
+      by true b f q = absurd (omega arith)
+      by false true f q = absurd (omega arith)
+      by false false f q = f
+
+  -- How it is spelt, where it stands there.
+  pub respelt-told : Stands k line → _≡_ {A = ℕ} (cond (isRespelt (keywordAt k line)) 1 0) (cond (same ((entryAt k) .keyword) (spellingOn (entryAt k) line)) 0 1)
+  respelt-told s =
+      ap {B = ℕ} (λ (r : KeywordRead). cond (isRespelt r) 1 0) (keyword-by k line (s .within) ∙ told)
+      ∙ by (same ((entryAt k) .keyword) (spellingOn (entryAt k) line))
+    where
+      told : cond (begins word line) KeywordRead.Listed (cond (hasKeyword (entryAt k) line) KeywordRead.Respelt KeywordRead.Differs) ≡ cond (same ((entryAt k) .keyword) (spellingOn (entryAt k) line)) KeywordRead.Listed KeywordRead.Respelt
+      told = rw (listed-spelt (entryAt k) line (s .has), s .has)
+
+      by : (b : Bool) → _≡_ {A = ℕ} (cond (isRespelt (cond b KeywordRead.Listed KeywordRead.Respelt)) 1 0) (cond b 0 1)
+      by true = refl
+      by false = refl
+
+-- A line that has its keyword is longer than that and its `=`.
+has-long : (e : Entry) (line : Text) → hasKeyword e line ≡ true → length (keywordStart (e .keyword)) ≤ length line
+has-long e line h =
+    let k = keyword-has e line h in
+    omega (
+      arith,
+      ap length (k .line),
+      length-append (keywordStart (spellingOn e line)) (argumentOn e line),
+      length-start (spellingOn e line),
+      length-start (e .keyword),
+      case-length (e .keyword) (spellingOn e line) (k .spelt),
+    )
 
 module _ (R : Rules) where
   argument-by : (k : ℕ) (t : Text) → k < 36 → argumentOf R k t ≡ cond (meets R ((entryAt k) .rule) t) ArgumentRead.Kept ArgumentRead.Broken
@@ -102,72 +171,97 @@ module _ (R : Rules) where
   unfolding keywordDue
   due-more k line h = rw (entry-due k (omega arith), entry-due (suc k) (omega arith))
 
+  -- What is due behind a keyword.
+  abbrev behindKeyword : ℕ → Due
+  behindKeyword k = cond (ltb k 35) (Due.Keyword (k + 1)) Due.Remarks
+
+  due-by : (k : ℕ) (line : Text) → k < 36 → keywordDue R (drop k entries) k line ≡ keywordLine R (entryAt k) line (behindKeyword k)
+  due-by k line h = by (decLt k 35)
+    where
+      by : Dec (k < 35) → keywordDue R (drop k entries) k line ≡ keywordLine R (entryAt k) line (behindKeyword k)
+      by (yes l) = due-more k line l ∙ ap (λ (b : Bool). keywordLine R (entryAt k) line (cond b (Due.Keyword (k + 1)) Due.Remarks)) (sym (lt-ltb k 35 l))
+      by (no l) = due-one k line (omega arith) h ∙ ap (λ (b : Bool). keywordLine R (entryAt k) line (cond b (Due.Keyword (k + 1)) Due.Remarks)) (sym (le-ltb k 35 (omega arith)))
+
   -- A keyword's line by its two tests.
   line-law : (e : Entry) (line : Text) (next : Due) →
       keywordLine R e line next
-      ≡ cond (begins (keywordStart e) line) (cond (meets R (e .rule) (drop (length (keywordStart e)) line)) (Next.Goes next) (Next.Stops 4 0)) (Next.Stops 3 0)
+      ≡ cond (hasKeyword e line) (cond (meets R (e .rule) (drop (length (keywordStart (e .keyword))) line)) (Next.Goes next) (Next.Stops 4 0)) (Next.Stops 3 0)
   unfolding keywordLine argumentOn
   line-law e line next = refl
 
   module _ (k : ℕ) (line : Text) where
-    no-line : keywordAt k line ≡ KeywordRead.Differs → (next : Due) → k < 36 → keywordLine R (entryAt k) line next ≡ Next.Stops 3 0
-    no-line e next h =
-        line-law (entryAt k) line next
-        ∙ ap (λ (b : Bool). cond b (cond (meets R ((entryAt k) .rule) (drop (length (keywordStart (entryAt k))) line)) (Next.Goes next) (Next.Stops 4 0)) (Next.Stops 3 0))
-        (passed (begins (keywordStart (entryAt k)) line) (sym (keyword-by k line h) ∙ e) (λ q. differs-not (sym q)) .0)
-
     none-left : 36 ≤ k → Next.Stops 3 0 ≡ keywordDue R (drop k entries) k line
     unfolding keywordDue
     none-left h = rw (drop-of-length-le entries {i = k} (omega (arith, entries-length)))
 
-    pub keyword-differs : keywordAt k line ≡ KeywordRead.Differs → Next.Stops 3 0 ≡ keywordDue R (drop k entries) k line
-    keyword-differs e = by (decLt k 36) (decLt k 35)
+    keyword-differs : keywordAt k line ≡ KeywordRead.Differs → Next.Stops 3 0 ≡ keywordDue R (drop k entries) k line
+    keyword-differs e = by (decLt k 36)
       where
-        by : Dec (k < 36) → Dec (k < 35) → Next.Stops 3 0 ≡ keywordDue R (drop k entries) k line
-        by (yes h) (yes l) = sym (due-more k line l ∙ no-line e (Due.Keyword (k + 1)) h)
-        by (yes h) (no l) = sym (due-one k line (omega arith) h ∙ no-line e Due.Remarks h)
-        by (no h) l = none-left (omega arith)
+        by : Dec (k < 36) → Next.Stops 3 0 ≡ keywordDue R (drop k entries) k line
+        by (yes h) = sym (due-by k line h ∙ line-law (entryAt k) line (behindKeyword k) ∙ rw (no-keyword k line e h))
+        by (no h) = none-left (omega arith)
 
-    module _ (e : keywordAt k line ≡ KeywordRead.Listed) where
-      within : k < 36
-      within = listed-within k line e
-
-      begun : begins (keywordStart (entryAt k)) line ≡ true
-      begun = picked (begins (keywordStart (entryAt k)) line) (sym (keyword-by k line within) ∙ e) differs-not .0
-
+    module _ (s : Stands k line) where
       pub keyword-long : 6 ≤ length line
-      keyword-long = omega (arith, start-six k within, begins-long (keywordStart (entryAt k)) line begun)
+      keyword-long = omega (arith, start-six k (s .within), has-long (entryAt k) line (s .has))
 
-      line-by : (next : Due) (b : Bool) → meets R ((entryAt k) .rule) (drop 6 line) ≡ b → keywordLine R (entryAt k) line next ≡ cond b (Next.Goes next) (Next.Stops 4 0)
-      line-by next b m =
-          line-law (entryAt k) line next
-          ∙ ap (λ (t : Bool). cond t (cond (meets R ((entryAt k) .rule) (drop (length (keywordStart (entryAt k))) line)) (Next.Goes next) (Next.Stops 4 0)) (Next.Stops 3 0)) begun
-          ∙ ap (λ (n : ℕ). cond (meets R ((entryAt k) .rule) (drop n line)) (Next.Goes next) (Next.Stops 4 0)) (start-six k within)
-          ∙ ap (λ (t : Bool). cond t (Next.Goes next) (Next.Stops 4 0)) m
-
-      ruled : {r : ArgumentRead} → argumentOf R k (take (length line - 6) (drop 6 line)) ≡ r
-          → cond (meets R ((entryAt k) .rule) (drop 6 line)) ArgumentRead.Kept ArgumentRead.Broken ≡ r
-      ruled q = sym (argument-by k (drop 6 line) within) ∙ ap (argumentOf R k) (sym (behind 6 line)) ∙ q
-
-      pub argument-broken : argumentOf R k (take (length line - 6) (drop 6 line)) ≡ ArgumentRead.Broken → Next.Stops 4 0 ≡ keywordDue R (drop k entries) k line
-      argument-broken q = by (decLt k 35)
+      -- What follows is what follows from the argument.
+      argument-leads : afterArgument k (argumentOf R k (take (length line - 6) (drop 6 line))) ≡ keywordDue R (drop k entries) k line
+      unfolding afterArgument
+      argument-leads =
+          ap (λ (t : Text). afterArgument k (argumentOf R k t)) (behind 6 line)
+          ∙ ap (afterArgument k) (argument-by k (drop 6 line) (s .within))
+          ∙ by (meets R ((entryAt k) .rule) (drop 6 line))
+          ∙ ap (λ (n : ℕ). cond (meets R ((entryAt k) .rule) (drop n line)) (Next.Goes (behindKeyword k)) (Next.Stops 4 0)) (sym (start-six k (s .within)))
+          ∙ sym (due-by k line (s .within) ∙ line-law (entryAt k) line (behindKeyword k) ∙ rw (s .has))
         where
-          m : meets R ((entryAt k) .rule) (drop 6 line) ≡ false
-          m = passed (meets R ((entryAt k) .rule) (drop 6 line)) (ruled q) (λ p. broken-not (sym p)) .0
+          by : (b : Bool) → afterArgument k (cond b ArgumentRead.Kept ArgumentRead.Broken) ≡ cond b (Next.Goes (behindKeyword k)) (Next.Stops 4 0)
+          by true = refl
+          by false = refl
 
-          by : Dec (k < 35) → Next.Stops 4 0 ≡ keywordDue R (drop k entries) k line
-          by (yes l) = sym (due-more k line l ∙ line-by (Due.Keyword (k + 1)) false m)
-          by (no l) = sym (due-one k line (omega arith) within ∙ line-by Due.Remarks false m)
+    -- A line that is taken has its keyword.
+    pub keyword-stands : {next : Due} → step R (Due.Keyword k) line ≡ Next.Goes next → Stands k line
+    unfolding step
+    keyword-stands {next} q = by (keywordAt k line) refl
+      where
+        by : (r : KeywordRead) → keywordAt k line ≡ r → Stands k line
+        by KeywordRead.Listed e = stands-listed k line e
+        by KeywordRead.Respelt e = stands-respelt k line e
+        by KeywordRead.Differs e = let z : Next.Stops 3 0 ≡ Next.Goes next = keyword-differs e ∙ q in let y : _≡_ {A = ℕ} 0 1 = cc in absurd (omega arith)
 
-      module _ (q : argumentOf R k (take (length line - 6) (drop 6 line)) ≡ ArgumentRead.Kept) where
-        kept : meets R ((entryAt k) .rule) (drop 6 line) ≡ true
-        kept = picked (meets R ((entryAt k) .rule) (drop 6 line)) (ruled q) broken-not .0
+    -- The step's answer in each of the three cases.
+    at-due-keyword : step R (Due.Keyword k) line ≡ keywordDue R (drop k entries) k line
+    unfolding step
+    at-due-keyword = refl
 
-        pub keyword-follows : k < 35 → Next.Goes (Due.Keyword (k + 1)) ≡ keywordDue R (drop k entries) k line
-        keyword-follows l = sym (due-more k line l ∙ line-by (Due.Keyword (k + 1)) true kept)
+    stepped-by : {next : Next} {r : KeywordRead} → keywordAt k line ≡ r → next ≡ keywordDue R (drop k entries) k line → record { next = next; respelt = isRespelt r } ≡ stepOf R (Due.Keyword k) line
+    unfolding stepOf respeltBy
+    stepped-by e q = ap₂ (λ (n : Next) (x : KeywordRead). record { next = n; respelt = isRespelt x }) (q ∙ sym at-due-keyword) (sym e)
 
-        pub remarks-follow : 35 ≤ k → Next.Goes Due.Remarks ≡ keywordDue R (drop k entries) k line
-        remarks-follow l = sym (due-one k line l within ∙ line-by Due.Remarks true kept)
+    pub step-differs : keywordAt k line ≡ KeywordRead.Differs → record { next = Next.Stops 3 0; respelt = false } ≡ stepOf R (Due.Keyword k) line
+    step-differs e = stepped-by e (keyword-differs e)
+
+    pub step-listed : {next : Next} → keywordAt k line ≡ KeywordRead.Listed → next ≡ afterArgument k (argumentOf R k (take (length line - 6) (drop 6 line))) → record { next = next; respelt = false } ≡ stepOf R (Due.Keyword k) line
+    step-listed e q = stepped-by e (q ∙ argument-leads (stands-listed k line e))
+
+    pub step-respelt : {next : Next} → keywordAt k line ≡ KeywordRead.Respelt → next ≡ afterArgument k (argumentOf R k (take (length line - 6) (drop 6 line))) → record { next = next; respelt = true } ≡ stepOf R (Due.Keyword k) line
+    step-respelt e q = stepped-by e (q ∙ argument-leads (stands-respelt k line e))
+
+-- The argument's two cases.
+module _ (k : ℕ) where
+  pub argument-breaks : {r : ArgumentRead} → r ≡ ArgumentRead.Broken → Next.Stops 4 0 ≡ afterArgument k r
+  unfolding afterArgument
+  argument-breaks e = ap (afterArgument k) (sym e)
+
+  pub keyword-follows : {r : ArgumentRead} → r ≡ ArgumentRead.Kept → k < 35 → Next.Goes (Due.Keyword (k + 1)) ≡ afterArgument k r
+  unfolding afterArgument
+  keyword-follows e h =
+      ap (λ (b : Bool). Next.Goes (cond b (Due.Keyword (k + 1)) Due.Remarks)) (sym (lt-ltb k 35 h)) ∙ ap (afterArgument k) (sym e)
+
+  pub remarks-follow : {r : ArgumentRead} → r ≡ ArgumentRead.Kept → 35 ≤ k → Next.Goes Due.Remarks ≡ afterArgument k r
+  unfolding afterArgument
+  remarks-follow e h =
+      ap (λ (b : Bool). Next.Goes (cond b (Due.Keyword (k + 1)) Due.Remarks)) (sym (le-ltb k 35 h)) ∙ ap (afterArgument k) (sym e)
 
 -- Among the remarks.
 start-length : length countStart ≡ 12
@@ -233,23 +327,30 @@ module _ (R : Rules) (n : ℕ) (line : Text) where
       let q = stops-told (contactAt R line 0) (recordRule R line) (sym told-law ∙ e) in
       ap (λ (k : ℕ). Next.Stops k field) (q .0) ∙ sym (record-law ∙ ap (afterRecord n) (q .1))
 
--- The step goes by what is due.
-module _ (R : Rules) (due : Due) (line : Text) {r : Next} where
-  pub at-identifier : due ≡ Due.Identifier → r ≡ whole identifier line (Due.Keyword 0) → r ≡ step R due line
-  unfolding step
-  at-identifier e q = q ∙ ap (λ (d : Due). step R d line) (sym e)
+-- The step goes by what is due; only a keyword has a spelling.
+abbrev plainly : Next → Stepped
+plainly next = record { next = next; respelt = false }
 
-  pub at-keyword : {k : ℕ} → due ≡ Due.Keyword k → r ≡ keywordDue R (drop k entries) k line → r ≡ step R due line
-  unfolding step
-  at-keyword e q = q ∙ ap (λ (d : Due). step R d line) (sym e)
+module _ (R : Rules) (line : Text) {r : Next} where
+  pub at-identifier : (due : Due) → due ≡ Due.Identifier → r ≡ whole identifier line (Due.Keyword 0) → plainly r ≡ stepOf R due line
+  unfolding step stepOf respeltBy
+  at-identifier due e q = ap plainly q ∙ ap (λ (d : Due). stepOf R d line) (sym e)
 
-  pub at-remarks : due ≡ Due.Remarks → r ≡ whole remarksLine line Due.Remark → r ≡ step R due line
-  unfolding step
-  at-remarks e q = q ∙ ap (λ (d : Due). step R d line) (sym e)
+  pub at-remarks : (due : Due) → due ≡ Due.Remarks → r ≡ whole remarksLine line Due.Remark → plainly r ≡ stepOf R due line
+  unfolding step stepOf respeltBy
+  at-remarks due e q = ap plainly q ∙ ap (λ (d : Due). stepOf R d line) (sym e)
 
-  pub at-due : {d : Due} → due ≡ d → r ≡ step R d line → r ≡ step R due line
-  at-due e q = q ∙ ap (λ (x : Due). step R x line) (sym e)
+  pub at-remark : (due : Due) → due ≡ Due.Remark → r ≡ step R Due.Remark line → plainly r ≡ stepOf R due line
+  unfolding stepOf respeltBy
+  at-remark due e q = ap plainly q ∙ ap (λ (d : Due). stepOf R d line) (sym e)
 
-pub at-end : (R : Rules) (due : Due) (line : Text) → due ≡ Due.End → Next.Stops 6 0 ≡ step R due line
-unfolding step
-at-end R due line e = ap (λ (d : Due). step R d line) (sym e)
+  pub at-record : {n : ℕ} (due : Due) → due ≡ Due.Record n → r ≡ step R (Due.Record n) line → plainly r ≡ stepOf R due line
+  unfolding stepOf respeltBy
+  at-record due e q = ap plainly q ∙ ap (λ (d : Due). stepOf R d line) (sym e)
+
+pub at-due : (R : Rules) (due : Due) (line : Text) {r : Stepped} {d : Due} → due ≡ d → r ≡ stepOf R d line → r ≡ stepOf R due line
+at-due R due line e q = q ∙ ap (λ (x : Due). stepOf R x line) (sym e)
+
+pub at-end : (R : Rules) (due : Due) (line : Text) {r : Stepped} → due ≡ Due.End → r ≡ stepOf R Due.End [] → r ≡ stepOf R due line
+unfolding step stepOf respeltBy
+at-end R due line e q = q ∙ ap (λ (d : Due). stepOf R d line) (sym e)

@@ -13,6 +13,7 @@ use Rattle.rules.specs.Rules.{Rules}
 use Rattle.rules.specs.Answers.{over}
 use Rattle.rules.specs.Reading.{refusal}
 use Rattle.reader.specs.declared.Contact.{Contact}
+use Rattle.reader.specs.declared.Heading.{Heading}
 use Rattle.reader.specs.declared.HeadRead.{HeadRead}
 use Rattle.reader.specs.declared.HeadRead.the-variants as HeadRead
 use Rattle.reader.specs.declared.ReadAnswer.{ReadAnswer}
@@ -21,7 +22,7 @@ use Rattle.reader.specs.declared.RecordRead.{RecordRead}
 use Rattle.reader.specs.declared.RecordRead.the-variants as RecordRead
 use Rattle.reader.specs.Contact.{behind, contactAt, fieldStart, lastEnd}
 use Rattle.reader.specs.Record.{recordAt}
-use Rattle.reader.specs.Read.{headOf, readOf, recordsTold}
+use Rattle.reader.specs.Read.{noHeading, headOf, readOf, recordsTold}
 use Rattle.reader.specs.Noted.{contactsFrom, contactsRead, listed}
 use Rattle.reader.proofs.ParseLaws.{took}
 use Rattle.reader.proofs.PlaceLaws.{last-behind, start-more, start-next, starts-rise}
@@ -86,7 +87,7 @@ module _ (R : Rules) (s : Text) (at : ℕ) where
 
 -- # The loop over the records
 
-module _ (R : Rules) (s : Text) (records first claims : ℕ) where
+module _ (R : Rules) (s : Text) (records first : ℕ) (heading : Heading) where
   -- What is told of all is told of those that are left.
   pub record Surveys (before at line i : ℕ) : Type 0 where
     pub short : length s ≤ R .longestLog
@@ -94,7 +95,7 @@ module _ (R : Rules) (s : Text) (records first claims : ℕ) where
     pub number : line ≤ at + 1
     pub few : i ≤ records
     pub slow : i ≤ at
-    pub answer : recordsTold R s records first claims records before first ≡ recordsTold R s records first claims (records - i) line at
+    pub answer : recordsTold R s records first heading records before first ≡ recordsTold R s records first heading (records - i) line at
 
   pub surveys-first : {before : ℕ} → before ≤ first + 1 → first ≤ length s → length s ≤ R .longestLog → Surveys before first before 0
   surveys-first {before} h g k =
@@ -105,7 +106,7 @@ module _ (R : Rules) (s : Text) (records first claims : ℕ) where
         number = h;
         few = omega arith;
         slow = omega arith;
-        answer = ap (λ (j : ℕ). recordsTold R s records first claims j before first) all-left;
+        answer = ap (λ (j : ℕ). recordsTold R s records first heading j before first) all-left;
       }
 
   module _ {before at line i : ℕ} (w : Surveys before at line i) where
@@ -113,8 +114,8 @@ module _ (R : Rules) (s : Text) (records first claims : ℕ) where
     one-left h = omega arith
 
     module _ (h : i < records) where
-      told-next : recordsTold R s records first claims records before first ≡ recordsTold R s records first claims (suc (records - (i + 1))) line at
-      told-next = w .answer ∙ ap (λ (j : ℕ). recordsTold R s records first claims j line at) (one-left h)
+      told-next : recordsTold R s records first heading records before first ≡ recordsTold R s records first heading (suc (records - (i + 1))) line at
+      told-next = w .answer ∙ ap (λ (j : ℕ). recordsTold R s records first heading j line at) (one-left h)
 
       pub surveys-next : {c : Contact} → recordAt R s at ≡ RecordRead.Kept c → Surveys before (behind c) (line + 1) (i + 1)
       surveys-next {c} e =
@@ -125,22 +126,22 @@ module _ (R : Rules) (s : Text) (records first claims : ℕ) where
             number = omega (arith, w .number, p .end);
             few = omega arith;
             slow = omega (arith, w .slow, p .end);
-            answer = told-next ∙ next-kept R s records first claims (records - (i + 1)) line at e;
+            answer = told-next ∙ next-kept R s records first heading (records - (i + 1)) line at e;
           }
 
-      pub surveys-stop : {number field : ℕ} → recordAt R s at ≡ RecordRead.Stops number field → ReadAnswer.Refused (refusal number line field) ≡ recordsTold R s records first claims records before first
-      surveys-stop e = sym (told-next ∙ next-stops R s records first claims (records - (i + 1)) line at e)
+      pub surveys-stop : {number field : ℕ} → recordAt R s at ≡ RecordRead.Stops number field → ReadAnswer.Refused (refusal number line field) ≡ recordsTold R s records first heading records before first
+      surveys-stop e = sym (told-next ∙ next-stops R s records first heading (records - (i + 1)) line at e)
 
     -- No record is left.
     module _ (h : records ≤ i) where
-      told-last : recordsTold R s records first claims records before first ≡ recordsTold R s records first claims 0 line at
-      told-last = let none : records - i ≡ 0 = omega arith in w .answer ∙ ap (λ (j : ℕ). recordsTold R s records first claims j line at) none
+      told-last : recordsTold R s records first heading records before first ≡ recordsTold R s records first heading 0 line at
+      told-last = let none : records - i ≡ 0 = omega arith in w .answer ∙ ap (λ (j : ℕ). recordsTold R s records first heading j line at) none
 
-      pub surveys-more : at < length s → ReadAnswer.Refused (refusal 6 line 0) ≡ recordsTold R s records first claims records before first
-      surveys-more g = sym (told-last ∙ end-told R s records first claims line at (lt-ltb at (length s) g))
+      pub surveys-more : at < length s → ReadAnswer.Refused (refusal 6 line 0) ≡ recordsTold R s records first heading records before first
+      surveys-more g = sym (told-last ∙ end-told R s records first heading line at (lt-ltb at (length s) g))
 
-      pub surveys-end : length s ≤ at → ReadAnswer.Accepted records first claims ≡ recordsTold R s records first claims records before first
-      surveys-end g = sym (told-last ∙ end-told R s records first claims line at (le-ltb at (length s) g))
+      pub surveys-end : length s ≤ at → ReadAnswer.Accepted records first heading ≡ recordsTold R s records first heading records before first
+      surveys-end g = sym (told-last ∙ end-told R s records first heading line at (le-ltb at (length s) g))
 
 -- One of the lists: it is as long as it was, and once the records that are left are noted it holds what it shall.
 module _ (R : Rules) (s : Text) (records first : ℕ) (place : Contact → ℕ) (slice : List ℕ) where
@@ -171,7 +172,7 @@ module _ (R : Rules) (s : Text) (records first : ℕ) (place : Contact → ℕ) 
           long = ap length q ∙ length-set now i (place c) ∙ w .long;
           list =
               left-next h
-              ∙ ap (λ (cs : List Contact). listedFrom i place cs now) (noted-kept R s records first 0 (records - (i + 1)) at e)
+              ∙ ap (λ (cs : List Contact). listedFrom i place cs now) (noted-kept R s records first noHeading (records - (i + 1)) at e)
               ∙ listed-more place i c rest now
               ∙ ap₂ (λ (j : ℕ) (t : List ℕ). listedFrom j place rest t) (sym (add-one i)) (sym q);
         }
@@ -180,7 +181,7 @@ module _ (R : Rules) (s : Text) (records first : ℕ) (place : Contact → ℕ) 
     fills-stop h e =
         sym
         (left-next h
-        ∙ ap (λ (cs : List Contact). listedFrom i place cs now) (noted-ends R s records first 0 (records - (i + 1)) at e)
+        ∙ ap (λ (cs : List Contact). listedFrom i place cs now) (noted-ends R s records first noHeading (records - (i + 1)) at e)
         ∙ listed-none place i now)
 
     pub fills-end : records ≤ i → now ≡ listed place (contactsFrom R s records first) slice
@@ -205,8 +206,8 @@ module _ (R : Rules) (s : Text) where
         sym (ap (λ (cs : List Contact). listed place cs slice) (contacts-by-head R s ∙ ap (headContacts R s) e) ∙ listed-first place [] slice ∙ listed-none place 0 slice)
 
   -- A head that leads to the records: what is told and noted of them is told and noted of the log.
-  module _ {records first claims line : ℕ} (e : headOf R s ≡ HeadRead.Head records first claims line) where
-    pub records-read : {a : ReadAnswer} → a ≡ recordsTold R s records first claims records line first → a ≡ readOf R s
+  module _ {records first line : ℕ} {heading : Heading} (e : headOf R s ≡ HeadRead.Head records first heading line) where
+    pub records-read : {a : ReadAnswer} → a ≡ recordsTold R s records first heading records line first → a ≡ readOf R s
     records-read h = h ∙ sym (read-by-head R s ∙ ap (onHead R s) e)
 
     pub records-listed : (place : Contact → ℕ) (slice : List ℕ) {now : List ℕ} → now ≡ listed place (contactsFrom R s records first) slice → now ≡ listed place (contactsRead R s) slice

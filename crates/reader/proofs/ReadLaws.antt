@@ -19,6 +19,7 @@ use Rattle.rules.specs.Log.{crlf}
 use Rattle.rules.specs.Reading.{FirstLine, Lines, Reading, RecordRule, aLine, accepted, afterRecord, atRest, breaks, firstLine, keeps, lines, noLine, onFirstLine, onNext, put, recordRule, recordsDue, refusal, refused, step, walk}
 use Rattle.rules.proofs.LineLaws.{lines-law}
 use Rattle.reader.specs.declared.Contact.{Contact}
+use Rattle.reader.specs.declared.Heading.{Heading}
 use Rattle.reader.specs.declared.ReadAnswer.{ReadAnswer}
 use Rattle.reader.specs.declared.ReadAnswer.the-variants as ReadAnswer
 use Rattle.reader.specs.declared.RecordRead.{RecordRead}
@@ -96,14 +97,14 @@ module _ (R : Rules) (s : Text) (at : ℕ) where
 -- # The records
 
 -- What is told at the end of an accepted log.
-abbrev pub lateTold : ℕ → ℕ → ℕ → Reading → ReadAnswer
-lateTold records first claims (accepted log) = ReadAnswer.Accepted records first claims
-lateTold records first claims (refused r) = ReadAnswer.Refused r
+abbrev pub lateTold : ℕ → ℕ → Heading → Reading → ReadAnswer
+lateTold records first heading (accepted log) = ReadAnswer.Accepted records first heading
+lateTold records first heading (refused r) = ReadAnswer.Refused r
 
-late-put : (records first claims : ℕ) (due : Due) (l : Text) (r : Reading) → lateTold records first claims (put due l r) ≡ lateTold records first claims r
+late-put : (records first : ℕ) (heading : Heading) (due : Due) (l : Text) (r : Reading) → lateTold records first heading (put due l r) ≡ lateTold records first heading r
 unfolding put
-late-put records first claims due l (accepted log) = refl
-late-put records first claims due l (refused r) = refl
+late-put records first heading due l (accepted log) = refl
+late-put records first heading due l (refused r) = refl
 
 -- One line of the walk.
 module _ (R : Rules) (due : Due) (n : ℕ) (l : Text) (ls : List Text) (rest : Text) where
@@ -146,13 +147,13 @@ unfolding step
 step-ended R l = refl
 
 -- The two tellings of so many records agree, on the answer and on what is noted.
-module _ (R : Rules) (s : Text) (records first claims : ℕ) where
+module _ (R : Rules) (s : Text) (records first : ℕ) (heading : Heading) where
   pub record Late (j n at : ℕ) (ls : List Text) (rest : Text) : Type 0 where
-    pub answer : recordsTold R s records first claims j n at ≡ lateTold records first claims (walk R (recordsDue j) n ls rest)
+    pub answer : recordsTold R s records first heading j n at ≡ lateTold records first heading (walk R (recordsDue j) n ls rest)
     pub contacts : contactsFrom R s j at ≡ notedFrom R s (recordsDue j) at ls
 
   -- Behind the last record.
-  pub end-told : (n at : ℕ) {b : Bool} → ltb at (length s) ≡ b → recordsTold R s records first claims 0 n at ≡ cond b (ReadAnswer.Refused (refusal 6 n 0)) (ReadAnswer.Accepted records first claims)
+  pub end-told : (n at : ℕ) {b : Bool} → ltb at (length s) ≡ b → recordsTold R s records first heading 0 n at ≡ cond b (ReadAnswer.Refused (refusal 6 n 0)) (ReadAnswer.Accepted records first heading)
   unfolding recordsTold
   end-told n at e = rw e
 
@@ -167,24 +168,24 @@ module _ (R : Rules) (s : Text) (records first claims : ℕ) where
   unfolding recordsDue contactsFrom
   more-late n at l ls rest h =
       record {
-        answer = end-told n at (lt-ltb at (length s) h) ∙ ap (lateTold records first claims) (sym (walk-stops R Due.End n l ls rest (step-ended R l)));
+        answer = end-told n at (lt-ltb at (length s) h) ∙ ap (lateTold records first heading) (sym (walk-stops R Due.End n l ls rest (step-ended R l)));
         contacts = sym (noted-stops R s Due.End at l ls (step-ended R l));
       }
 
   -- One record more.
-  next-told : (j n at : ℕ) {r : RecordRead} → recordAt R s at ≡ r → recordsTold R s records first claims (suc j) n at ≡ recordNext (λ c. recordsTold R s records first claims j (n + 1) (behind c)) n r
+  next-told : (j n at : ℕ) {r : RecordRead} → recordAt R s at ≡ r → recordsTold R s records first heading (suc j) n at ≡ recordNext (λ c. recordsTold R s records first heading j (n + 1) (behind c)) n r
   unfolding recordsTold
-  next-told j n at e = ap (recordNext (λ c. recordsTold R s records first claims j (n + 1) (behind c)) n) e
+  next-told j n at e = ap (recordNext (λ c. recordsTold R s records first heading j (n + 1) (behind c)) n) e
 
   next-noted : (j at : ℕ) {r : RecordRead} → recordAt R s at ≡ r → contactsFrom R s (suc j) at ≡ contactNext (λ c. contactsFrom R s j (behind c)) r
   unfolding contactsFrom
   next-noted j at e = ap (contactNext (λ c. contactsFrom R s j (behind c))) e
 
-  pub next-kept : (j n at : ℕ) {c : Contact} → recordAt R s at ≡ RecordRead.Kept c → recordsTold R s records first claims (suc j) n at ≡ recordsTold R s records first claims j (n + 1) (behind c)
+  pub next-kept : (j n at : ℕ) {c : Contact} → recordAt R s at ≡ RecordRead.Kept c → recordsTold R s records first heading (suc j) n at ≡ recordsTold R s records first heading j (n + 1) (behind c)
   unfolding recordNext
   next-kept j n at e = next-told j n at e
 
-  pub next-stops : (j n at : ℕ) {number field : ℕ} → recordAt R s at ≡ RecordRead.Stops number field → recordsTold R s records first claims (suc j) n at ≡ ReadAnswer.Refused (refusal number n field)
+  pub next-stops : (j n at : ℕ) {number field : ℕ} → recordAt R s at ≡ RecordRead.Stops number field → recordsTold R s records first heading (suc j) n at ≡ ReadAnswer.Refused (refusal number n field)
   unfolding recordNext
   next-stops j n at e = next-told j n at e
 
@@ -213,7 +214,7 @@ module _ (R : Rules) (s : Text) (records first claims : ℕ) where
     broken-late f e =
         let r : recordAt R s at ≡ RecordRead.Stops 5 f = sym (due-by R s at g) ∙ ap (toldBy (contactAt R s at)) e in
         record {
-          answer = next-stops j n at r ∙ ap (lateTold records first claims) (sym (walk-stops R (Due.Record (suc j)) n l ls rest (step-broken R j f l e)));
+          answer = next-stops j n at r ∙ ap (lateTold records first heading) (sym (walk-stops R (Due.Record (suc j)) n l ls rest (step-broken R j f l e)));
           contacts = noted-ends j at r ∙ sym (noted-stops R s (Due.Record (suc j)) at l ls (step-broken R j f l e));
         }
 
@@ -225,10 +226,10 @@ module _ (R : Rules) (s : Text) (records first claims : ℕ) where
         record {
           answer =
               next-kept j n at r
-              ∙ ap (recordsTold R s records first claims j (n + 1)) there
+              ∙ ap (recordsTold R s records first heading j (n + 1)) there
               ∙ h .answer
-              ∙ sym (late-put records first claims (Due.Record (suc j)) l (walk R (recordsDue j) (n + 1) ls rest))
-              ∙ ap (lateTold records first claims) (sym (walk-goes R (Due.Record (suc j)) n l ls rest (step-kept R j l e)));
+              ∙ sym (late-put records first heading (Due.Record (suc j)) l (walk R (recordsDue j) (n + 1) ls rest))
+              ∙ ap (lateTold records first heading) (sym (walk-goes R (Due.Record (suc j)) n l ls rest (step-kept R j l e)));
           contacts =
               noted-kept j at r
               ∙ ap (λ (i : ℕ). contactAt R s at ∷ contactsFrom R s j i) there

@@ -11,31 +11,74 @@ use Rattle.rules.specs.declared.Next.{Next}
 use Rattle.rules.specs.declared.Next.the-variants.{Goes, Stops}
 use Rattle.rules.specs.Text.{Text}
 use Rattle.rules.specs.Rules.{Rules}
-use Rattle.rules.specs.Log.{Log, linesOf, ended, recordLine}
+use Rattle.rules.specs.Arguments.{entries}
+use Rattle.rules.specs.Log.{Log, linesOf, ended, recordLine, respelt}
 use Rattle.rules.specs.Reading.{Reading, accepted, lines, read, refusal, refused, step}
 use Rattle.reader.specs.declared.Contact.{Contact}
 use Rattle.reader.specs.declared.CountRead.{CountRead}
 use Rattle.reader.specs.declared.CountRead.the-variants as CountRead
+use Rattle.header.specs.declared.ArgumentRead.{ArgumentRead}
+use Rattle.header.specs.declared.ArgumentRead.the-variants as ArgumentRead
+use Rattle.header.specs.declared.KeywordRead.{KeywordRead}
+use Rattle.header.specs.declared.KeywordRead.the-variants as KeywordRead
+use Rattle.header.specs.Header.{keywordAt}
 use Rattle.reader.specs.declared.HeadRead.{HeadRead}
 use Rattle.reader.specs.declared.HeadRead.the-variants as HeadRead
 use Rattle.reader.specs.declared.ReadAnswer.{ReadAnswer}
 use Rattle.reader.specs.declared.ReadAnswer.the-variants as ReadAnswer
+use Rattle.reader.specs.declared.Heading.{Heading}
+use Rattle.reader.specs.declared.Stepped.{Stepped}
 use Rattle.reader.specs.declared.RecordRead.{RecordRead}
 use Rattle.reader.specs.declared.RecordRead.the-variants as RecordRead
 use Rattle.reader.specs.Contact.{behind}
 use Rattle.reader.specs.Record.{recordAt}
+
+-- # A line
+
+-- The matcher says that a keyword is spelt otherwise than it is listed.
+abbrev pub isRespelt : KeywordRead → Bool
+isRespelt KeywordRead.Listed = false
+isRespelt KeywordRead.Respelt = true
+isRespelt KeywordRead.Differs = false
+
+-- A line where this is due has its keyword so.
+unfoldable pub respeltBy : Due → Text → Bool
+unfolding keywordAt
+respeltBy Identifier l = false
+respeltBy (Keyword k) l = isRespelt (keywordAt k l)
+respeltBy Remarks l = false
+respeltBy Remark l = false
+respeltBy (Record n) l = false
+respeltBy End l = false
+
+-- What follows from a line, and how its keyword is spelt.
+unfoldable pub stepOf : Rules → Due → Text → Stepped
+unfolding step respeltBy
+stepOf R due l = record { next = step R due l; respelt = respeltBy due l }
+
+-- The argument behind a keyword after so many: the next keyword is due, or `[Remarks]` behind the last.
+unfoldable pub afterArgument : ℕ → ArgumentRead → Next
+afterArgument k ArgumentRead.Kept = Goes (cond (ltb k 35) (Keyword (k + 1)) Remarks)
+afterArgument k ArgumentRead.Broken = Stops 4 0
+
+-- # A log
 
 -- Where the nine claims begin: their lines stand behind 27, the identifier's and those of 26 keywords.
 unfoldable pub claimsStart : Log → ℕ
 unfolding ended linesOf
 claimsStart log = length (ended (take 27 (linesOf log)))
 
+-- Of the header besides how many of its keywords are not spelt as they are listed.
+unfoldable pub headingOf : Log → Heading
+unfolding claimsStart respelt entries
+headingOf log = record { claims = claimsStart log; respelt = respelt entries (log .keywords) }
+
 -- The code's word for each case: of an accepted log, how many records there are, where the first begins, which is as far from the end as the
--- records are long, and where the claims begin.
+-- records are long, and its heading.
 unfoldable pub readTold : ℕ → Reading → ReadAnswer
-unfolding ended recordLine claimsStart
+unfolding ended recordLine headingOf
 readTold end (accepted log) =
-    ReadAnswer.Accepted (length (log .records)) (end - length (ended (map recordLine (log .records)))) (claimsStart log)
+    ReadAnswer.Accepted (length (log .records)) (end - length (ended (map recordLine (log .records)))) (headingOf log)
 readTold end (refused r) = ReadAnswer.Refused r
 
 unfoldable pub readOf : Rules → Text → ReadAnswer
@@ -71,39 +114,51 @@ claimsBy Remark claims at = claims
 claimsBy (Record n) claims at = claims
 claimsBy End claims at = claims
 
--- A line that is taken, behind which the next begins at a place: the count line is the last of the head.
-unfoldable pub headCount : HeadRead → ℕ → ℕ → ℕ → CountRead → HeadRead
-headCount more n at claims (CountRead.Counted records) = HeadRead.Head records at claims (n + 1)
-headCount more n at claims CountRead.Further = more
+-- What is known of the header behind a line.
+unfoldable pub headingBy : Due → Text → Heading → ℕ → Heading
+unfolding claimsBy respeltBy
+headingBy due l heading at =
+    record {
+      claims = claimsBy due (heading .claims) at;
+      respelt = heading .respelt + cond (respeltBy due l) 1 0;
+    }
 
-unfoldable pub headNext : (Due → HeadRead) → ℕ → ℕ → ℕ → Next → HeadRead
+unfoldable pub noHeading : Heading
+noHeading = record { claims = 0; respelt = 0 }
+
+-- A line that is taken, behind which the next begins at a place: the count line is the last of the head.
+unfoldable pub headCount : HeadRead → ℕ → ℕ → Heading → CountRead → HeadRead
+headCount more n at heading (CountRead.Counted records) = HeadRead.Head records at heading (n + 1)
+headCount more n at heading CountRead.Further = more
+
+unfoldable pub headNext : (Due → HeadRead) → ℕ → ℕ → Heading → Next → HeadRead
 unfolding headCount countedBy
-headNext more n at claims (Goes next) = headCount (more next) n at claims (countedBy next)
-headNext more n at claims (Stops number field) = HeadRead.Refused (refusal number n field)
+headNext more n at heading (Goes next) = headCount (more next) n at heading (countedBy next)
+headNext more n at heading (Stops number field) = HeadRead.Refused (refusal number n field)
 
 -- What is told of these lines, the first of which has this number, begins at a place and is due as said.
-unfoldable pub headFrom : Rules → Due → ℕ → ℕ → ℕ → List Text → HeadRead
-unfolding headNext claimsBy step
-headFrom R due n at claims [] = HeadRead.Refused (refusal 2 n 0)
-headFrom R due n at claims (l ∷ ls) =
-    headNext (λ next. headFrom R next (n + 1) (at + length l + 2) (claimsBy due claims (at + length l + 2)) ls) n (at + length l + 2) claims (step R due l)
+unfoldable pub headFrom : Rules → Due → ℕ → ℕ → Heading → List Text → HeadRead
+unfolding headNext headingBy step
+headFrom R due n at heading [] = HeadRead.Refused (refusal 2 n 0)
+headFrom R due n at heading (l ∷ ls) =
+    headNext (λ next. headFrom R next (n + 1) (at + length l + 2) (headingBy due l heading (at + length l + 2)) ls) n (at + length l + 2) heading (step R due l)
 
 unfoldable pub headOf : Rules → Text → HeadRead
-unfolding headFrom lines
+unfolding headFrom noHeading lines
 headOf R s =
-    let byLine = headFrom R Identifier 1 0 0 ((lines R s) .whole) in
+    let byLine = headFrom R Identifier 1 0 noHeading ((lines R s) .whole) in
     cond (ltb (R .longestLog) (length s)) (HeadRead.Refused (refusal 1 0 0)) byLine
 
 -- # The records
 
--- Where the first record begins and the claims do; then of so many records from the line of this number on, that begins at a place.
+-- Where the first record begins, and the heading; then of so many records from the line of this number on, that begins at a place.
 unfoldable pub recordNext : (Contact → ReadAnswer) → ℕ → RecordRead → ReadAnswer
 recordNext more n (RecordRead.Kept c) = more c
 recordNext more n (RecordRead.Stops number field) = ReadAnswer.Refused (refusal number n field)
 
-unfoldable pub recordsTold : Rules → Text → ℕ → ℕ → ℕ → ℕ → ℕ → ℕ → ReadAnswer
+unfoldable pub recordsTold : Rules → Text → ℕ → ℕ → Heading → ℕ → ℕ → ℕ → ReadAnswer
 unfolding recordNext recordAt
-recordsTold R s records first claims zero n at =
-    cond (ltb at (length s)) (ReadAnswer.Refused (refusal 6 n 0)) (ReadAnswer.Accepted records first claims)
-recordsTold R s records first claims (suc left) n at =
-    recordNext (λ c. recordsTold R s records first claims left (n + 1) (behind c)) n (recordAt R s at)
+recordsTold R s records first heading zero n at =
+    cond (ltb at (length s)) (ReadAnswer.Refused (refusal 6 n 0)) (ReadAnswer.Accepted records first heading)
+recordsTold R s records first heading (suc left) n at =
+    recordNext (λ c. recordsTold R s records first heading left (n + 1) (behind c)) n (recordAt R s at)

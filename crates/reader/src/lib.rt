@@ -1,21 +1,22 @@
 // The reader of logs: lines, the one record reader, what is due at each line, and the answers that the floors above ask for.
 
 ghost use mathlib.Core.Path.{_≡_};
-ghost use mathlib.Core.Bool.{true};
+ghost use mathlib.Core.Bool.{true, cond};
+ghost use mathlib.Core.List.{[]};
 ghost use Prim.Native.Nat.{_+_, _≤_, _<_};
 ghost use lib.ListN.{drop, length, set};
 ghost use Rattle.rules.specs.Text.{allowed, begins, same, span};
 ghost use Rattle.rules.specs.Rules.{base};
 ghost use Rattle.rules.specs.Fields.{errorCall};
-ghost use Rattle.rules.specs.Arguments.{entries};
 ghost use Rattle.rules.specs.Log.{crlf};
-ghost use Rattle.rules.specs.Reading.{countRule, keywordDue, recordsDue, step, whole};
+ghost use Rattle.rules.specs.Reading.{countRule, recordsDue, step, whole};
+ghost use Rattle.header.specs.Header.{argumentOf};
 ghost use Rattle.fields.specs.Field.{inField, textAt};
 ghost use Rattle.figures.specs.Figure.{numberAt};
 ghost use Rattle.reader.specs.Line.{lineAt, semicolonsIn};
 ghost use Rattle.reader.specs.Contact.{fieldStart, lastEnd};
 ghost use Rattle.reader.specs.Record.{brokenAt, brokenFrom, datedAt, parsedAt, recordAt, recordOn, scoreRule};
-ghost use Rattle.reader.specs.Read.{claimsBy, countedBy, early, headOf, readOf, recordsTold};
+ghost use Rattle.reader.specs.Read.{afterArgument, claimsBy, countedBy, early, headOf, readOf, recordsTold, stepOf};
 ghost use Rattle.reader.specs.Noted.{contactsFrom, contactsRead, listed};
 use fields::CallRead;
 use fields::ExchangeRead;
@@ -442,17 +443,11 @@ fn count_step(t: &[u8]) -> Next
     Next::Goes(records_due(count as usize))
 }
 
-// A keyword's line after so many keywords: the keyword and its `=`, and an argument that keeps its rule.
-fn keyword_step(k: usize, line: &[u8]) -> Next
-    ensures { λ r. ⌜ r ≡ keywordDue base (drop k entries) k (now (line .entry)) ⌝ }
+// The argument behind a keyword after so many: it has to keep its rule.
+fn argument_step(k: usize, t: &[u8]) -> Next
+    ensures { λ r. ⌜ r ≡ afterArgument k (argumentOf base k (now (t .entry))) ⌝ }
 {
-    let KeywordRead::Listed = header::keyword(k, line) else {
-        return Next::Stops {
-            number: 3,
-            field: 0,
-        };
-    };
-    let ArgumentRead::Kept = header::argument(k, &line[6..]) else {
+    let ArgumentRead::Kept = header::argument(k, t) else {
         return Next::Stops {
             number: 4,
             field: 0,
@@ -462,6 +457,36 @@ fn keyword_step(k: usize, line: &[u8]) -> Next
         return Next::Goes(Due::Keyword(k + 1));
     }
     Next::Goes(Due::Remarks)
+}
+
+// What follows from a line, and whether its keyword is spelt otherwise than it is listed.
+pub struct Stepped {
+    pub next: Next,
+    pub respelt: bool,
+}
+
+// A keyword's line after so many keywords: the keyword in either letter case and its `=`, and the argument.
+fn keyword_step(k: usize, line: &[u8]) -> Stepped
+    ensures { λ r. ⌜ r ≡ stepOf base (Due.Keyword k) (now (line .entry)) ⌝ }
+{
+    let spelling = header::keyword(k, line);
+    match spelling {
+        KeywordRead::Listed => Stepped {
+            next: argument_step(k, &line[6..]),
+            respelt: false,
+        },
+        KeywordRead::Respelt => Stepped {
+            next: argument_step(k, &line[6..]),
+            respelt: true,
+        },
+        KeywordRead::Differs => Stepped {
+            next: Next::Stops {
+                number: 3,
+                field: 0,
+            },
+            respelt: false,
+        },
+    }
 }
 
 // A line that has to be these words and no more.
@@ -503,37 +528,53 @@ fn record_step(n: usize, line: &[u8]) -> Next
     }
 }
 
-// What follows from a line in front of the records. None is due there, so that this needs no record reader.
-fn head_step(due: Due, line: &[u8]) -> Next
-    requires { ⌜ early due ≡ true ⌝ }
-    ensures { λ r. ⌜ r ≡ step base due (now (line .entry)) ⌝ }
+// A line where nothing more is due.
+fn no_more() -> Stepped
+    ensures { λ r. ⌜ r ≡ stepOf base Due.End [] ⌝ }
 {
-    match due {
-        Due::Identifier => whole_step(b"[REG1TEST;1]", line, Due::Keyword(0)),
-        Due::Keyword(k) => keyword_step(k, line),
-        Due::Remarks => whole_step(b"[Remarks]", line, Due::Remark),
-        Due::Remark => remark_step(line),
-        Due::Record(_) => Next::Stops {
+    Stepped {
+        next: Next::Stops {
             number: 6,
             field: 0,
         },
-        Due::End => Next::Stops {
-            number: 6,
-            field: 0,
-        },
+        respelt: false,
     }
 }
 
-// What follows from a line where this is due: what is due next, or the refusal's number and field.
-pub fn step(due: Due, line: &[u8]) -> Next
-    ensures { λ r. ⌜ r ≡ step base due (now (line .entry)) ⌝ }
+// What follows from a line in front of the records. None is due there, so that this needs no record reader.
+fn head_step(due: Due, line: &[u8]) -> Stepped
+    requires { ⌜ early due ≡ true ⌝ }
+    ensures { λ r. ⌜ r ≡ stepOf base due (now (line .entry)) ⌝ }
 {
     match due {
-        Due::Record(n) => record_step(n, line),
-        Due::End => Next::Stops {
-            number: 6,
-            field: 0,
+        Due::Identifier => Stepped {
+            next: whole_step(b"[REG1TEST;1]", line, Due::Keyword(0)),
+            respelt: false,
         },
+        Due::Keyword(k) => keyword_step(k, line),
+        Due::Remarks => Stepped {
+            next: whole_step(b"[Remarks]", line, Due::Remark),
+            respelt: false,
+        },
+        Due::Remark => Stepped {
+            next: remark_step(line),
+            respelt: false,
+        },
+        Due::Record(_) => no_more(),
+        Due::End => no_more(),
+    }
+}
+
+// What follows from a line where this is due: what is due next, or the refusal's number and field; and how its keyword is spelt.
+pub fn step(due: Due, line: &[u8]) -> Stepped
+    ensures { λ r. ⌜ r ≡ stepOf base due (now (line .entry)) ⌝ }
+{
+    match due {
+        Due::Record(n) => Stepped {
+            next: record_step(n, line),
+            respelt: false,
+        },
+        Due::End => no_more(),
         Due::Identifier => head_step(due, line),
         Due::Keyword(_) => head_step(due, line),
         Due::Remarks => head_step(due, line),
@@ -581,12 +622,29 @@ fn claims_by(due: Due, claims: usize, at: usize) -> usize
     }
 }
 
-// What is told in front of the records: how many there are, where the first begins, where the claims do, and the first record's line.
+// How many keywords are respelt behind one more line.
+fn respelt_by(respelt: usize, more: bool) -> usize
+    requires { ⌜ respelt ≤ base .longestLog ⌝ }
+    ensures { λ r. ⌜ r ≡ respelt + cond more 1 0 ⌝ }
+{
+    if more {
+        return respelt + 1;
+    }
+    respelt
+}
+
+// What is told of the header: where the first of the nine claims begins, and how many keywords are not spelt as they are listed.
+pub struct Heading {
+    pub claims: usize,
+    pub respelt: usize,
+}
+
+// What is told in front of the records: how many there are, where the first begins, what the header is like, and the first record's line.
 pub enum HeadRead {
     Head {
         records: usize,
         first: usize,
-        claims: usize,
+        heading: Heading,
         line: u32,
     },
     Refused(Refusal),
@@ -604,6 +662,7 @@ fn head(log: &[u8]) -> HeadRead
     }
     let mut due = Due::Identifier;
     let mut claims = 0;
+    let mut respelt = 0;
     let mut at = 0;
     let mut line: u32 = 1;
     loop {
@@ -614,7 +673,8 @@ fn head(log: &[u8]) -> HeadRead
                 field: 0,
             });
         };
-        let after = head_step(due, &log[at..end]);
+        let stepped = head_step(due, &log[at..end]);
+        let after = stepped.next;
         match after {
             Next::Stops { number, field } => {
                 return HeadRead::Refused(Refusal {
@@ -631,23 +691,24 @@ fn head(log: &[u8]) -> HeadRead
                     return HeadRead::Head {
                         records,
                         first: at,
-                        claims,
+                        heading: Heading { claims, respelt },
                         line,
                     };
                 }
                 claims = claims_by(due, claims, at);
+                respelt = respelt_by(respelt, stepped.respelt);
                 due = next;
             }
         }
     }
 }
 
-// What is answered of a log: how many records it has, where the first begins and where the first of the nine claims does, or why it is refused.
+// What is answered of a log: how many records it has, where the first begins and what its header is like, or why it is refused.
 pub enum ReadAnswer {
     Accepted {
         records: usize,
         first: usize,
-        claims: usize,
+        heading: Heading,
     },
     Refused(Refusal),
 }
@@ -667,7 +728,7 @@ fn survey_records(
     log: &[u8],
     records: usize,
     first: usize,
-    claims: usize,
+    heading: Heading,
     before: u32,
     calls: &mut [u16],
     exchanges: &mut [u16],
@@ -676,7 +737,7 @@ fn survey_records(
     ends: &mut [u16],
 ) -> ReadAnswer
     requires { ⌜ (before ≤ first + 1) × (first ≤ length (now log)) × (length (now log) ≤ base .longestLog) ⌝ }
-    ensures answer { λ r. ⌜ r ≡ recordsTold base (now (log .entry)) records first claims records before first ⌝ }
+    ensures answer { λ r. ⌜ r ≡ recordsTold base (now (log .entry)) records first heading records before first ⌝ }
     ensures calls { λ r. ⌜ now (calls .exit) ≡ listed (λ c. c .call) (contactsFrom base (now (log .entry)) records first) (now (calls .entry)) ⌝ }
     ensures exchanges { λ r. ⌜ now (exchanges .exit) ≡ listed (λ c. c .exchange) (contactsFrom base (now (log .entry)) records first) (now (exchanges .entry)) ⌝ }
     ensures points { λ r. ⌜ now (points .exit) ≡ listed (λ c. c .points) (contactsFrom base (now (log .entry)) records first) (now (points .entry)) ⌝ }
@@ -718,7 +779,7 @@ fn survey_records(
     ReadAnswer::Accepted {
         records,
         first,
-        claims,
+        heading,
     }
 }
 
@@ -744,13 +805,13 @@ pub fn survey(
         HeadRead::Head {
             records,
             first,
-            claims,
+            heading,
             line,
         } => survey_records(
             log,
             records,
             first,
-            claims,
+            heading,
             line,
             calls,
             exchanges,

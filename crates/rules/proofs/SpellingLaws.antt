@@ -14,8 +14,8 @@ use Rattle.rules.specs.Text.{Text, bytes, same, lower, sameButCase, begi
 use Rattle.rules.specs.Arguments.{Entry}
 use Rattle.rules.specs.Log.{keywordStart, keywordsOf, respelt, keywordRules}
 use Rattle.rules.specs.Reading.{spellingOn, argumentOn, hasKeyword}
-use Rattle.rules.proofs.Tests.{never, and-l, and-r, and-i}
-use Rattle.rules.proofs.TextLaws.{same-eq, same-refl, begins-front, begins-split}
+use Rattle.rules.proofs.Tests.{never, fails, clash, and-l, and-r, and-i}
+use Rattle.rules.proofs.TextLaws.{same-eq, same-refl, same-of-eq, begins-front, begins-split}
 
 -- # The case of letters
 
@@ -88,6 +88,29 @@ keyword-has e l h =
           ∙ ap (λ (r : Text). w ++ r) (begins-split (bytes "=") (drop n l) b ∙ ap (λ (r : Text). bytes "=" ++ r) more)
           ∙ sym (append-assoc w (bytes "=") (drop (length (e .keyword ++ bytes "=")) l));
     }
+
+-- The listed spelling is one of them, and a line that has the keyword has it so exactly where its spelling is the same.
+pub listed-has : (e : Entry) (l : Text) → begins (keywordStart (e .keyword)) l ≡ true → hasKeyword e l ≡ true
+listed-has e l b =
+    ap (hasKeyword e) (begins-split (keywordStart (e .keyword)) l b)
+    ∙ keyword-had e (e .keyword) (drop (length (keywordStart (e .keyword))) l) (case-refl (e .keyword))
+
+pub listed-spelt : (e : Entry) (l : Text) → hasKeyword e l ≡ true → begins (keywordStart (e .keyword)) l ≡ same (e .keyword) (spellingOn e l)
+listed-spelt e l h = by (same (e .keyword) (spellingOn e l)) refl (keyword-has e l h .line)
+  where
+    word : Text
+    word = e .keyword
+
+    spelt-so : begins (keywordStart word) l ≡ true → spellingOn e l ≡ word
+    spelt-so b =
+        ap (spellingOn e) (begins-split (keywordStart word) l b)
+        ∙ spelling-on e word (drop (length (keywordStart word)) l) (case-refl word)
+
+    by : (b : Bool) → same word (spellingOn e l) ≡ b → l ≡ keywordStart (spellingOn e l) ++ argumentOn e l → begins (keywordStart word) l ≡ b
+    by true s q =
+        let here : l ≡ keywordStart word ++ argumentOn e l = q ∙ ap (λ (w : Text). keywordStart w ++ argumentOn e l) (sym (same-eq word (spellingOn e l) s)) in
+        ap (begins (keywordStart word)) here ∙ begins-front (keywordStart word) (argumentOn e l)
+    by false s q = fails (begins (keywordStart word) l) (λ b. clash (same-of-eq word (spellingOn e l) (sym (spelt-so b))) s)
 
 -- # The spellings of all keywords
 

@@ -7,22 +7,28 @@ use mathlib.Core.Path.{_≡_, refl, sym, ap, _∙_}
 use lib.ListN.{drop, length, take}
 use denote.Ref.{now}
 use Rattle.reader.specs.Line.{lineAt}
-use Rattle.reader.specs.Read.{early, headOf}
+use Rattle.reader.specs.Read.{early, headOf, noHeading}
 use Rattle.reader.specs.declared.LineRead.the-variants as LineRead
 use Rattle.rules.specs.Reading.{step}
 use Rattle.rules.specs.Rules.{base}
 use Rattle.rules.specs.Text.{Text}
 use Rattle.rules.specs.declared.Next.the-variants as Next
-use Rattle.reader.proofs.HeadLaws.{head-ends, head-goes-on, head-missing, head-refuses, head-starts, head-too-long, headAt, log-small, still-early}
+use Rattle.reader.proofs.HeadLaws.{head-ends, head-goes-on, head-missing, head-refuses, head-starts, head-too-long, headAt, heading-next, log-small, one-at-most, still-early, stepped-next, stepped-respelt}
 use Rattle.reader.proofs.LineLaws.{Stood, stood}
 use Rattle.reader.proofs.head.Statement.{statement}
 use Rattle.reader.proofs.head.Tie as tie
 
 abbrev Inv-loop : tie.InvT-loop
-Inv-loop log due₀ claims₀ at₀ line₀ due claims at line = (at ≤ length log) × (length log ≤ base .longestLog) × (line ≤ at + 1) × (early due ≡ true) × (headOf base log ≡ headAt base log due line at claims)
+Inv-loop log due₀ claims₀ respelt₀ at₀ line₀ due claims respelt at line =
+    (at ≤ length log)
+    × (length log ≤ base .longestLog)
+    × (line ≤ at + 1)
+    × (early due ≡ true)
+    × (headOf base log ≡ headAt base log due line at (record { claims = claims; respelt = respelt }))
+    × (respelt < line)
 
 abbrev μ-loop : tie.MeasureT-loop
-μ-loop log due₀ claims₀ at₀ line₀ due claims at line = length log - at
+μ-loop log due₀ claims₀ respelt₀ at₀ line₀ due claims respelt at line = length log - at
 
 -- The places of a turn: its start, behind the line that is found, and behind the step that goes on.
 abbrev text : tie.At-loop Inv-loop μ-loop → Text
@@ -41,7 +47,7 @@ found : (c : tie.After-known-told Inv-loop μ-loop) → Stood base (text (looped
 found c = stood base _ _ (line-is c)
 
 goes : (k : tie.After-known-told3 Inv-loop μ-loop) → step base ((looped (lined k)) .loop .due) (take ((lined k) .before .end .given .0 .0 - (looped (lined k)) .loop .at) (drop ((looped (lined k)) .loop .at) (text (looped (lined k))))) ≡ Next.Goes (k .before .after2 .given .0 .0)
-goes k = sym (k .before .before .before .head-step .ensures) ∙ k .before .after2 .given .1
+goes k = stepped-next base _ _ (k .before .before .before .head-step .ensures) ∙ k .before .after2 .given .1
 
 longest-log-requires : tie.Need-longest-log-requires Inv-loop μ-loop
 longest-log-requires c κs = search needs
@@ -52,9 +58,10 @@ returns c =
     head-too-long base _ long
 
 loop-holds : tie.Need-loop-holds Inv-loop μ-loop
+unfolding noHeading
 loop-holds c =
     let short : length (now (c .before .before .before .args .log)) ≤ base .longestLog = omega (arith, c .before .longest-log .ensures, c .if1 .left) in
-    (omega arith, short, omega arith, refl, head-starts base _ short)
+    (omega arith, short, omega arith, refl, head-starts base _ short, omega arith)
 
 line-end-requires : tie.Need-line-end-requires Inv-loop μ-loop
 line-end-requires c κs = search needs
@@ -88,7 +95,7 @@ returns-3 c =
     let d = c .before .before .before .before .before in
     sym
     ((looped d) .loop .inv .4
-    ∙ head-refuses base _ _ _ _ _ (line-is d) (sym (c .before .before .before .head-step .ensures) ∙ c .before .after .given .1))
+    ∙ head-refuses base _ _ _ _ _ (line-is d) (stepped-next base _ _ (c .before .before .before .head-step .ensures) ∙ c .before .after .given .1))
 
 enum-known-after-2 : tie.Need-enum-known-after-2 Inv-loop μ-loop
 enum-known-after-2 c = search needs
@@ -117,22 +124,28 @@ enum-told-2 c = search needs
 claims-by-requires : tie.Need-claims-by-requires Inv-loop μ-loop
 claims-by-requires c κs = search needs
 
+respelt-by-requires : tie.Need-respelt-by-requires Inv-loop μ-loop
+respelt-by-requires c κs =
+    let l = looped (lined (c .before .before .before .before)) in
+    omega (arith, l .loop .inv .0, l .loop .inv .1, l .loop .inv .2, l .loop .inv .5)
+
 loop-less : tie.Need-loop-less Inv-loop μ-loop
-loop-less c = let d = lined (c .before .before .before .before) in omega (arith, (found d) .behind, (found d) .within)
+loop-less c = let d = lined (c .before .before .before .before .before) in omega (arith, (found d) .behind, (found d) .within)
 
 loop-again : tie.Need-loop-again Inv-loop μ-loop
 loop-again c =
-    let k = c .before .before .before .before in
+    let k = c .before .before .before .before .before in
     let d = lined k in
     let l = looped d in
-    let further = sym (c .before .before .before .counted-by .ensures) ∙ c .before .enum-told2 .given .1 in (
+    let further = sym (c .before .before .before .before .counted-by .ensures) ∙ c .before .before .enum-told2 .given .1 in (
       omega (arith, (found d) .within),
       l .loop .inv .1,
       omega (arith, (found d) .behind, l .loop .inv .2),
       still-early _ further,
       l .loop .inv .4
           ∙ head-goes-on base _ _ _ _ _ (line-is d) (goes k) further
-          ∙ ap (headAt base (text l) (k .before .after2 .given .0 .0) (l .loop .line + 1) (d .before .end .given .0 .0 + 2)) (sym (c .claims-by .ensures)),
+          ∙ ap (headAt base (text l) (k .before .after2 .given .0 .0) (l .loop .line + 1) (d .before .end .given .0 .0 + 2)) (heading-next _ _ _ _ (c .before .claims-by .ensures) (c .respelt-by .ensures) (stepped-respelt base _ _ (k .before .before .before .head-step .ensures))),
+      omega (arith, l .loop .inv .5, c .respelt-by .ensures, one-at-most (k .before .before .before .head-step .result .respelt)),
     )
 
 pub head-spec : {M : Type 1} → statement M
@@ -162,5 +175,6 @@ head-spec =
     returns-4
     enum-told-2
     claims-by-requires
+    respelt-by-requires
     loop-less
     loop-again)

@@ -5,7 +5,7 @@ use mathlib.Core.Path.{sym, ap, _∙_}
 use Rattle.reader.specs.Read.{early}
 use Rattle.rules.specs.Log.{identifier, remarksLine}
 use Rattle.rules.specs.Rules.{base}
-use Rattle.reader.proofs.DueLaws.{at-due, at-end, at-identifier, at-keyword, at-remarks}
+use Rattle.reader.proofs.DueLaws.{at-due, at-end, at-identifier, at-remark, at-remarks}
 use Rattle.reader.proofs.head_step.Statement.{statement}
 use Rattle.reader.proofs.head_step.Tie as tie
 
@@ -42,28 +42,34 @@ remark-step-requires c κs = search needs
 enum-told-4 : tie.Need-enum-told-4
 enum-told-4 c = search needs
 
+no-more-requires : tie.Need-no-more-requires
+no-more-requires c κs = search needs
+
 enum-told-5 : tie.Need-enum-told-5
 enum-told-5 c = search needs
+
+no-more-requires-2 : tie.Need-no-more-requires-2
+no-more-requires-2 c κs = search needs
 
 returns : tie.Need-returns
 unfolding identifier
 returns c = at-identifier base _ _ (c .before .before .enum-told .given .1) (c .whole-step .ensures)
 
 returns-2 : tie.Need-returns-2
-returns-2 c = at-keyword base _ _ (c .before .before .due .given .1) (c .keyword-step .ensures)
+returns-2 c = at-due base _ _ (c .before .before .due .given .1) (c .keyword-step .ensures)
 
 returns-3 : tie.Need-returns-3
 unfolding remarksLine
 returns-3 c = at-remarks base _ _ (c .before .before .enum-told2 .given .1) (c .whole-step2 .ensures)
 
 returns-4 : tie.Need-returns-4
-returns-4 c = at-due base _ _ (c .before .enum-told3 .given .1) (c .remark-step .ensures)
+returns-4 c = at-remark base _ _ (c .before .enum-told3 .given .1) (c .remark-step .ensures)
 
 returns-5 : tie.Need-returns-5
-returns-5 c = absurd (true≢false (sym (c .before .before .before .pre) ∙ ap early (c .enum-told4 .given .1)))
+returns-5 c = absurd (true≢false (sym (c .before .before .before .before .pre) ∙ ap early (c .before .enum-told4 .given .1)))
 
 returns-6 : tie.Need-returns-6
-returns-6 c = at-end base _ _ (c .enum-told5 .given .1)
+returns-6 c = at-end base _ _ (c .before .enum-told5 .given .1) (c .no-more2 .ensures)
 
 pub head-step-spec : {M : Type 1} → statement M
 head-step-spec =
@@ -80,7 +86,9 @@ head-step-spec =
     enum-told-3
     remark-step-requires
     enum-told-4
+    no-more-requires
     enum-told-5
+    no-more-requires-2
     returns
     returns-2
     returns-3

@@ -3,7 +3,7 @@ use borrow.Author.Needs.{needs}
 use mathlib.Core.Path.{ap}
 use Rattle.reader.specs.Read.{early}
 use Rattle.rules.specs.Rules.{base}
-use Rattle.reader.proofs.DueLaws.{at-due, at-end}
+use Rattle.reader.proofs.DueLaws.{at-end, at-record}
 use Rattle.reader.proofs.step.Statement.{statement}
 use Rattle.reader.proofs.step.Tie as tie
 
@@ -15,6 +15,9 @@ record-step-requires c κs = search needs
 
 enum-told : tie.Need-enum-told
 enum-told c = search needs
+
+no-more-requires : tie.Need-no-more-requires
+no-more-requires c κs = search needs
 
 enum-told-2 : tie.Need-enum-told-2
 enum-told-2 c = search needs
@@ -41,10 +44,10 @@ head-step-requires-4 : tie.Need-head-step-requires-4
 head-step-requires-4 c κs = ap early (c .enum-told5 .given .1)
 
 returns : tie.Need-returns
-returns c = at-due base _ _ (c .before .before .due .given .1) (c .record-step .ensures)
+returns c = at-record base _ _ (c .before .before .due .given .1) (c .record-step .ensures)
 
 returns-2 : tie.Need-returns-2
-returns-2 c = at-end base _ _ (c .enum-told .given .1)
+returns-2 c = at-end base _ _ (c .before .enum-told .given .1) (c .no-more .ensures)
 
 returns-3 : tie.Need-returns-3
 returns-3 c = c .head-step .ensures
@@ -65,6 +68,7 @@ step-spec =
     enum-known-due
     record-step-requires
     enum-told
+    no-more-requires
     enum-told-2
     head-step-requires
     enum-told-3
