@@ -24,7 +24,8 @@ use Rattle.rules.proofs.Classes.{length-verdicts}
 use Rattle.reader.specs.declared.Contact.{Contact}
 use Rattle.reader.specs.Contact.{contactAt, behind, contactsAt, Holds}
 use Rattle.reader.specs.Noted.{listed}
-use Rattle.reader.specs.Read.{claimsStart, readTold}
+use Rattle.reader.specs.Read.{claimsStart, headingOf, readTold}
+use Rattle.reader.specs.declared.Heading.{Heading}
 use Rattle.reader.specs.declared.ReadAnswer.the-variants as ReadAnswer
 use Rattle.reader.proofs.RecordsHeld.{recordsStart, records-held, records-stand}
 use Rattle.places.specs.declared.Declared.{Declared}
@@ -36,7 +37,7 @@ use Rattle.judge.specs.declared.Weighed.the-variants as Weighed
 use Rattle.judge.specs.declared.Judged.the-variants as Judged
 use Rattle.judge.specs.Bounds.{Small, Closable}
 use Rattle.judge.specs.Count.{closing, asDeclared}
-use Rattle.judge.specs.Judge.{firstOf, claimsOf, weighedBy, weighedOf, judgedBy, judgedOf, verdictsAfterwards}
+use Rattle.judge.specs.Judge.{firstOf, headingIn, weighedBy, weighedOf, judgedBy, judgedOf, verdictsAfterwards}
 use Rattle.judge.specs.Weigh.{recordsIn, recordsOf, numbersOf, Listed, Listings, Weighable, Weighs, Accepts}
 use Rattle.judge.proofs.CountLaws.{closed-totals}
 
@@ -81,7 +82,7 @@ all-listed R s first n place list {list' = list'} e f h =
 
 -- # An accepted log
 
-module _ {R : Rules} {s : Text} {records first claims : ℕ} (a : Accepts R s records first claims) where
+module _ {R : Rules} {s : Text} {records first : ℕ} {heading : Heading} (a : Accepts R s records first heading) where
   abbrev log : Log
   log = a .log
 
@@ -139,10 +140,10 @@ module _ {R : Rules} {s : Text} {records first claims : ℕ} (a : Accepts R s re
     written-done w = w .written ∙ rw (a .isRead, enough) (ap (λ (qs : List Qso). over (numbersOf R qs) slice) records-are)
 
 -- The totals are closed with what is declared.
-module _ {R : Rules} {s : Text} {records first claims : ℕ} (a : Accepts R s records first claims) (slice : List ℕ) (h : records ≤ length slice) where
-  claims-are : declaredAt R s claims ≡ declaredAt R s (claimsStart (a .log))
-  unfolding claimsOf
-  claims-are = ap (declaredAt R s) (a .claiming)
+module _ {R : Rules} {s : Text} {records first : ℕ} {heading : Heading} (a : Accepts R s records first heading) (slice : List ℕ) (h : records ≤ length slice) where
+  claims-are : declaredAt R s (heading .claims) ≡ declaredAt R s (claimsStart (a .log))
+  unfolding headingIn headingOf
+  claims-are = ap (λ (h : Heading). declaredAt R s (h .claims)) (a .headed)
 
   declared-are : asDeclared (declaredAt R s (claimsStart (a .log))) ≡ declared (a .log)
   unfolding asDeclared
@@ -158,7 +159,7 @@ module _ {R : Rules} {s : Text} {records first claims : ℕ} (a : Accepts R s re
         countryMultiplier = d .countrymultiplier i;
       }
 
-  totals-are : {t u : Totals} {d : Declared} {slice' : List ℕ} → Weighs R s slice t slice' → d ≡ declaredAt R s claims → u ≡ closing t d → u ≡ totalsOfLog R (a .log)
+  totals-are : {t u : Totals} {d : Declared} {slice' : List ℕ} → Weighs R s slice t slice' → d ≡ declaredAt R s (heading .claims) → u ≡ closing t d → u ≡ totalsOfLog R (a .log)
   unfolding totalsOfLog totals
   totals-are w e f =
       f
@@ -166,27 +167,27 @@ module _ {R : Rules} {s : Text} {records first claims : ℕ} (a : Accepts R s re
       ∙ closed-totals R (declaredAt R s (claimsStart (a .log))) (recordsOf R s) (verdicts R (recordsOf R s)) (length-verdicts R (recordsOf R s))
       ∙ (λ i. totalsOf R (declared-are i) (records-are a i) (verdicts R (records-are a i)))
 
-  pub done : {t u : Totals} {d : Declared} {slice' : List ℕ} → Weighs R s slice t slice' → d ≡ declaredAt R s claims → u ≡ closing t d → Weighed.Done u records first claims ≡ weighedOf R (length slice) s
+  pub done : {t u : Totals} {d : Declared} {slice' : List ℕ} → Weighs R s slice t slice' → d ≡ declaredAt R s (heading .claims) → u ≡ closing t d → Weighed.Done u records first heading ≡ weighedOf R (length slice) s
   unfolding weighedOf weighedBy judge judgeReading judgeLog recordsOfReading
   done w e f =
-      rw (a .isRead, enough a slice h) (λ i. Weighed.Done (totals-are w e f i) (a .count i) (a .place i) (a .claiming i))
+      rw (a .isRead, enough a slice h) (λ i. Weighed.Done (totals-are w e f i) (a .count i) (a .place i) (a .headed i))
 
 -- # From the reader's answer
 
 -- Two answers of different kinds.
-no-answer : {records first claims : ℕ} {r : Refusal} → ReadAnswer.Refused r ≡ ReadAnswer.Accepted records first claims → ⊥
+no-answer : {records first : ℕ} {heading : Heading} {r : Refusal} → ReadAnswer.Refused r ≡ ReadAnswer.Accepted records first heading → ⊥
 no-answer e = let z : _≡_ {A = ℕ} 0 1 = cc in omega arith
 
-pub not-weighed : {t : Totals} {records first claims : ℕ} {r : Refusal} → Weighed.Refused r ≡ Weighed.Done t records first claims → ⊥
+pub not-weighed : {t : Totals} {records first : ℕ} {heading : Heading} {r : Refusal} → Weighed.Refused r ≡ Weighed.Done t records first heading → ⊥
 not-weighed e = let z : _≡_ {A = ℕ} 0 1 = cc in omega arith
 
 module _ (R : Rules) (s : Text) where
-  pub accepts : {records first claims : ℕ} → readTold (length s) (read R s) ≡ ReadAnswer.Accepted records first claims → Accepts R s records first claims
-  unfolding readTold firstOf claimsOf
-  accepts {records} {first} {claims} = by (read R s) refl
+  pub accepts : {records first : ℕ} {heading : Heading} → readTold (length s) (read R s) ≡ ReadAnswer.Accepted records first heading → Accepts R s records first heading
+  unfolding readTold firstOf headingIn
+  accepts {records} {first} {heading} = by (read R s) refl
     where
-      by : (x : Reading) → read R s ≡ x → readTold (length s) x ≡ ReadAnswer.Accepted records first claims → Accepts R s records first claims
-      by (accepted log) e f = record { log = log; isRead = e; count = cc; place = cc; claiming = cc }
+      by : (x : Reading) → read R s ≡ x → readTold (length s) x ≡ ReadAnswer.Accepted records first heading → Accepts R s records first heading
+      by (accepted log) e f = record { log = log; isRead = e; count = cc; place = cc; headed = cc }
       by (refused r) e f = absurd (no-answer f)
 
   refuses : {r : Refusal} → readTold (length s) (read R s) ≡ ReadAnswer.Refused r → read R s ≡ refused r
@@ -208,11 +209,11 @@ module _ (R : Rules) (s : Text) where
 
   -- The totals alone.
   module _ (room : ℕ) where
-    pub totals-alone : {t : Totals} {records first claims : ℕ} → weighedOf R room s ≡ Weighed.Done t records first claims → Judged.Totals t ≡ judgedOf R room s
+    pub totals-alone : {t : Totals} {records first : ℕ} {heading : Heading} → weighedOf R room s ≡ Weighed.Done t records first heading → Judged.Totals t ≡ judgedOf R room s
     unfolding weighedOf judgedOf
-    totals-alone {t} {records} {first} {claims} = by (judge R room s)
+    totals-alone {t} {records} {first} {heading} = by (judge R room s)
       where
-        by : (j : Judgement) → weighedBy j (recordsOfReading (read R s)) (firstOf s (read R s)) (claimsOf (read R s)) ≡ Weighed.Done t records first claims → Judged.Totals t ≡ judgedBy j
+        by : (j : Judgement) → weighedBy j (recordsOfReading (read R s)) (firstOf s (read R s)) (headingIn (read R s)) ≡ Weighed.Done t records first heading → Judged.Totals t ≡ judgedBy j
         by (judged u vs) e = let k : t ≡ u = cc in ap Judged.Totals k
         by (unjudged r) e = absurd (not-weighed e)
 
@@ -220,6 +221,6 @@ module _ (R : Rules) (s : Text) where
     unfolding weighedOf judgedOf
     refusal-alone {r} = by (judge R room s)
       where
-        by : (j : Judgement) → weighedBy j (recordsOfReading (read R s)) (firstOf s (read R s)) (claimsOf (read R s)) ≡ Weighed.Refused r → Judged.Refused r ≡ judgedBy j
+        by : (j : Judgement) → weighedBy j (recordsOfReading (read R s)) (firstOf s (read R s)) (headingIn (read R s)) ≡ Weighed.Refused r → Judged.Refused r ≡ judgedBy j
         by (judged u vs) e = absurd (not-weighed (sym e))
         by (unjudged q) e = let k : r ≡ q = cc in ap Judged.Refused k

@@ -8,7 +8,8 @@ use Rattle.rules.specs.Rules.{Rules}
 use Rattle.rules.specs.Log.{recordLine, ended}
 use Rattle.rules.specs.Reading.{Reading, accepted, refused, read}
 use Rattle.rules.specs.Answers.{Judgement, judged, unjudged, judge, recordsOfReading, numbersOfJudgement, over}
-use Rattle.reader.specs.Read.{claimsStart}
+use Rattle.reader.specs.Read.{headingOf, noHeading}
+use Rattle.reader.specs.declared.Heading.{Heading}
 use Rattle.judge.specs.declared.Weighed.{Weighed}
 use Rattle.judge.specs.declared.Judged.{Judged}
 use Rattle.judge.specs.declared.Weighed.the-variants as Weighed
@@ -20,21 +21,21 @@ unfolding ended
 firstOf s (accepted log) = length s - length (ended (map recordLine (log .records)))
 firstOf s (refused r) = 0
 
--- Where the claims of an accepted log begin.
-unfoldable pub claimsOf : Reading → ℕ
-unfolding claimsStart
-claimsOf (accepted log) = claimsStart log
-claimsOf (refused r) = 0
+-- The heading of an accepted log.
+unfoldable pub headingIn : Reading → Heading
+unfolding headingOf noHeading
+headingIn (accepted log) = headingOf log
+headingIn (refused r) = noHeading
 
--- The totals, with how many records there are, where the first begins and where the claims do; or the refusal.
-unfoldable pub weighedBy : Judgement → ℕ → ℕ → ℕ → Weighed
-weighedBy (judged t vs) records first claims = Weighed.Done t records first claims
-weighedBy (unjudged r) records first claims = Weighed.Refused r
+-- The totals, with how many records there are, where the first begins and the heading; or the refusal.
+unfoldable pub weighedBy : Judgement → ℕ → ℕ → Heading → Weighed
+weighedBy (judged t vs) records first heading = Weighed.Done t records first heading
+weighedBy (unjudged r) records first heading = Weighed.Refused r
 
 unfoldable pub weighedOf : Rules → ℕ → Text → Weighed
-unfolding weighedBy judge recordsOfReading firstOf claimsOf
+unfolding weighedBy judge recordsOfReading firstOf headingIn
 weighedOf R room s =
-    weighedBy (judge R room s) (recordsOfReading (read R s)) (firstOf s (read R s)) (claimsOf (read R s))
+    weighedBy (judge R room s) (recordsOfReading (read R s)) (firstOf s (read R s)) (headingIn (read R s))
 
 -- The totals alone, or the refusal.
 unfoldable pub judgedBy : Judgement → Judged

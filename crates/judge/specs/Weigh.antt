@@ -17,7 +17,8 @@ use Rattle.reader.specs.declared.Contact.{Contact}
 use Rattle.reader.specs.Contact.{contactsAt, Holds}
 use Rattle.judge.specs.Bounds.{Counts}
 use Rattle.judge.specs.Count.{addRecords}
-use Rattle.judge.specs.Judge.{firstOf, claimsOf}
+use Rattle.reader.specs.declared.Heading.{Heading}
+use Rattle.judge.specs.Judge.{firstOf, headingIn}
 
 -- The records of a log; none where it is refused.
 abbrev pub recordsIn : Reading → List Qso
@@ -60,10 +61,10 @@ pub record Weighs (R : Rules) (s : Text) (slice : List ℕ) (r : Totals) (slice'
   pub few : Counts R (R .mostRecords) r
   pub written : slice' ≡ over (numbersOf R (recordsOf R s)) slice
 
--- The log was read, and has so many records, the first at this place, and its claims at that.
-pub record Accepts (R : Rules) (s : Text) (records first claims : ℕ) : Type 0 where
+-- The log was read, and has so many records, the first at this place, and this heading.
+pub record Accepts (R : Rules) (s : Text) (records first : ℕ) (heading : Heading) : Type 0 where
   pub log : Log
   pub isRead : read R s ≡ accepted log
   pub count : records ≡ length (log .records)
   pub place : first ≡ firstOf s (accepted log)
-  pub claiming : claims ≡ claimsOf (accepted log)
+  pub headed : heading ≡ headingIn (accepted log)

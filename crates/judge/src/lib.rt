@@ -22,6 +22,7 @@ ghost use Rattle.judge.specs.Weigh.{Accepts, Listings, Weighable, Weighs
 ghost use Rattle.judge.specs.Step.{Classed, CreditReady, Credits, NewPart, NewSquare, Ready, Steps, classNoted};
 use figures::NumberRead;
 use places::Declared;
+use reader::Heading;
 use reader::ReadAnswer;
 use rules::Class;
 use rules::Refusal;
@@ -541,14 +542,14 @@ fn walk_records(
 
 // # The log
 
-// What a log is judged to be, with how many records it has, where the first begins and where the claims do, for a caller that walks them again.
+// What a log is judged to be, with how many records it has, where the first begins and what its header is like, for a caller that walks them again.
 pub enum Weighed {
     Refused(Refusal),
     Done {
         totals: Totals,
         records: usize,
         first: usize,
-        claims: usize,
+        heading: Heading,
     },
 }
 
@@ -563,14 +564,14 @@ fn weigh_accepted(
     log: &[u8],
     records: usize,
     first: usize,
-    claims: usize,
+    heading: Heading,
     verdicts: &mut [u8],
     calls: &mut [u16],
     exchanges: &mut [u16],
     points: &[u16],
     pointsends: &[u16],
 ) -> Weighed
-    requires { ⌜ Accepts base (now log) records first claims ⌝ }
+    requires { ⌜ Accepts base (now log) records first heading ⌝ }
     requires { ⌜ Listings base (now log) first records (now calls) (now exchanges) (now points) (now pointsends) ⌝ }
     ensures answer { λ r. ⌜ r ≡ weighedOf base (length (now (verdicts .entry))) (now (log .entry)) ⌝ }
     ensures slice { λ r. ⌜ now (verdicts .exit) ≡ verdictsAfterwards base (now (log .entry)) (now (verdicts .entry)) ⌝ }
@@ -583,12 +584,12 @@ fn weigh_accepted(
         });
     }
     let sums = walk_records(log, records, verdicts, calls, exchanges, points, pointsends);
-    let totals = closed(sums, places::declared_at(log, claims));
+    let totals = closed(sums, places::declared_at(log, heading.claims));
     Weighed::Done {
         totals,
         records,
         first,
-        claims,
+        heading,
     }
 }
 
@@ -614,12 +615,12 @@ pub fn weigh(
         ReadAnswer::Accepted {
             records,
             first,
-            claims,
+            heading,
         } => weigh_accepted(
             log,
             records,
             first,
-            claims,
+            heading,
             verdicts,
             &mut calls,
             &mut exchanges,
@@ -643,7 +644,7 @@ pub fn judge(log: &[u8], verdicts: &mut [u8]) -> Judged
             totals,
             records: _,
             first: _,
-            claims: _,
+            heading: _,
         } => Judged::Totals(totals),
         Weighed::Refused(r) => Judged::Refused(r),
     }

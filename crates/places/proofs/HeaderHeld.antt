@@ -3,26 +3,30 @@
 use Prim.Native.Nat.{ℕ, zero, suc, _+_, _-_, _≤_, _<_, min}
 use native.Mathlib.Omega.{arith}
 use mathlib.Core.Path.{_≡_, refl, sym, ap, _∙_}
-use mathlib.Core.Bool.{Bool, true, false, not, _&&_}
+use mathlib.Core.Bool.{Bool, true, false, cond, not, _&&_}
 use mathlib.Core.List.{List, [], _∷_, _++_, map, append-assoc}
 use lib.Dec.{T, eqb}
 use lib.ListN.{length, drop, getD, length-append, length-drop, length-take}
 use lib.Seq.{drop-at}
-use Rattle.rules.specs.Text.{Text, bytes, same, value, parts, allowed, span}
+use Rattle.rules.specs.Text.{Text, same, sameButCase, begins, value, parts, allowed, span}
 use Rattle.rules.specs.Rules.{Rules}
 use Rattle.rules.specs.Arguments.{Entry, entries, meets, countBonusMultiplier, count, bonus, multiplier, part}
-use Rattle.rules.specs.Log.{Log, identifier, argumentIn, argument, remarksLine, countLine, recordLine, keywordStart, keywordLines, linesOf, render, argumentRules, valid}
-use Rattle.rules.specs.Reading.{read, accepted}
+use Rattle.rules.specs.Log.{Log, identifier, argumentIn, argument, remarksLine, countLine, recordLine, keywordStart, keywordLines, linesOf, render, keywordRules, argumentRules, valid}
+use Rattle.rules.specs.Reading.{hasKeyword, read, accepted}
 use Rattle.rules.specs.Judging.{declared, Declared as Judged}
-use Rattle.rules.specs.Answers.{argumentStart}
+use Rattle.rules.specs.Answers.{argumentStart, isListed}
 use Rattle.rules.proofs.Tests.{so, holds, never, and-l, and-r, not-true, eq-of-test}
 use Rattle.rules.proofs.TextLaws.{same-refl}
+use Rattle.rules.proofs.SpellingLaws.{case-length, length-start, spelling-on, keyword-had, listed-spelt, spelling-count, keyword-count}
+use Rattle.rules.proofs.LogLaws.{argument-count}
 use Rattle.rules.proofs.Bounds.{each-at}
 use Rattle.rules.proofs.Format.{accepted-when-written, of-valid}
+use Rattle.header.specs.Header.{firstKeyword, keywordAt}
+use Rattle.header.specs.declared.KeywordRead.the-variants as KeywordRead
 use Rattle.reader.specs.Contact.{valueBy}
 use Rattle.reader.specs.Read.{claimsStart}
 use Rattle.places.specs.declared.Declared.{Declared}
-use Rattle.places.specs.Places.{lineTextAt, lineOn, lineStart, argumentOn, argumentAt, declaredAt}
+use Rattle.places.specs.Places.{saysListed, lineTextAt, lineOn, lineStart, argumentOn, argumentAt, declaredAt}
 use Rattle.places.proofs.LineStarts.{line-more}
 use Rattle.places.proofs.LinesHeld.{start-of-line, text-of-line, line-inside}
 
@@ -56,15 +60,30 @@ all-apart : apart entries ≡ true
 unfolding apart everyEntry entries same
 all-apart = refl
 
+-- What the matcher tells is that the spelling is the listed one by its first test.
+listed-by : (a b : Bool) → saysListed (cond a KeywordRead.Listed (cond b KeywordRead.Respelt KeywordRead.Differs)) ≡ a
+listed-by true b = refl
+listed-by false true = refl
+listed-by false false = refl
+
 module _ (R : Rules) where
-  -- The line of the entry at a place, the rule that its argument keeps, and that it is the argument of its keyword.
-  keyword-line : (es : List Entry) (ts more : List Text) (j : ℕ) (e : Entry) (rest : List Entry) → argumentRules R es ts ≡ true → drop j es ≡ e ∷ rest → getD (keywordLines es ts ++ more) j [] ≡ keywordStart e ++ getD ts j []
-  unfolding argumentRules keywordLines
-  keyword-line [] ts more j e rest r h = none-left j e rest h
-  keyword-line (d ∷ es) [] more j e rest r h = never r
-  keyword-line (d ∷ es) (t ∷ ts) more zero e rest r h = let g : d ≡ e = cc in ap (λ (f : Entry). keywordStart f ++ t) g
-  keyword-line (d ∷ es) (t ∷ ts) more (suc j) e rest r h =
-      keyword-line es ts more j e rest (and-r (meets R (d .rule) t) (argumentRules R es ts) r) h
+  -- The line at a place, how its keyword is spelt, the rule that its argument keeps, and that it is the argument of its keyword.
+  keyword-line : (ws ts more : List Text) (j : ℕ) → length ws ≡ length ts → j < length ws → getD (keywordLines ws ts ++ more) j [] ≡ keywordStart (getD ws j []) ++ getD ts j []
+  unfolding keywordLines
+  keyword-line [] ts more j n h = absurd (omega arith)
+  keyword-line (w ∷ ws) [] more j n h = absurd (omega arith)
+  keyword-line (w ∷ ws) (t ∷ ts) more zero n h = refl
+  keyword-line (w ∷ ws) (t ∷ ts) more (suc j) n h = keyword-line ws ts more j (omega arith) (omega arith)
+
+  spelling-kept : (es : List Entry) (ws : List Text) (j : ℕ) (e : Entry) (rest : List Entry) → keywordRules es ws ≡ true → drop j es ≡ e ∷ rest → sameButCase (e .keyword) (getD ws j []) ≡ true
+  unfolding keywordRules
+  spelling-kept [] ws j e rest r h = none-left j e rest h
+  spelling-kept (d ∷ es) [] j e rest r h = never r
+  spelling-kept (d ∷ es) (w ∷ ws) zero e rest r h =
+      let g : d ≡ e = cc in
+      rw g at (and-l (sameButCase (d .keyword) w) (keywordRules es ws) r)
+  spelling-kept (d ∷ es) (w ∷ ws) (suc j) e rest r h =
+      spelling-kept es ws j e rest (and-r (sameButCase (d .keyword) w) (keywordRules es ws) r) h
 
   rule-kept : (es : List Entry) (ts : List Text) (j : ℕ) (e : Entry) (rest : List Entry) → argumentRules R es ts ≡ true → drop j es ≡ e ∷ rest → meets R (e .rule) (getD ts j []) ≡ true
   unfolding argumentRules
@@ -88,12 +107,6 @@ module _ (R : Rules) where
       let b : same (d .keyword) (e .keyword) ≡ false = not-true (same (d .keyword) (e .keyword)) (of-entry (λ f. not (same (d .keyword) (f .keyword))) es j e rest (and-l (everyEntry (λ f. not (same (d .keyword) (f .keyword))) es) (apart es) a) h) in
       rw b
       (argument-at es ts j e rest (and-r (everyEntry (λ f. not (same (d .keyword) (f .keyword))) es) (apart es) a) (and-r (meets R (d .rule) t) (argumentRules R es ts) r) h)
-
-  pub keyword-count : (es : List Entry) (ts : List Text) → argumentRules R es ts ≡ true → length (keywordLines es ts) ≡ length es
-  unfolding argumentRules keywordLines
-  keyword-count [] ts r = refl
-  keyword-count (d ∷ es) [] r = never r
-  keyword-count (d ∷ es) (t ∷ ts) r = ap suc (keyword-count es ts (and-r (meets R (d .rule) t) (argumentRules R es ts) r))
 
 -- The second of three arguments is a bonus, the third a multiplier.
 module _ (R : Rules) (t : Text) (m : meets R countBonusMultiplier t ≡ true) where
@@ -124,31 +137,59 @@ module _ (R : Rules) (s : Text) (log : Log) (w : read R s ≡ accepted log) wher
   pub ruled : argumentRules R entries (log .arguments) ≡ true
   ruled = (of-valid R log (so (valid R log) is-valid)) .rulesOfArguments
 
+  spelt : keywordRules entries (log .keywords) ≡ true
+  spelt = (of-valid R log (so (valid R log) is-valid)) .spellings
+
+  many : length (log .keywords) ≡ length (log .arguments)
+  many = spelling-count entries (log .keywords) spelt ∙ sym (argument-count R entries (log .arguments) ruled)
+
   abbrev behind : List Text
   behind = (remarksLine ∷ log .remarks) ++ (countLine (length (log .records)) ∷ map recordLine (log .records))
 
-  lines-from : linesOf log ≡ identifier ∷ (keywordLines entries (log .arguments) ++ behind)
+  lines-from : linesOf log ≡ identifier ∷ (keywordLines (log .keywords) (log .arguments) ++ behind)
   unfolding linesOf
   lines-from =
       ap {B = List Text} (λ r. identifier ∷ r)
-      (append-assoc (keywordLines entries (log .arguments)) (remarksLine ∷ log .remarks) (countLine (length (log .records)) ∷ map recordLine (log .records)))
+      (append-assoc (keywordLines (log .keywords) (log .arguments)) (remarksLine ∷ log .remarks) (countLine (length (log .records)) ∷ map recordLine (log .records)))
 
   -- The keyword at a place of the table, and its line, one further on.
   module _ (j : ℕ) (e : Entry) (rest : List Entry) (h : drop j entries ≡ e ∷ rest) where
     line-there : suc j < length (linesOf log)
     line-there =
         let n : length entries - j ≡ suc (length rest) = sym (length-drop j entries) ∙ ap length h in
-        omega (arith, ap length lines-from, length-append (keywordLines entries (log .arguments)) behind, keyword-count R entries (log .arguments) ruled)
+        omega (arith, ap length lines-from, length-append (keywordLines (log .keywords) (log .arguments)) behind, keyword-count (log .keywords) (log .arguments) many, spelling-count entries (log .keywords) spelt)
 
-    line-is : lineTextAt s (lineStart s (suc j)) ≡ keywordStart e ++ getD (log .arguments) j []
+    -- The keyword as it stands there.
+    abbrev word : Text
+    word = getD (log .keywords) j []
+
+    spelt-so : sameButCase (e .keyword) word ≡ true
+    spelt-so = spelling-kept R entries (log .keywords) j e rest spelt h
+
+    line-is : lineTextAt s (lineStart s (suc j)) ≡ keywordStart word ++ getD (log .arguments) j []
     line-is =
+        let n : length entries - j ≡ suc (length rest) = sym (length-drop j entries) ∙ ap length h in
         text-of-line R s log is-valid is-written (suc j) line-there
         ∙ ap (λ (ls : List Text). getD ls (suc j) []) lines-from
-        ∙ keyword-line R entries (log .arguments) behind j e rest ruled h
+        ∙ keyword-line R (log .keywords) (log .arguments) behind j many (omega (arith, spelling-count entries (log .keywords) spelt))
 
-    six : length (keywordStart e) ≡ 6
-    unfolding keywordStart
-    six = omega (arith, length-append (e .keyword) (bytes "="), eq-of-test (length (e .keyword)) 5 (of-entry (λ d. eqb (length (d .keyword)) 5) entries j e rest five h))
+    six : length (keywordStart (e .keyword)) ≡ 6
+    six = omega (arith, length-start (e .keyword), eq-of-test (length (e .keyword)) 5 (of-entry (λ d. eqb (length (d .keyword)) 5) entries j e rest five h))
+
+    word-six : length (keywordStart word) ≡ 6
+    word-six = omega (arith, six, length-start (e .keyword), length-start word, case-length (e .keyword) word spelt-so)
+
+    -- How the matcher finds it spelt.
+    keyword-told : saysListed (keywordAt j (lineTextAt s (lineStart s (suc j)))) ≡ same (e .keyword) word
+    unfolding keywordAt firstKeyword
+    keyword-told =
+        let t = getD (log .arguments) j [] in
+        let l = keywordStart word ++ t in
+        ap (λ (x : Text). saysListed (keywordAt j x)) line-is
+        ∙ ap (λ (es : List Entry). saysListed (firstKeyword es l)) h
+        ∙ listed-by (begins (keywordStart (e .keyword)) l) (hasKeyword e l)
+        ∙ listed-spelt e l (keyword-had e word t spelt-so)
+        ∙ ap (same (e .keyword)) (spelling-on e word t spelt-so)
 
     argument-is : argument log (e .keyword) ≡ getD (log .arguments) j []
     unfolding argument
@@ -157,7 +198,7 @@ module _ (R : Rules) (s : Text) (log : Log) (w : read R s ≡ accepted log) wher
     held : argumentAt s (suc j) ≡ argument log (e .keyword)
     unfolding argumentOn
     held =
-        ap (drop 6) line-is ∙ drop-at (keywordStart e) (getD (log .arguments) j []) 6 six ∙ sym argument-is
+        ap (drop 6) line-is ∙ drop-at (keywordStart word) (getD (log .arguments) j []) 6 word-six ∙ sym argument-is
 
     starts : lineStart s (suc j) + 6 ≡ argumentStart log (suc j) e
     unfolding argumentStart
@@ -167,7 +208,7 @@ module _ (R : Rules) (s : Text) (log : Log) (w : read R s ≡ accepted log) wher
     inside = line-inside R s log is-valid is-written (suc j) (omega (arith, line-there))
 
     line-long : length (lineTextAt s (lineStart s (suc j))) ≡ 6 + length (getD (log .arguments) j [])
-    line-long = ap length line-is ∙ length-append (keywordStart e) (getD (log .arguments) j []) ∙ ap (λ (n : ℕ). n + length (getD (log .arguments) j [])) six
+    line-long = ap length line-is ∙ length-append (keywordStart word) (getD (log .arguments) j []) ∙ ap (λ (n : ℕ). n + length (getD (log .arguments) j [])) word-six
 
     within : lineStart s (suc j) + 6 + length (argumentAt s (suc j)) ≤ length s
     unfolding argumentOn lineTextAt
@@ -201,6 +242,10 @@ module _ (R : Rules) (s : Text) (log : Log) (w : read R s ≡ accepted log) wher
 
     pub argument-starts : lineStart s k + 6 ≡ argumentStart log k e
     argument-starts = rw counted at (starts (k - 1) e rest h)
+
+    pub keyword-listed : saysListed (keywordAt (k - 1) (lineTextAt s (lineStart s k))) ≡ isListed log k e
+    unfolding isListed
+    keyword-listed = rw counted at (keyword-told (k - 1) e rest h)
 
     pub argument-inside : min (lineStart s k) (length s) ≡ lineStart s k
     argument-inside = rw counted at (inside (k - 1) e rest h)

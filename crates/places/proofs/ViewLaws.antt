@@ -15,16 +15,22 @@ use Rattle.rules.specs.Rules.{Rules}
 use Rattle.rules.specs.Arguments.{Entry, entries, anything}
 use Rattle.rules.specs.Log.{Log, argument}
 use Rattle.rules.specs.Reading.{Reading, accepted, refused, refusal, read}
-use Rattle.rules.specs.Answers.{Viewing, seen, unseen, viewOfReading, argumentStart, startOfView, view, viewed}
+use Rattle.rules.specs.Answers.{Viewing, seen, unseen, viewOfReading, argumentStart, isListed, startOfView, view, viewed}
 use Rattle.rules.proofs.TextLaws.{span-short, take-its-length}
 use Rattle.reader.proofs.DueLaws.{entries-length}
+use Rattle.header.specs.Header.{keywordAt}
+use Rattle.reader.specs.declared.Heading.{Heading}
 use Rattle.reader.specs.declared.ReadAnswer.{ReadAnswer}
 use Rattle.reader.specs.declared.ReadAnswer.the-variants as ReadAnswer
 use Rattle.reader.specs.Read.{readTold, readOf}
 use Rattle.places.specs.declared.ViewRead.{ViewRead}
 use Rattle.places.specs.declared.ViewRead.the-variants as ViewRead
-use Rattle.places.specs.Places.{lineTextAt, lineStart, argumentOn, argumentAt, partSeen, viewTold, viewOf}
-use Rattle.places.proofs.HeaderHeld.{argument-held, argument-starts, argument-inside, argument-within}
+use Rattle.places.specs.Places.{saysListed, lineTextAt, lineStart, argumentOn, argumentAt, partSeen, viewTold, viewOf}
+use Rattle.places.proofs.HeaderHeld.{argument-held, argument-starts, keyword-listed, argument-inside, argument-within}
+
+-- A line ends within the text.
+pub run-within : (s : Text) (at : ℕ) → at ≤ length s → at + span allowed (drop at s) ≤ length s
+run-within s at h = omega (arith, span-short allowed (drop at s), length-drop at s)
 
 -- The part behind six characters of a line.
 module _ (s : Text) (at end : ℕ) (e : end ≡ at + span allowed (drop at s)) where
@@ -34,9 +40,14 @@ module _ (s : Text) (at end : ℕ) (e : end ≡ at + span allowed (drop at s)) w
       omega
       (arith, length-drop 6 (take (span allowed (drop at s)) (drop at s)), length-take-le (span allowed (drop at s)) (drop at s) (span-short allowed (drop at s)))
 
-  pub part-told : {n : ℕ} → n ≡ end - (at + 6) → ViewRead.Seen (at + 6) n ≡ partSeen s at
+  -- The line, as a part of the slice.
+  line-part : take (end - at) (drop at s) ≡ lineTextAt s at
+  unfolding lineTextAt
+  line-part = let n : end - at ≡ span allowed (drop at s) = omega arith in ap (λ (m : ℕ). take m (drop at s)) n
+
+  pub part-told : (k : ℕ) {n : ℕ} {listed : Bool} → n ≡ end - (at + 6) → listed ≡ saysListed (keywordAt (k - 1) (take (end - at) (drop at s))) → ViewRead.Seen (at + 6) n listed ≡ partSeen k s at
   unfolding partSeen
-  part-told q = ap (ViewRead.Seen (at + 6)) (q ∙ sym behind-length)
+  part-told k q p = ap₂ (ViewRead.Seen (at + 6)) (q ∙ sym behind-length) (p ∙ ap (λ (l : Text). saysListed (keywordAt (k - 1) l)) line-part)
 
 -- The number of a keyword.
 view-law : (R : Rules) (k : ℕ) (s : Text) → viewOf R k s ≡ viewTold (cond (leb 1 k) (viewOfReading k (drop (k - 1) entries) (read R s)) (unseen (refusal 9 0 0)))
@@ -94,11 +105,11 @@ module _ (R : Rules) (k : ℕ) (s : Text) where
     view-refused {r} q =
         sym (due-view ∙ ap (λ (a : Reading). viewTold (viewOfReading k (due ∷ drop (suc (k - 1)) entries) a)) (read-refused (read R s) q))
 
-    shown-law : (log : Log) → viewTold (viewOfReading k (due ∷ drop (suc (k - 1)) entries) (accepted log)) ≡ ViewRead.Seen (argumentStart log k due) (length (argument log (due .keyword)))
+    shown-law : (log : Log) → viewTold (viewOfReading k (due ∷ drop (suc (k - 1)) entries) (accepted log)) ≡ ViewRead.Seen (argumentStart log k due) (length (argument log (due .keyword))) (isListed log k due)
     unfolding viewOfReading viewTold
     shown-law log = refl
 
-    part-law : (at : ℕ) → partSeen s at ≡ ViewRead.Seen (at + 6) (length (drop 6 (lineTextAt s at)))
+    part-law : (at : ℕ) → partSeen k s at ≡ ViewRead.Seen (at + 6) (length (drop 6 (lineTextAt s at))) (saysListed (keywordAt (k - 1) (lineTextAt s at)))
     unfolding partSeen
     part-law at = refl
 
@@ -106,20 +117,23 @@ module _ (R : Rules) (k : ℕ) (s : Text) where
     unfolding argumentOn
     argument-law = refl
 
-    seen-at : (log : Log) → read R s ≡ accepted log → partSeen s (min (lineStart s k) (length s)) ≡ viewOf R k s
+    seen-at : (log : Log) → read R s ≡ accepted log → partSeen k s (min (lineStart s k) (length s)) ≡ viewOf R k s
     seen-at log a =
-        ap (partSeen s) (argument-inside R s log a k due (drop (suc (k - 1)) entries) low is-due)
+        let rest = drop (suc (k - 1)) entries in
+        ap (partSeen k s) (argument-inside R s log a k due rest low is-due)
         ∙ part-law (lineStart s k)
-        ∙ ap₂ ViewRead.Seen (argument-starts R s log a k due (drop (suc (k - 1)) entries) low is-due)
-        (ap length (sym argument-law ∙ argument-held R s log a k due (drop (suc (k - 1)) entries) low is-due))
+        ∙ (λ i.
+        ViewRead.Seen (argument-starts R s log a k due rest low is-due i)
+        (length ((sym argument-law ∙ argument-held R s log a k due rest low is-due) i))
+        (keyword-listed R s log a k due rest low is-due i))
         ∙ sym (due-view ∙ ap (λ (x : Reading). viewTold (viewOfReading k (due ∷ drop (suc (k - 1)) entries) x)) a ∙ shown-law log)
 
-    accepted-by : (a : Reading) {n f c : ℕ} → readTold (length s) a ≡ ReadAnswer.Accepted n f c → (log : Log) × (a ≡ accepted log)
+    accepted-by : (a : Reading) {n f : ℕ} {c : Heading} → readTold (length s) a ≡ ReadAnswer.Accepted n f c → (log : Log) × (a ≡ accepted log)
     unfolding readTold
     accepted-by (accepted log) q = (log, refl)
     accepted-by (refused r) q = let z : _≡_ {A = ℕ} 0 1 = cc in absurd (omega arith)
 
-    pub view-seen : {n f c : ℕ} → readOf R s ≡ ReadAnswer.Accepted n f c → partSeen s (min (lineStart s k) (length s)) ≡ viewOf R k s
+    pub view-seen : {n f : ℕ} {c : Heading} → readOf R s ≡ ReadAnswer.Accepted n f c → partSeen k s (min (lineStart s k) (length s)) ≡ viewOf R k s
     unfolding readOf
     view-seen q = let g = accepted-by (read R s) q in seen-at (g .0) (g .1)
 
@@ -158,11 +172,11 @@ module _ (R : Rules) (k : ℕ) (s : Text) where
             ∙ held;
       }
 
-  told-by : (b : Bool) (es : List Entry) (r : Reading) {a : ℕ} {t : Text} → leb 1 k ≡ b → drop (k - 1) entries ≡ es → read R s ≡ r → cond b (viewOfReading k es r) (unseen (refusal 9 0 0)) ≡ seen a t → Shows s a t
+  told-by : (b : Bool) (es : List Entry) (r : Reading) {a : ℕ} {t : Text} {x : Bool} → leb 1 k ≡ b → drop (k - 1) entries ≡ es → read R s ≡ r → cond b (viewOfReading k es r) (unseen (refusal 9 0 0)) ≡ seen a t x → Shows s a t
   unfolding viewOfReading
   told-by false es r g h e q = let z : _≡_ {A = ℕ} 0 1 = cc in absurd (omega arith)
-  told-by true [] r {a} {t} g h e q =
-      let f : unseen (refusal 9 0 0) ≡ seen a t = sym (beyond k r) ∙ q in
+  told-by true [] r {a} {t} {x} g h e q =
+      let f : unseen (refusal 9 0 0) ≡ seen a t x = sym (beyond k r) ∙ q in
       let z : _≡_ {A = ℕ} 0 1 = cc in
       absurd (omega arith)
   told-by true (d ∷ es) (refused r) g h e q = let z : _≡_ {A = ℕ} 0 1 = cc in absurd (omega arith)
@@ -180,10 +194,10 @@ module _ (R : Rules) (k : ℕ) (s : Text) where
   seen-law = refl
 
   -- What a view that is told of shows.
-  shown-by : (v : Viewing) {a n : ℕ} → view R k s ≡ v → viewTold v ≡ ViewRead.Seen a n → (a + n ≤ length s) × (take n (drop a s) ≡ viewed (view R k s))
+  shown-by : (v : Viewing) {a n : ℕ} {y : Bool} → view R k s ≡ v → viewTold v ≡ ViewRead.Seen a n y → (a + n ≤ length s) × (take n (drop a s) ≡ viewed (view R k s))
   unfolding viewTold viewed
   shown-by (unseen r) e q = let z : _≡_ {A = ℕ} 0 1 = cc in absurd (omega arith)
-  shown-by (seen b t) {a} {n} e q =
+  shown-by (seen b t l) {a} {n} e q =
       let x : b ≡ a = cc in
       let y : length t ≡ n = cc in
       let p : Shows s b t = told-by (leb 1 k) (drop (k - 1) entries) (read R s) refl refl refl (sym seen-law ∙ e) in
@@ -192,30 +206,30 @@ module _ (R : Rules) (k : ℕ) (s : Text) where
   hidden-by : (v : Viewing) {r : Refusal} → view R k s ≡ v → viewTold v ≡ ViewRead.Refused r → [] ≡ viewed (view R k s)
   unfolding viewTold viewed
   hidden-by (unseen r) e q = sym (ap viewed e)
-  hidden-by (seen b t) e q = let z : _≡_ {A = ℕ} 0 1 = cc in absurd (omega arith)
+  hidden-by (seen b t x) e q = let z : _≡_ {A = ℕ} 0 1 = cc in absurd (omega arith)
 
   told-law : viewOf R k s ≡ viewTold (view R k s)
   unfolding viewOf
   told-law = refl
 
-  pub view-shows : {a n : ℕ} → viewOf R k s ≡ ViewRead.Seen a n → (a + n ≤ length s) × (take n (drop a s) ≡ viewed (view R k s))
+  pub view-shows : {a n : ℕ} {y : Bool} → viewOf R k s ≡ ViewRead.Seen a n y → (a + n ≤ length s) × (take n (drop a s) ≡ viewed (view R k s))
   view-shows q = shown-by (view R k s) refl (sym told-law ∙ q)
 
   pub view-hides : {r : Refusal} → viewOf R k s ≡ ViewRead.Refused r → [] ≡ viewed (view R k s)
   view-hides q = hidden-by (view R k s) refl (sym told-law ∙ q)
 
   -- Where it begins.
-  starts-by : (v : Viewing) {a n : ℕ} → view R k s ≡ v → viewTold v ≡ ViewRead.Seen a n → a ≡ startOfView (view R k s)
+  starts-by : (v : Viewing) {a n : ℕ} {y : Bool} → view R k s ≡ v → viewTold v ≡ ViewRead.Seen a n y → a ≡ startOfView (view R k s)
   unfolding viewTold startOfView
   starts-by (unseen r) e q = let z : _≡_ {A = ℕ} 0 1 = cc in absurd (omega arith)
-  starts-by (seen b t) {a} e q = let x : b ≡ a = cc in sym (ap startOfView e ∙ x)
+  starts-by (seen b t l) {a} e q = let x : b ≡ a = cc in sym (ap startOfView e ∙ x)
 
   none-starts-by : (v : Viewing) {r : Refusal} → view R k s ≡ v → viewTold v ≡ ViewRead.Refused r → 0 ≡ startOfView (view R k s)
   unfolding viewTold startOfView
   none-starts-by (unseen r) e q = sym (ap startOfView e)
-  none-starts-by (seen b t) e q = let z : _≡_ {A = ℕ} 0 1 = cc in absurd (omega arith)
+  none-starts-by (seen b t x) e q = let z : _≡_ {A = ℕ} 0 1 = cc in absurd (omega arith)
 
-  pub view-starts : {a n : ℕ} → viewOf R k s ≡ ViewRead.Seen a n → a ≡ startOfView (view R k s)
+  pub view-starts : {a n : ℕ} {y : Bool} → viewOf R k s ≡ ViewRead.Seen a n y → a ≡ startOfView (view R k s)
   view-starts q = starts-by (view R k s) refl (sym told-law ∙ q)
 
   pub view-starts-nowhere : {r : Refusal} → viewOf R k s ≡ ViewRead.Refused r → 0 ≡ startOfView (view R k s)

@@ -9,11 +9,13 @@ ghost use Rattle.rules.specs.Rules.{base};
 ghost use Rattle.rules.specs.Arguments.{bonus, multiplier, part};
 ghost use Rattle.rules.specs.Answers.{startOfView, view, viewed};
 ghost use Rattle.fields.specs.Field.{textAt};
+ghost use Rattle.header.specs.Header.{keywordAt};
 ghost use Rattle.reader.specs.Contact.{valueBy};
-ghost use Rattle.places.specs.Places.{declaredAt, lineStart, lineTextAt, partSeen, viewOf};
+ghost use Rattle.places.specs.Places.{declaredAt, saysListed, lineStart, lineTextAt, partSeen, viewOf};
 use figures::NumberRead;
 use figures::bonus_of;
 use figures::multiplier_of;
+use header::KeywordRead;
 use reader::ReadAnswer;
 use reader::allowed_run;
 use reader::field_end;
@@ -128,26 +130,47 @@ pub fn declared_at(s: &[u8], claims: usize) -> Declared
 
 // A view: the argument's part of an accepted log, or why there is none.
 pub enum ViewRead {
-    Seen { start: usize, length: usize },
+    Seen {
+        start: usize,
+        length: usize,
+        // The keyword is spelt as it is listed.
+        listed: bool,
+    },
     Refused(Refusal),
 }
 
-// The part behind the keyword and its `=` of the line behind so many lines.
+// A line begins with the keyword that comes after so many, spelt as it is listed.
+fn is_listed(k: usize, line: &[u8]) -> bool
+    ensures { λ r. ⌜ r ≡ saysListed (keywordAt k (now (line .entry))) ⌝ }
+{
+    let spelling = header::keyword(k, line);
+    match spelling {
+        KeywordRead::Listed => true,
+        KeywordRead::Respelt => false,
+        KeywordRead::Differs => false,
+    }
+}
+
+// The part behind the keyword and its `=` of the line behind so many lines, and how the keyword is spelt.
 fn argument_part(log: &[u8], k: usize) -> ViewRead
-    ensures { λ r. ⌜ r ≡ partSeen (now (log .entry)) (min (lineStart (now (log .entry)) k) (length (now (log .entry)))) ⌝ }
+    requires { ⌜ 1 ≤ k ⌝ }
+    ensures { λ r. ⌜ r ≡ partSeen k (now (log .entry)) (min (lineStart (now (log .entry)) k) (length (now (log .entry)))) ⌝ }
 {
     let at = line_start(log, k);
     let end = allowed_run(log, at);
+    let listed = is_listed(k - 1, &log[at..end]);
     let start = at + 6;
     if end < start {
         return ViewRead::Seen {
             start: start,
             length: 0,
+            listed,
         };
     }
     ViewRead::Seen {
         start: start,
         length: end - start,
+        listed,
     }
 }
 
@@ -175,7 +198,7 @@ pub fn view(log: &[u8], k: usize) -> ViewRead
         ReadAnswer::Accepted {
             records: _,
             first: _,
-            claims: _,
+            heading: _,
         } => argument_part(log, k),
     }
 }
@@ -189,7 +212,11 @@ pub fn viewed(log: &[u8], k: usize) -> &[u8]
     let seen = view(log, k);
     match seen {
         ViewRead::Refused(_) => &log[0..0],
-        ViewRead::Seen { start, length } => {
+        ViewRead::Seen {
+            start,
+            length,
+            listed: _,
+        } => {
             let end = start + length;
             &log[start..end]
         }

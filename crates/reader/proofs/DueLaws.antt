@@ -33,7 +33,7 @@ use Rattle.reader.specs.declared.RecordRead.{RecordRead}
 use Rattle.reader.specs.declared.RecordRead.the-variants as RecordRead
 use Rattle.reader.specs.Contact.{contactAt}
 use Rattle.reader.specs.Record.{recordOn, toldBy}
-use Rattle.reader.specs.Read.{afterArgument, isRespelt, respeltBy, stepOf}
+use Rattle.reader.specs.Read.{afterArgument, saysRespelt, respeltBy, stepOf}
 use Rattle.reader.specs.declared.Stepped.{Stepped}
 
 -- A line that has to be these words.
@@ -133,15 +133,15 @@ module _ (k : ℕ) (line : Text) where
       by false false f q = f
 
   -- How it is spelt, where it stands there.
-  pub respelt-told : Stands k line → _≡_ {A = ℕ} (cond (isRespelt (keywordAt k line)) 1 0) (cond (same ((entryAt k) .keyword) (spellingOn (entryAt k) line)) 0 1)
+  pub respelt-told : Stands k line → _≡_ {A = ℕ} (cond (saysRespelt (keywordAt k line)) 1 0) (cond (same ((entryAt k) .keyword) (spellingOn (entryAt k) line)) 0 1)
   respelt-told s =
-      ap {B = ℕ} (λ (r : KeywordRead). cond (isRespelt r) 1 0) (keyword-by k line (s .within) ∙ told)
+      ap {B = ℕ} (λ (r : KeywordRead). cond (saysRespelt r) 1 0) (keyword-by k line (s .within) ∙ told)
       ∙ by (same ((entryAt k) .keyword) (spellingOn (entryAt k) line))
     where
       told : cond (begins word line) KeywordRead.Listed (cond (hasKeyword (entryAt k) line) KeywordRead.Respelt KeywordRead.Differs) ≡ cond (same ((entryAt k) .keyword) (spellingOn (entryAt k) line)) KeywordRead.Listed KeywordRead.Respelt
       told = rw (listed-spelt (entryAt k) line (s .has), s .has)
 
-      by : (b : Bool) → _≡_ {A = ℕ} (cond (isRespelt (cond b KeywordRead.Listed KeywordRead.Respelt)) 1 0) (cond b 0 1)
+      by : (b : Bool) → _≡_ {A = ℕ} (cond (saysRespelt (cond b KeywordRead.Listed KeywordRead.Respelt)) 1 0) (cond b 0 1)
       by true = refl
       by false = refl
 
@@ -234,9 +234,9 @@ module _ (R : Rules) where
     unfolding step
     at-due-keyword = refl
 
-    stepped-by : {next : Next} {r : KeywordRead} → keywordAt k line ≡ r → next ≡ keywordDue R (drop k entries) k line → record { next = next; respelt = isRespelt r } ≡ stepOf R (Due.Keyword k) line
+    stepped-by : {next : Next} {r : KeywordRead} → keywordAt k line ≡ r → next ≡ keywordDue R (drop k entries) k line → record { next = next; respelt = saysRespelt r } ≡ stepOf R (Due.Keyword k) line
     unfolding stepOf respeltBy
-    stepped-by e q = ap₂ (λ (n : Next) (x : KeywordRead). record { next = n; respelt = isRespelt x }) (q ∙ sym at-due-keyword) (sym e)
+    stepped-by e q = ap₂ (λ (n : Next) (x : KeywordRead). record { next = n; respelt = saysRespelt x }) (q ∙ sym at-due-keyword) (sym e)
 
     pub step-differs : keywordAt k line ≡ KeywordRead.Differs → record { next = Next.Stops 3 0; respelt = false } ≡ stepOf R (Due.Keyword k) line
     step-differs e = stepped-by e (keyword-differs e)

@@ -36,7 +36,7 @@ use Rattle.reader.specs.declared.RecordRead.{RecordRead}
 use Rattle.reader.specs.declared.RecordRead.the-variants as RecordRead
 use Rattle.reader.specs.Contact.{behind, contactAt, contactsAt}
 use Rattle.reader.specs.Record.{recordAt}
-use Rattle.reader.specs.Read.{claimsBy, claimsStart, headingBy, headingOf, isRespelt, noHeading, respeltBy, countedBy, early, headCount, headFrom, headNext, headOf, readOf, readTold, recordsTold}
+use Rattle.reader.specs.Read.{claimsBy, claimsStart, headingBy, headingOf, saysRespelt, noHeading, respeltBy, countedBy, early, headCount, headFrom, headNext, headOf, readOf, readTold, recordsTold}
 use Rattle.reader.specs.Noted.{contactsFrom, contactsRead, notedFrom, notedLine}
 use Rattle.reader.proofs.DueLaws.{Stands, entries-length, entry-due, entryAt, keyword-stands, respelt-told}
 use Rattle.reader.proofs.StepLaws.{counted-due, goes-to}
@@ -179,10 +179,10 @@ module _ (R : Rules) (l : Text) (claims before end : ℕ) where
   unfolding respelt spellingDue respeltBy
   spelling-brought k ws s =
       let next : suc k ≡ k + 1 = omega arith in
-      let one : _≡_ {A = ℕ} (cond (same ((entryAt k) .keyword) (spellingOn (entryAt k) l)) 0 1) (cond (isRespelt (keywordAt k l)) 1 0) = sym (respelt-told k l s) in
+      let one : _≡_ {A = ℕ} (cond (same ((entryAt k) .keyword) (spellingOn (entryAt k) l)) 0 1) (cond (saysRespelt (keywordAt k l)) 1 0) = sym (respelt-told k l s) in
       ap (λ (es : List Entry). before + respelt es (spellingDue es l ∷ ws)) (entry-due k (s .within))
       ∙ ap (λ (x : ℕ). before + (x + respelt (drop (suc k) entries) ws)) one
-      ∙ ap (λ (n : ℕ). before + (cond (isRespelt (keywordAt k l)) 1 0 + respelt (drop n entries) ws)) next
+      ∙ ap (λ (n : ℕ). before + (cond (saysRespelt (keywordAt k l)) 1 0 + respelt (drop n entries) ws)) next
       ∙ omega arith
 
   put-early : (due next : Due) (r : Reading) → early due ≡ true → step R due l ≡ Next.Goes next → toldWith (left due) claims before end (put due l r) ≡ toldWith (leftBehind due) claims (counting due) end r

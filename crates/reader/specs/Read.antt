@@ -36,16 +36,16 @@ use Rattle.reader.specs.Record.{recordAt}
 -- # A line
 
 -- The matcher says that a keyword is spelt otherwise than it is listed.
-abbrev pub isRespelt : KeywordRead → Bool
-isRespelt KeywordRead.Listed = false
-isRespelt KeywordRead.Respelt = true
-isRespelt KeywordRead.Differs = false
+abbrev pub saysRespelt : KeywordRead → Bool
+saysRespelt KeywordRead.Listed = false
+saysRespelt KeywordRead.Respelt = true
+saysRespelt KeywordRead.Differs = false
 
 -- A line where this is due has its keyword so.
 unfoldable pub respeltBy : Due → Text → Bool
 unfolding keywordAt
 respeltBy Identifier l = false
-respeltBy (Keyword k) l = isRespelt (keywordAt k l)
+respeltBy (Keyword k) l = saysRespelt (keywordAt k l)
 respeltBy Remarks l = false
 respeltBy Remark l = false
 respeltBy (Record n) l = false

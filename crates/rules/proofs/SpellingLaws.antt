@@ -12,7 +12,7 @@ use lib.ListN.{length, take, drop, length-map, length-append, take-append-drop}
 use lib.Seq.{drop-drop, take-append-seam, drop-append-seam}
 use Rattle.rules.specs.Text.{Text, bytes, same, lower, sameButCase, begins}
 use Rattle.rules.specs.Arguments.{Entry}
-use Rattle.rules.specs.Log.{keywordStart, keywordsOf, respelt, keywordRules}
+use Rattle.rules.specs.Log.{keywordStart, keywordLines, keywordsOf, respelt, keywordRules}
 use Rattle.rules.specs.Reading.{spellingOn, argumentOn, hasKeyword}
 use Rattle.rules.proofs.Tests.{never, fails, clash, and-l, and-r, and-i}
 use Rattle.rules.proofs.TextLaws.{same-eq, same-refl, same-of-eq, begins-front, begins-split}
@@ -125,6 +125,12 @@ spelling-count [] [] h = refl
 spelling-count [] (w ∷ ws) h = never h
 spelling-count (e ∷ es) [] h = never h
 spelling-count (e ∷ es) (w ∷ ws) h = ap suc (spelling-count es ws (and-r (sameButCase (e .keyword) w) (keywordRules es ws) h))
+
+pub keyword-count : (ws ts : List Text) → length ws ≡ length ts → length (keywordLines ws ts) ≡ length ws
+unfolding keywordLines
+keyword-count [] ts n = refl
+keyword-count (w ∷ ws) [] n = absurd (omega arith)
+keyword-count (w ∷ ws) (t ∷ ts) n = ap suc (keyword-count ws ts (omega arith))
 
 -- None is respelt where the spelling is the listed one, and only there.
 pub none-respelt : (es : List Entry) → respelt es (keywordsOf es) ≡ 0

@@ -36,7 +36,7 @@ enum-known-seen c = search needs
 abbrev log : tie.After-known-told → Text
 log c = now (c .before .before .before .before .before .args .log)
 
-told : (c : tie.After-known-told) → viewOf base (c .before .before .before .before .before .args .k) (log c) ≡ ViewRead.Seen (c .before .seen .given .0 .0) (c .before .seen .given .0 .1 .0)
+told : (c : tie.After-known-told) → viewOf base (c .before .before .before .before .before .args .k) (log c) ≡ ViewRead.Seen (c .before .seen .given .0 .0) (c .before .seen .given .0 .1 .0) (c .before .seen .given .0 .1 .1 .0)
 told c = sym (c .before .before .before .view .ensures) ∙ c .before .seen .given .1
 
 shown : (c : tie.After-known-told) → (c .before .seen .given .0 .0 + c .before .seen .given .0 .1 .0 ≤ length (log c)) × (take (c .before .seen .given .0 .1 .0) (drop (c .before .seen .given .0 .0) (log c)) ≡ viewed (view base (c .before .before .before .before .before .args .k) (log c)))
