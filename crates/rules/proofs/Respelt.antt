@@ -132,8 +132,8 @@ module _ (R : Rules) (log : Log) (ws : List Text) where
     rules-alike =
         rw (lines-are, spelt-lines-are, every-split (lineRule R) (keywordLines ws (log .arguments)) behind, every-split (lineRule R) (keywordLines (log .keywords) (log .arguments)) behind, alike .0)
 
-    as-long : length (render (spelt ws log)) ≡ length (render log)
-    as-long =
+    pub spelt-as-long : length (render (spelt ws log)) ≡ length (render log)
+    spelt-as-long =
         ap length (render-law (spelt ws log) ∙ ap ended spelt-lines-are)
         ∙ omega (
           arith,
@@ -149,7 +149,7 @@ module _ (R : Rules) (log : Log) (ws : List Text) where
   pub spelt-rightly : Rightly R log → keywordRules entries ws ≡ true → Rightly R (spelt ws log)
   spelt-rightly r b =
       record {
-        short = rw (as-long (r .spellings) b) (r .short);
+        short = rw (spelt-as-long (r .spellings) b) (r .short);
         lineRules = rules-alike (r .spellings) b ∙ r .lineRules;
         spellings = b;
         rulesOfArguments = r .rulesOfArguments;

@@ -20,6 +20,11 @@ module _ (f : ℕ → Bool) where
   all-append [] t e g = g
   all-append (c ∷ s) t e g = and-i (and-l (f c) (all f s) e) (all-append s t (and-r (f c) (all f s) e) g)
 
+  pub all-front : (s t : Text) → all f (s ++ t) ≡ true → all f s ≡ true
+  unfolding all
+  all-front [] t e = refl
+  all-front (c ∷ s) t e = and-i (and-l (f c) (all f (s ++ t)) e) (all-front s t (and-r (f c) (all f (s ++ t)) e))
+
   pub all-back : (s t : Text) → all f (s ++ t) ≡ true → all f t ≡ true
   unfolding all
   all-back [] t e = e

@@ -8,15 +8,17 @@ use mathlib.Core.Path.{_≡_, refl, sym, ap, _∙_}
 use lib.Dec.{leb, eqb}
 use lib.ListN.{length, take, drop, length-append}
 use lib.Seq.{take-at, drop-at, drop-length, drop-append-seam}
-use borrow.Author.Tests.{not-true, le-leb, eqb-true}
-use Rattle.places.proofs.HeaderHeld.{everyEntry, keyword-count}
+use borrow.Author.Tests.{not-true, le-leb, eqb-true, eq-eqb}
+use Rattle.places.proofs.HeaderHeld.{everyEntry}
+use Rattle.rules.proofs.LogLaws.{argument-count}
+use Rattle.rules.proofs.SpellingLaws.{case-length, length-start, spelling-count, keyword-count}
 use Rattle.rules.proofs.NumberLaws.{number-from, number-digits}
 use Rattle.rules.proofs.Tests.{never, and-l, and-r, and-i}
 use Rattle.rules.proofs.TextLaws.{parts-some, joined-parts, span-stops, span-run, same-refl}
 use Rattle.rules.specs.Arguments.{Entry, entries, each, count, bonus, multiplier, meets, every}
-use Rattle.rules.specs.Log.{keywordStart, keywordLines, argumentRules}
+use Rattle.rules.specs.Log.{keywordStart, keywordLines, keywordRules, argumentRules}
 use Rattle.rules.specs.Rules.{Rules}
-use Rattle.rules.specs.Text.{Text, digit, semicolon, all, span, same, number, numberOf, parts, joined, digits}
+use Rattle.rules.specs.Text.{Text, digit, semicolon, all, span, same, sameButCase, number, numberOf, parts, joined, digits}
 use Rattle.rules.specs.Writing.{recounted, Claim, claims, claimed, writtenArguments}
 use Rattle.rules.specs.declared.Totals.{Totals}
 use Rattle.writer.specs.ClaimsText.{claimNumbers}
@@ -84,12 +86,12 @@ arguments-stay cs (e ∷ es) (t ∷ ts) h =
     let none : named cs (e .keyword) ≡ false = not-true (named cs (e .keyword)) (and-l (unnamed cs e) (everyEntry (unnamed cs) es) h) in
     rw (unnamed-stays cs (e .keyword) t none, arguments-stay cs es ts (and-r (unnamed cs e) (everyEntry (unnamed cs) es) h))
 
--- The lines of keywords as they are written with these claims.
-abbrev newLines : List Claim → List Entry → List Text → List Text
-newLines cs es ts = keywordLines es (writtenArguments cs es ts)
+-- The lines of keywords, in these spellings, as they are written with these claims.
+abbrev newLines : List Claim → List Entry → List Text → List Text → List Text
+newLines cs es ws ts = keywordLines ws (writtenArguments cs es ts)
 
-lines-stay : (cs : List Claim) (es : List Entry) (ts : List Text) → everyEntry (unnamed cs) es ≡ true → newLines cs es ts ≡ keywordLines es ts
-lines-stay cs es ts h = ap (keywordLines es) (arguments-stay cs es ts h)
+lines-stay : (cs : List Claim) (es : List Entry) (ws ts : List Text) → everyEntry (unnamed cs) es ≡ true → newLines cs es ws ts ≡ keywordLines ws ts
+lines-stay cs es ws ts h = ap (keywordLines ws) (arguments-stay cs es ts h)
 
 -- Without claims every line stays.
 none-named : (es : List Entry) → everyEntry (unnamed []) es ≡ true
@@ -97,8 +99,8 @@ unfolding everyEntry named
 none-named [] = refl
 none-named (e ∷ es) = none-named es
 
-unclaimed-stay : (es : List Entry) (ts : List Text) → newLines [] es ts ≡ keywordLines es ts
-unclaimed-stay es ts = lines-stay [] es ts (none-named es)
+unclaimed-stay : (es : List Entry) (ws ts : List Text) → newLines [] es ws ts ≡ keywordLines ws ts
+unclaimed-stay es ws ts = lines-stay [] es ws ts (none-named es)
 
 -- # The lines of keywords that a claim names
 
@@ -145,13 +147,14 @@ apart : List Entry → Bool
 apart [] = true
 apart (e ∷ es) = everyEntry (apartFrom (e .keyword)) es && apart es
 
-abbrev six : Entry → Bool
-six e = eqb (length (keywordStart e)) 6
+-- A keyword in any spelling has five characters, and its `=` is the sixth.
+abbrev six : Text → Bool
+six w = eqb (length (keywordStart w)) 6
 
-line-renumbered : (n : ℕ) (e : Entry) (t u : Text) → six e ≡ true → u ≡ renumbered n t → keywordStart e ++ u ≡ renumberedLine n (keywordStart e ++ t)
-line-renumbered n e t u h g =
-    let k : length (keywordStart e) ≡ 6 = eqb-true (length (keywordStart e)) 6 h in
-    rw (g, take-at (keywordStart e) t 6 k, drop-at (keywordStart e) t 6 k)
+line-renumbered : (n : ℕ) (w t u : Text) → six w ≡ true → u ≡ renumbered n t → keywordStart w ++ u ≡ renumberedLine n (keywordStart w ++ t)
+line-renumbered n w t u h g =
+    let k : length (keywordStart w) ≡ 6 = eqb-true (length (keywordStart w)) 6 h in
+    rw (g, take-at (keywordStart w) t 6 k, drop-at (keywordStart w) t 6 k)
 
 -- The rules of these keywords are those of these kinds.
 abbrev RulesAre : Rules → List Entry → List Kind → Type 0
@@ -164,47 +167,67 @@ module _ (R : Rules) where
   first-renumbers k e n t cs r m =
       rw (same-refl (e .keyword)) (becomes-renumbered R k n t (sym (ap (λ (f : Text → Bool). f t) r) ∙ m))
 
-  lines-renumber : (ks : List Kind) (es : List Entry) (ns : List ℕ) (ts : List Text) → RulesAre R es ks → length es ≡ length ns → apart es ≡ true → everyEntry six es ≡ true → argumentRules R es ts ≡ true
-      → newLines (claimsBy ks es ns) es ts ≡ renumberedLines ns (keywordLines es ts)
-  unfolding everyEntry apart argumentRules keywordLines writtenArguments renumberedLines claimsBy
-  lines-renumber ks [] [] ts k l d h r = refl
-  lines-renumber ks [] (n ∷ ns) ts k l d h r = absurd (omega arith)
-  lines-renumber ks (e ∷ es) [] ts k l d h r = absurd (omega arith)
-  lines-renumber [] (e ∷ es) (n ∷ ns) ts k l d h r = let z : _≡_ {A = ℕ} 0 1 = cc in absurd (omega arith)
-  lines-renumber (k ∷ ks) (e ∷ es) (n ∷ ns) [] q l d h r = never r
-  lines-renumber (k ∷ ks) (e ∷ es) (n ∷ ns) (t ∷ ts) q l d h r =
+  lines-renumber : (ks : List Kind) (es : List Entry) (ns : List ℕ) (ws ts : List Text) → RulesAre R es ks → length es ≡ length ns → length ws ≡ length es → apart es ≡ true → every six ws ≡ true → argumentRules R es ts ≡ true
+      → newLines (claimsBy ks es ns) es ws ts ≡ renumberedLines ns (keywordLines ws ts)
+  unfolding everyEntry every apart argumentRules keywordLines writtenArguments renumberedLines claimsBy
+  lines-renumber ks [] [] [] ts k l m d h r = refl
+  lines-renumber ks [] [] (w ∷ ws) ts k l m d h r = absurd (omega arith)
+  lines-renumber ks [] (n ∷ ns) ws ts k l m d h r = absurd (omega arith)
+  lines-renumber ks (e ∷ es) [] ws ts k l m d h r = absurd (omega arith)
+  lines-renumber ks (e ∷ es) (n ∷ ns) [] ts k l m d h r = absurd (omega arith)
+  lines-renumber [] (e ∷ es) (n ∷ ns) (w ∷ ws) ts k l m d h r = let z : _≡_ {A = ℕ} 0 1 = cc in absurd (omega arith)
+  lines-renumber (k ∷ ks) (e ∷ es) (n ∷ ns) (w ∷ ws) [] q l m d h r = never r
+  lines-renumber (k ∷ ks) (e ∷ es) (n ∷ ns) (w ∷ ws) (t ∷ ts) q l m d h r =
       let a = meets R (e .rule) t in
       let b = argumentRules R es ts in
       let c : Claim = record { keyword = e .keyword; becomes = becomesBy k n } in
       let cs = claimsBy ks es ns in
       let first = everyEntry (apartFrom (e .keyword)) es in
-      let here = line-renumbered n e t (claimed (c ∷ cs) (e .keyword) t) (and-l (six e) (everyEntry six es) h) (first-renumbers k e n t cs (head-eq-of-cons-eq q) (and-l a b r)) in
-      let others = ap (keywordLines es) (arguments-skip c cs es ts (and-l first (apart es) d)) in
-      let later = lines-renumber ks es ns ts (tail-eq-of-cons-eq q) (omega arith) (and-r first (apart es) d) (and-r (six e) (everyEntry six es) h) (and-r a b r) in
+      let here = line-renumbered n w t (claimed (c ∷ cs) (e .keyword) t) (and-l (six w) (every six ws) h) (first-renumbers k e n t cs (head-eq-of-cons-eq q) (and-l a b r)) in
+      let others = ap (keywordLines ws) (arguments-skip c cs es ts (and-l first (apart es) d)) in
+      let later = lines-renumber ks es ns ws ts (tail-eq-of-cons-eq q) (omega arith) (omega arith) (and-r first (apart es) d) (and-r (six w) (every six ws) h) (and-r a b r) in
       rw (here, others, later)
 
-lines-keyworded : (es : List Entry) (ts : List Text) → everyEntry six es ≡ true → every keyworded (keywordLines es ts) ≡ true
-unfolding everyEntry keywordLines every
+lines-keyworded : (ws ts : List Text) → every six ws ≡ true → every keyworded (keywordLines ws ts) ≡ true
+unfolding keywordLines every
 lines-keyworded [] ts h = refl
-lines-keyworded (e ∷ es) [] h = refl
-lines-keyworded (e ∷ es) (t ∷ ts) h =
-    let k : length (keywordStart e) ≡ 6 = eqb-true (length (keywordStart e)) 6 (and-l (six e) (everyEntry six es) h) in
-    let long : 6 ≤ length (keywordStart e ++ t) = omega (arith, length-append (keywordStart e) t) in
-    and-i (le-leb 6 (length (keywordStart e ++ t)) long) (lines-keyworded es ts (and-r (six e) (everyEntry six es) h))
+lines-keyworded (w ∷ ws) [] h = refl
+lines-keyworded (w ∷ ws) (t ∷ ts) h =
+    let k : length (keywordStart w) ≡ 6 = eqb-true (length (keywordStart w)) 6 (and-l (six w) (every six ws) h) in
+    let long : 6 ≤ length (keywordStart w ++ t) = omega (arith, length-append (keywordStart w) t) in
+    and-i (le-leb 6 (length (keywordStart w ++ t)) long) (lines-keyworded ws ts (and-r (six w) (every six ws) h))
 
 -- # Two tables, one behind the other
 
-no-lines : (cs : List Claim) (es : List Entry) → newLines cs es [] ≡ []
+no-lines : (cs : List Claim) (es : List Entry) (ws : List Text) → newLines cs es ws [] ≡ []
 unfolding keywordLines writtenArguments
-no-lines cs [] = refl
-no-lines cs (e ∷ es) = refl
+no-lines cs [] [] = refl
+no-lines cs [] (w ∷ ws) = refl
+no-lines cs (e ∷ es) [] = refl
+no-lines cs (e ∷ es) (w ∷ ws) = refl
 
-lines-append : (cs : List Claim) (es fs : List Entry) (ts : List Text) → newLines cs (es ++ fs) ts ≡ newLines cs es (take (length es) ts) ++ newLines cs fs (drop (length es) ts)
+lines-append : (cs : List Claim) (es fs : List Entry) (ws ts : List Text) → newLines cs (es ++ fs) ws ts ≡ newLines cs es (take (length es) ws) (take (length es) ts) ++ newLines cs fs (drop (length es) ws) (drop (length es) ts)
 unfolding keywordLines writtenArguments
-lines-append cs [] fs ts = refl
-lines-append cs (e ∷ es) fs [] = sym (no-lines cs fs)
-lines-append cs (e ∷ es) fs (t ∷ ts) =
-    ap {B = List Text} (λ r. (keywordStart e ++ claimed cs (e .keyword) t) ∷ r) (lines-append cs es fs ts)
+lines-append cs [] fs ws ts = refl
+lines-append cs (e ∷ es) fs [] ts = refl
+lines-append cs (e ∷ es) fs (w ∷ ws) [] = sym (no-lines cs fs (drop (length es) ws))
+lines-append cs (e ∷ es) fs (w ∷ ws) (t ∷ ts) =
+    ap {B = List Text} (λ r. (keywordStart w ++ claimed cs (e .keyword) t) ∷ r) (lines-append cs es fs ws ts)
+
+spellings-front : (es fs : List Entry) (ws : List Text) → keywordRules (es ++ fs) ws ≡ true → keywordRules es (take (length es) ws) ≡ true
+unfolding keywordRules
+spellings-front [] fs ws r = refl
+spellings-front (e ∷ es) fs [] r = r
+spellings-front (e ∷ es) fs (w ∷ ws) r =
+    let a = sameButCase (e .keyword) w in
+    let b = keywordRules (es ++ fs) ws in
+    and-i (and-l a b r) (spellings-front es fs ws (and-r a b r))
+
+spellings-back : (es fs : List Entry) (ws : List Text) → keywordRules (es ++ fs) ws ≡ true → keywordRules fs (drop (length es) ws) ≡ true
+unfolding keywordRules
+spellings-back [] fs ws r = r
+spellings-back (e ∷ es) fs [] r = never r
+spellings-back (e ∷ es) fs (w ∷ ws) r = spellings-back es fs ws (and-r (sameButCase (e .keyword) w) (keywordRules (es ++ fs) ws) r)
 
 module _ (R : Rules) where
   rules-front : (es fs : List Entry) (ts : List Text) → argumentRules R (es ++ fs) ts ≡ true → argumentRules R es (take (length es) ts) ≡ true
@@ -233,7 +256,22 @@ claiming = take 9 (drop 26 entries)
 abbrev pub behind : List Entry
 behind = drop 9 (drop 26 entries)
 
-claiming-six : everyEntry six claiming ≡ true
+-- In any spelling that is read each has six characters with its `=`.
+spelt-six : (es : List Entry) (ws : List Text) → everyEntry (λ e. six (e .keyword)) es ≡ true → keywordRules es ws ≡ true → every six ws ≡ true
+unfolding everyEntry keywordRules every
+spelt-six [] [] h k = refl
+spelt-six [] (w ∷ ws) h k = never k
+spelt-six (e ∷ es) [] h k = never k
+spelt-six (e ∷ es) (w ∷ ws) h k =
+    let a = six (e .keyword) in
+    let b = everyEntry (λ e. six (e .keyword)) es in
+    let c = sameButCase (e .keyword) w in
+    let d = keywordRules es ws in
+    let long : length (keywordStart (e .keyword)) ≡ 6 = eqb-true (length (keywordStart (e .keyword))) 6 (and-l a b h) in
+    let same : length (keywordStart w) ≡ 6 = omega (arith, long, length-start (e .keyword), length-start w, case-length (e .keyword) w (and-l c d k)) in
+    and-i (eq-eqb (length (keywordStart w)) 6 same) (spelt-six es ws (and-r a b h) (and-r c d k))
+
+claiming-six : everyEntry (λ e. six (e .keyword)) claiming ≡ true
 unfolding everyEntry entries keywordStart
 claiming-six = refl
 
@@ -284,37 +322,42 @@ module _ (t : Totals) where
   nine = refl
 
 -- The lines of each of the three, as they are and as they are written.
-module _ (ts : List Text) where
+module _ (ws ts : List Text) where
   abbrev pub linesBefore : List Text
-  linesBefore = keywordLines before (take 26 ts)
+  linesBefore = keywordLines (take 26 ws) (take 26 ts)
 
   abbrev pub linesClaiming : List Text
-  linesClaiming = keywordLines claiming (take 9 (drop 26 ts))
+  linesClaiming = keywordLines (take 9 (drop 26 ws)) (take 9 (drop 26 ts))
 
   abbrev pub linesBehind : List Text
-  linesBehind = keywordLines behind (drop 9 (drop 26 ts))
+  linesBehind = keywordLines (drop 9 (drop 26 ws)) (drop 9 (drop 26 ts))
 
-  table-lines : (cs : List Claim) → newLines cs entries ts
-      ≡ newLines cs before (take 26 ts) ++ (newLines cs claiming (take 9 (drop 26 ts)) ++ newLines cs behind (drop 9 (drop 26 ts)))
+  table-lines : (cs : List Claim) → newLines cs entries ws ts
+      ≡ newLines cs before (take 26 ws) (take 26 ts) ++ (newLines cs claiming (take 9 (drop 26 ws)) (take 9 (drop 26 ts)) ++ newLines cs behind (drop 9 (drop 26 ws)) (drop 9 (drop 26 ts)))
   unfolding entries
   table-lines cs =
-      lines-append cs before (claiming ++ behind) ts
-      ∙ ap (λ (ls : List Text). newLines cs before (take 26 ts) ++ ls) (lines-append cs claiming behind (drop 26 ts))
+      lines-append cs before (claiming ++ behind) ws ts
+      ∙ ap (λ (ls : List Text). newLines cs before (take 26 ws) (take 26 ts) ++ ls) (lines-append cs claiming behind (drop 26 ws) (drop 26 ts))
 
-  pub old-lines : keywordLines entries ts ≡ linesBefore ++ (linesClaiming ++ linesBehind)
+  pub old-lines : keywordLines ws ts ≡ linesBefore ++ (linesClaiming ++ linesBehind)
   old-lines =
-      sym (unclaimed-stay entries ts)
+      sym (unclaimed-stay entries ws ts)
       ∙ table-lines []
       ∙ rw (
-        unclaimed-stay before (take 26 ts),
-        unclaimed-stay claiming (take 9 (drop 26 ts)),
-        unclaimed-stay behind (drop 9 (drop 26 ts)),
+        unclaimed-stay before (take 26 ws) (take 26 ts),
+        unclaimed-stay claiming (take 9 (drop 26 ws)) (take 9 (drop 26 ts)),
+        unclaimed-stay behind (drop 9 (drop 26 ws)) (drop 9 (drop 26 ts)),
       )
 
-  pub claiming-keyworded : every keyworded linesClaiming ≡ true
-  claiming-keyworded = lines-keyworded claiming (take 9 (drop 26 ts)) claiming-six
+  module _ (R : Rules) (k : keywordRules entries ws ≡ true) (r : argumentRules R entries ts ≡ true) where
+    before-spelt : keywordRules before (take 26 ws) ≡ true
+    unfolding entries
+    before-spelt = spellings-front before (claiming ++ behind) ws k
 
-  module _ (R : Rules) (r : argumentRules R entries ts ≡ true) where
+    claiming-spelt : keywordRules claiming (take 9 (drop 26 ws)) ≡ true
+    unfolding entries
+    claiming-spelt = spellings-front claiming behind (drop 26 ws) (spellings-back before (claiming ++ behind) ws k)
+
     before-ruled : argumentRules R before (take 26 ts) ≡ true
     unfolding entries
     before-ruled = rules-front R before (claiming ++ behind) ts r
@@ -323,26 +366,38 @@ module _ (ts : List Text) where
     unfolding entries
     claiming-ruled = rules-front R claiming behind (drop 26 ts) (rules-back R before (claiming ++ behind) ts r)
 
+    claiming-words : every six (take 9 (drop 26 ws)) ≡ true
+    claiming-words = spelt-six claiming (take 9 (drop 26 ws)) claiming-six claiming-spelt
+
+    pub claiming-keyworded : every keyworded linesClaiming ≡ true
+    claiming-keyworded = lines-keyworded (take 9 (drop 26 ws)) (take 9 (drop 26 ts)) claiming-words
+
+    nine-words : length (take 9 (drop 26 ws)) ≡ length claiming
+    nine-words = spelling-count claiming (take 9 (drop 26 ws)) claiming-spelt
+
     pub before-count : length linesBefore ≡ 26
     unfolding entries
-    before-count = keyword-count R before (take 26 ts) before-ruled
+    before-count =
+        let many = spelling-count before (take 26 ws) before-spelt in
+        keyword-count (take 26 ws) (take 26 ts) (many ∙ sym (argument-count R before (take 26 ts) before-ruled)) ∙ many
 
     pub claiming-count : length linesClaiming ≡ 9
     unfolding entries
-    claiming-count = keyword-count R claiming (take 9 (drop 26 ts)) claiming-ruled
+    claiming-count =
+        keyword-count (take 9 (drop 26 ws)) (take 9 (drop 26 ts)) (nine-words ∙ sym (argument-count R claiming (take 9 (drop 26 ts)) claiming-ruled)) ∙ nine-words
 
-    claims-renumber : (t : Totals) → newLines (claims digits t) claiming (take 9 (drop 26 ts)) ≡ renumberedLines (claimNumbers t) linesClaiming
+    claims-renumber : (t : Totals) → newLines (claims digits t) claiming (take 9 (drop 26 ws)) (take 9 (drop 26 ts)) ≡ renumberedLines (claimNumbers t) linesClaiming
     claims-renumber t =
         let nine-entries : length claiming ≡ 9 = unfold entries in refl in
-        ap (λ (cs : List Claim). newLines cs claiming (take 9 (drop 26 ts))) (claims-are R t)
-        ∙ lines-renumber R (kinds R) claiming (claimNumbers t) (take 9 (drop 26 ts)) (kinds-rule R) (nine-entries ∙ sym (nine t)) claiming-apart claiming-six claiming-ruled
+        ap (λ (cs : List Claim). newLines cs claiming (take 9 (drop 26 ws)) (take 9 (drop 26 ts))) (claims-are R t)
+        ∙ lines-renumber R (kinds R) claiming (claimNumbers t) (take 9 (drop 26 ws)) (take 9 (drop 26 ts)) (kinds-rule R) (nine-entries ∙ sym (nine t)) nine-words claiming-apart claiming-words claiming-ruled
 
-    pub new-lines : (t : Totals) → keywordLines entries (writtenArguments (claims digits t) entries ts)
+    pub new-lines : (t : Totals) → keywordLines ws (writtenArguments (claims digits t) entries ts)
         ≡ linesBefore ++ (renumberedLines (claimNumbers t) linesClaiming ++ linesBehind)
     new-lines t =
         table-lines (claims digits t)
         ∙ rw (
-          lines-stay (claims digits t) before (take 26 ts) (before-unnamed t),
+          lines-stay (claims digits t) before (take 26 ws) (take 26 ts) (before-unnamed t),
           claims-renumber t,
-          lines-stay (claims digits t) behind (drop 9 (drop 26 ts)) (behind-unnamed t),
+          lines-stay (claims digits t) behind (drop 9 (drop 26 ws)) (drop 9 (drop 26 ts)) (behind-unnamed t),
         )

@@ -8,6 +8,7 @@ pub mod RecordsWritten
 pub mod ClaimLoops
 pub mod NumberedLines
 pub mod ClaimLines
+pub mod RespellingLaws
 pub mod ClaimsWritten
 pub mod WriteLaws
 pub mod WeighedLaws

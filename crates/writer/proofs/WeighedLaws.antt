@@ -7,7 +7,7 @@ use mathlib.Core.Path.{_≡_, refl, sym, ap, _∙_}
 use lib.ListN.{length, take, drop, length-take, length-map}
 use lib.Seq.{take-at, take-all}
 use borrow.Author.Tests.{leb-true, le-ltb}
-use Rattle.judge.specs.Judge.{firstOf, claimsOf, weighedBy, weighedOf, verdictsAfterwards}
+use Rattle.judge.specs.Judge.{firstOf, headingIn, weighedBy, weighedOf, verdictsAfterwards}
 use Rattle.judge.specs.declared.Weighed.{Weighed}
 use Rattle.judge.specs.declared.Weighed.the-variants as Weighed
 use Rattle.reader.proofs.RecordsHeld.{recordsStart}
@@ -22,6 +22,7 @@ use Rattle.rules.specs.Rules.{Rules}
 use Rattle.rules.specs.Text.{Text}
 use Rattle.rules.specs.declared.Refusal.{Refusal}
 use Rattle.rules.specs.declared.Totals.{Totals}
+use Rattle.reader.specs.declared.Heading.{Heading}
 use Rattle.writer.specs.Given.{Writable}
 use Rattle.writer.specs.LogText.{wroteBy, wroteOf, writtenAfterwards}
 use Rattle.writer.specs.declared.Wrote.the-variants as Wrote
@@ -42,7 +43,7 @@ front-listed place cs slice h =
     ∙ front-over (map place cs) slice (length cs) (sym m)
 
 -- One answer is not the other.
-not-weighed : {t : Totals} {records first claims : ℕ} {r : Refusal} → Weighed.Refused r ≡ Weighed.Done t records first claims → ⊥
+not-weighed : {t : Totals} {records first : ℕ} {heading : Heading} {r : Refusal} → Weighed.Refused r ≡ Weighed.Done t records first heading → ⊥
 not-weighed e = let z : _≡_ {A = ℕ} 0 1 = cc in omega arith
 
 -- With room for the verdicts of as many records as a log may have, a log is refused by the judge only where it is refused by the reader.
@@ -57,7 +58,7 @@ module _ (R : Rules) (s : Text) where
   unfolding judge judgeReading judgeLog
   judged-by log e = rw (e, le-ltb room (length (log .records)) (few log e))
 
-  weighed-by : (log : Log) → read R s ≡ accepted log → weighedOf R room s ≡ Weighed.Done (totalsOfLog R log) (length (log .records)) (firstOf s (accepted log)) (claimsOf (accepted log))
+  weighed-by : (log : Log) → read R s ≡ accepted log → weighedOf R room s ≡ Weighed.Done (totalsOfLog R log) (length (log .records)) (firstOf s (accepted log)) (headingIn (accepted log))
   unfolding weighedOf weighedBy recordsOfReading
   weighed-by log e = rw (judged-by log e, e)
 
@@ -70,7 +71,7 @@ module _ (R : Rules) (s : Text) where
   Noted = (log : Log) → read R s ≡ accepted log → contactsRead R s ≡ contactsAt R s (recordsStart s log) (length (log .records))
 
   -- What is told of a log.
-  module _ {t : Totals} {n first claims : ℕ} (h : weighedOf R room s ≡ Weighed.Done t n first claims) where
+  module _ {t : Totals} {n first : ℕ} {heading : Heading} (h : weighedOf R room s ≡ Weighed.Done t n first heading) where
     log-read : (log : Log) × (read R s ≡ accepted log)
     log-read = by (read R s) refl
       where
@@ -81,7 +82,7 @@ module _ (R : Rules) (s : Text) where
     abbrev log : Log
     log = log-read .0
 
-    abbrev known : Weighed.Done t n first claims ≡ Weighed.Done (totalsOfLog R log) (length (log .records)) (firstOf s (accepted log)) (claimsOf (accepted log))
+    abbrev known : Weighed.Done t n first heading ≡ Weighed.Done (totalsOfLog R log) (length (log .records)) (firstOf s (accepted log)) (headingIn (accepted log))
     known = sym h ∙ weighed-by log (log-read .1)
 
     many : n ≡ length (log .records)
@@ -91,8 +92,8 @@ module _ (R : Rules) (s : Text) where
     unfolding firstOf
     first-is = let e = known in cc
 
-    claims-is : claims ≡ claimsOf (accepted log)
-    claims-is = let e = known in cc
+    heading-is : heading ≡ headingIn (accepted log)
+    heading-is = let e = known in cc
 
     totals-are : t ≡ totalsOfLog R log
     totals-are = let e = known in cc
@@ -134,15 +135,15 @@ module _ (R : Rules) (s : Text) where
           points ≡ listed (λ (c : Contact). c .points) (contactsRead R s) slice₁ →
           pointsends ≡ listed (λ (c : Contact). c .pointsend) (contactsRead R s) slice₂ →
           ends ≡ listed (λ (c : Contact). c .end) (contactsRead R s) slice₃ →
-          Writable R s t first claims (take n points) (take n pointsends) (take n ends) (take n numbers)
-      unfolding claimsOf
+          Writable R s t first heading (take n points) (take n pointsends) (take n ends) (take n numbers)
+      unfolding headingIn
       writable slice slice₁ slice₂ slice₃ l l₁ l₂ l₃ v p q r =
           record {
             log = log;
             isRead = log-read .1;
             totals = totals-are;
             place = first-is;
-            claiming = claims-is;
+            headed = heading-is;
             pointsBegin = places-are (λ (c : Contact). c .points) slice₁ l₁ p;
             pointsEnd = places-are (λ (c : Contact). c .pointsend) slice₂ l₂ q;
             recordsEnd = places-are (λ (c : Contact). c .end) slice₃ l₃ r;

@@ -6,41 +6,48 @@ use mathlib.Core.Bool.{Bool, true, false, cond, _&&_}
 use mathlib.Core.List.{List, [], _∷_, _++_, map}
 use mathlib.Core.Path.{_≡_, refl, sym, ap, ap₂, subst, _∙_}
 use lib.Dec.{leb}
-use lib.ListN.{length, length-append, length-map}
+use lib.ListN.{length, drop, length-append, length-map}
 use Rattle.reader.proofs.RecordsHeld.{recordsStart, header, records, rendered}
 use Rattle.reader.specs.Contact.{contactsAt}
+use Rattle.reader.specs.Read.{claimsStart, headingOf}
 use Rattle.reader.specs.declared.Contact.{Contact}
+use Rattle.reader.specs.declared.Heading.{Heading}
 use Rattle.rules.proofs.Classes.{length-verdicts}
 use Rattle.rules.proofs.Format.{accepted-when-written}
 use Rattle.rules.proofs.LogLaws.{front}
+use Rattle.rules.proofs.Respelt.{spelt-as-long}
+use Rattle.rules.proofs.SpellingLaws.{listed-spelling}
 use Rattle.rules.proofs.WrittenValid.{written-length}
 use Rattle.rules.specs.Answers.{Writing, written, unwritten, write, writeReading, writeLog, bytesOfWriting, over}
-use Rattle.rules.specs.Arguments.{entries}
+use Rattle.rules.specs.Arguments.{entries, every}
+use Rattle.rules.specs.Demands.{spelt}
 use Rattle.rules.specs.Judging.{verdictNumber, verdictsOfLog, totalsOfLog}
-use Rattle.rules.specs.Log.{Log, render, ended, countLine}
+use Rattle.rules.specs.Log.{Log, render, ended, countLine, keywordLines, keywordsOf, respelt, keywordRules}
 use Rattle.rules.specs.Reading.{accepted, refusal, read}
 use Rattle.rules.specs.Rules.{Rules}
-use Rattle.rules.specs.Text.{Text, digits}
+use Rattle.rules.specs.Text.{Text, all, allowed, digits}
 use Rattle.rules.specs.Writing.{writtenArguments, claims, writtenBack}
 use Rattle.rules.specs.declared.Totals.{Totals}
 use Rattle.writer.specs.ClaimsText.{claimNumbers, claimStart, claimEnd, claimStarts, claimEnds, claimsText}
 use Rattle.writer.specs.Given.{ClaimsBegin, ClaimsLie, RecordsLie, Writable}
 use Rattle.writer.specs.LogText.{wroteBy, wroteOf, writtenAfterwards}
 use Rattle.writer.specs.RecordText.{recordsText}
+use Rattle.writer.specs.Respelling.{KeywordsLie, relisted}
 use Rattle.writer.specs.Written.{Puts}
 use Rattle.writer.specs.declared.Wrote.the-variants as Wrote
 use Rattle.writer.proofs.ClaimLines.{nine}
-use Rattle.writer.proofs.ClaimsWritten.{rightly, claims-lie, head-written}
+use Rattle.writer.proofs.ClaimsWritten.{rightly, claims-lie, head-written, written-allowed, written-many}
+use Rattle.writer.proofs.RespellingLaws.{keywords-lie, relisted-log}
 use Rattle.writer.proofs.RecordsWritten.{pointsOf, pointsendsOf, endsOf, contacts, records-written, records-lie}
 use Rattle.writer.proofs.TextsLaws.{row-at}
-use Rattle.writer.proofs.WrittenLaws.{puts-as, front-end, front-laid}
+use Rattle.writer.proofs.WrittenLaws.{front-end, front-laid}
 
 -- There are as many verdicts as records.
 pub as-many : (R : Rules) (log : Log) → length (map verdictNumber (verdictsOfLog R log)) ≡ length (log .records)
 unfolding verdictsOfLog
 as-many R log = length-map (verdictsOfLog R log) verdictNumber ∙ length-verdicts R (log .records)
 
-module _ {R : Rules} {s : Text} {t : Totals} {first line : ℕ} {points pointsends ends numbers : List ℕ} (w : Writable R s t first line points pointsends ends numbers) where
+module _ {R : Rules} {s : Text} {t : Totals} {first : ℕ} {heading : Heading} {points pointsends ends numbers : List ℕ} (w : Writable R s t first heading points pointsends ends numbers) where
   abbrev pub log : Log
   log = w .log
 
@@ -52,6 +59,18 @@ module _ {R : Rules} {s : Text} {t : Totals} {first line : ℕ} {points pointsen
   result = render after
 
   -- # What is given
+
+  -- Where the claims begin, and how many keywords are respelt.
+  abbrev line : ℕ
+  line = heading .claims
+
+  claiming : line ≡ claimsStart log
+  unfolding headingOf
+  claiming = ap (λ (h : Heading). h .claims) (w .headed)
+
+  counted : heading .respelt ≡ respelt entries (log .keywords)
+  unfolding headingOf
+  counted = ap (λ (h : Heading). h .respelt) (w .headed)
 
   -- The records' places, by where the first of them begins.
   abbrev cs : List Contact
@@ -83,7 +102,7 @@ module _ {R : Rules} {s : Text} {t : Totals} {first line : ℕ} {points pointsen
   pub claims-in-order : ClaimsLie s first (claimStarts s line 9) (claimEnds s line 9) 9
   claims-in-order =
       subst (λ (n : ℕ). ClaimsLie s n (claimStarts s line 9) (claimEnds s line 9) 9) (sym (w .place))
-      (subst (λ (n : ℕ). ClaimsLie s (recordsStart s log) (claimStarts s n 9) (claimEnds s n 9) 9) (sym (w .claiming)) (claims-lie R s log (w .isRead)))
+      (subst (λ (n : ℕ). ClaimsLie s (recordsStart s log) (claimStarts s n 9) (claimEnds s n 9) 9) (sym claiming) (claims-lie R s log (w .isRead)))
 
   -- As the code has found them.
   module _ {starts stops claimed : List ℕ} (p : starts ≡ claimStarts s line 9) (q : stops ≡ claimEnds s line 9) (r : claimed ≡ claimNumbers t) where
@@ -109,8 +128,11 @@ module _ {R : Rules} {s : Text} {t : Totals} {first line : ℕ} {points pointsen
 
   -- # The result
 
-  -- In front of the records only the claims change: the remarks stay, and there are as many records.
-  front-is : front (record { arguments = writtenArguments (claims digits (totalsOfLog R log)) entries (log .arguments); remarks = log .remarks; records = log .records }) ≡ front after
+  -- The result in the spelling that the log has. In front of the records only the claims change: the remarks stay, and there are as many records.
+  abbrev kept : Log
+  kept = spelt (log .keywords) after
+
+  front-is : front (record { keywords = log .keywords; arguments = writtenArguments (claims digits (totalsOfLog R log)) entries (log .arguments); remarks = log .remarks; records = log .records }) ≡ front kept
   unfolding front writtenBack
   front-is = refl
 
@@ -124,23 +146,57 @@ module _ {R : Rules} {s : Text} {t : Totals} {first line : ℕ} {points pointsen
   abbrev pub bodyText : Text
   bodyText = recordsText s first points pointsends ends numbers
 
-  head-is : headText ≡ ended (header after)
+  head-is : headText ≡ ended (header kept)
   head-is =
-      (λ i. claimsText s (w .place i) 0 (claimStarts s (w .claiming i) 9) (claimEnds s (w .claiming i) 9) (claimNumbers (w .totals i)))
+      (λ i. claimsText s (w .place i) 0 (claimStarts s (claiming i) 9) (claimEnds s (claiming i) 9) (claimNumbers (w .totals i)))
       ∙ head-written R s log (w .isRead) (totalsOfLog R log)
       ∙ (λ i. ended (front-is i ++ (countLine (many-after i) ∷ [])))
 
-  body-is : bodyText ≡ ended (records after)
+  body-is : bodyText ≡ ended (records kept)
   unfolding writtenBack
   body-is =
       (λ i. recordsText s (w .place i) (points-are i) (pointsends-are i) (ends-are i) (w .verdicts i))
       ∙ records-written R s log (w .isRead)
 
-  pub result-is : headText ++ bodyText ≡ result
-  result-is = ap₂ (λ (a b : Text). a ++ b) head-is body-is ∙ sym (rendered after)
+  kept-is : headText ++ bodyText ≡ render kept
+  kept-is = ap₂ (λ (a b : Text). a ++ b) head-is body-is ∙ sym (rendered kept)
+
+  -- No spelling changes the length.
+  spellings : keywordRules entries (log .keywords) ≡ true
+  spellings = rightly R s log (w .isRead) .spellings
+
+  after-spelling : keywordRules entries (after .keywords) ≡ true
+  unfolding writtenBack
+  after-spelling = listed-spelling entries
+
+  pub as-long : length (render kept) ≡ length result
+  as-long = spelt-as-long R after (log .keywords) after-spelling spellings
 
   pub result-length : length headText + length bodyText ≡ length result
-  result-length = sym (length-append headText bodyText) ∙ ap length result-is
+  result-length = sym (length-append headText bodyText) ∙ ap length kept-is ∙ as-long
+
+  -- The keywords of what was put together, in front of anything, have room for the listed ones; with them it is the result.
+  module _ (rest : Text) where
+    many-arguments : length (after .arguments) ≡ length (log .keywords)
+    unfolding writtenBack
+    many-arguments = written-many R s log (w .isRead) (totalsOfLog R log)
+
+    lines-allowed : every (all allowed) (keywordLines (log .keywords) (after .arguments)) ≡ true
+    unfolding writtenBack
+    lines-allowed = written-allowed R s log (w .isRead) (totalsOfLog R log)
+
+    there : KeywordsLie entries 14 ((headText ++ bodyText) ++ rest)
+    there = rw kept-is (keywords-lie after rest (log .keywords) spellings many-arguments lines-allowed)
+
+    listed-after : spelt (keywordsOf entries) after ≡ after
+    unfolding writtenBack
+    listed-after = refl
+
+    relists : relisted (heading .respelt) ((headText ++ bodyText) ++ rest) ≡ result ++ rest
+    relists =
+        ap (λ (t : Text). relisted (heading .respelt) (t ++ rest)) kept-is
+        ∙ relisted-log after rest (log .keywords) spellings many-arguments lines-allowed (heading .respelt) counted
+        ∙ ap (λ (l : Log). render l ++ rest) listed-after
 
   -- # The answers
 
@@ -177,18 +233,25 @@ module _ {R : Rules} {s : Text} {t : Totals} {first line : ℕ} {points pointsen
     unfolding bytesOfWriting over
     refused-slice = rw refuses
 
-  -- Where it holds, the text that was put together is the answer.
+  -- Where it holds, the text that was put together, in the listed spelling, is the answer.
   module _ {slice slice' : List ℕ} {end : ℕ} (h : tested (length slice) ≡ true) (p : Puts slice 0 (headText ++ bodyText) slice' end) where
-    put-result : Puts slice 0 result slice' end
-    put-result = puts-as p result-is
-
     writes : write R (length slice) s ≡ written result
     writes = answer-is (length slice) ∙ ap answered h
 
+    long : length (headText ++ bodyText) ≡ length result
+    long = ap length kept-is ∙ as-long
+
+    laid : slice' ≡ (headText ++ bodyText) ++ drop (length result) slice
+    unfolding over
+    laid = front-laid p ∙ ap (λ (n : ℕ). (headText ++ bodyText) ++ drop n slice) long
+
+    pub keywords-there : KeywordsLie entries 14 slice'
+    keywords-there = subst (λ (l : List ℕ). KeywordsLie entries 14 l) (sym laid) (there (drop (length result) slice))
+
     pub written-answer : Wrote.Length end ≡ wroteOf R (length slice) s
     unfolding wroteOf wroteBy
-    written-answer = rw writes (ap Wrote.Length (front-end put-result))
+    written-answer = rw writes (ap Wrote.Length (front-end p ∙ long))
 
-    pub written-slice : slice' ≡ writtenAfterwards R s slice
-    unfolding bytesOfWriting
-    written-slice = rw writes (front-laid put-result)
+    pub written-slice : {slice'' : List ℕ} → slice'' ≡ relisted (heading .respelt) slice' → slice'' ≡ writtenAfterwards R s slice
+    unfolding bytesOfWriting over
+    written-slice q = rw writes (q ∙ ap (relisted (heading .respelt)) laid ∙ relists (drop (length result) slice))

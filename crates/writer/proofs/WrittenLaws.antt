@@ -74,12 +74,12 @@ written-last d at t b h =
 -- # One text behind another
 
 module _ {d e : List ℕ} {at r : ℕ} {t : Text} (p : Puts d at t e r) where
-  as-long : length e ≡ length d
-  as-long = ap length (p .list) ∙ written-length d at t (p .fits)
+  pub puts-length : length e ≡ length d
+  puts-length = ap length (p .list) ∙ written-length d at t (p .fits)
 
   -- There is room for a text behind another if there is room for both.
   pub puts-room : (u : Text) → at + (length t + length u) ≤ length d → r + length u ≤ length e
-  puts-room u h = let k : r ≡ at + length t = p .place in let l : length e ≡ length d = as-long in omega arith
+  puts-room u h = let k : r ≡ at + length t = p .place in let l : length e ≡ length d = puts-length in omega arith
 
   -- Two texts that were written one behind the other are one text that was written.
   pub puts-then : {u : Text} {f : List ℕ} {q : ℕ} → Puts e r u f q → Puts d at (t ++ u) f q
@@ -87,7 +87,7 @@ module _ {d e : List ℕ} {at r : ℕ} {t : Text} (p : Puts d at t e r) where
       let k : r ≡ at + length t = p .place in
       let m : q ≡ r + length u = n .place in
       let g : r + length u ≤ length e = n .fits in
-      let l : length e ≡ length d = as-long in
+      let l : length e ≡ length d = puts-length in
       record {
         fits = rw length-append (omega arith);
         list = n .list ∙ rw (p .list, k) (written-then d at t (p .fits) u);

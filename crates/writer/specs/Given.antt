@@ -5,7 +5,8 @@ use mathlib.Core.List.{List, map}
 use mathlib.Core.Path.{_≡_}
 use lib.ListN.{length, getD}
 use Rattle.reader.specs.Contact.{contactsAt}
-use Rattle.reader.specs.Read.{claimsStart}
+use Rattle.reader.specs.Read.{headingOf}
+use Rattle.reader.specs.declared.Heading.{Heading}
 use Rattle.reader.specs.declared.Contact.{Contact}
 use Rattle.rules.specs.Judging.{verdictNumber, verdictsOfLog, totalsOfLog}
 use Rattle.rules.specs.Log.{Log, recordLine, ended}
@@ -46,14 +47,14 @@ pub record RecordsLie (s : Text) (first : ℕ) (points pointsends ends : List �
   pub lies : (i : ℕ) → i < n → RecordLies s (startOf 2 first ends i) (getD points i 0) (getD pointsends i 0) (getD ends i 0)
   pub within : first ≤ length s
 
--- The log was judged: these are its totals, where its first record and the line of its first claim begin, where the points of each record begin
--- and end and the record ends, and the numbers of its verdicts.
-pub record Writable (R : Rules) (s : Text) (t : Totals) (first line : ℕ) (points pointsends ends numbers : List ℕ) : Type 0 where
+-- The log was judged: these are its totals, where its first record begins, its heading, where the points of each record begin and end and the
+-- record ends, and the numbers of its verdicts.
+pub record Writable (R : Rules) (s : Text) (t : Totals) (first : ℕ) (heading : Heading) (points pointsends ends numbers : List ℕ) : Type 0 where
   pub log : Log
   pub isRead : read R s ≡ accepted log
   pub totals : t ≡ totalsOfLog R log
   pub place : first ≡ length s - length (ended (map recordLine (log .records)))
-  pub claiming : line ≡ claimsStart log
+  pub headed : heading ≡ headingOf log
   pub pointsBegin : points ≡ map (λ (c : Contact). c .points) (contactsAt R s first (length (log .records)))
   pub pointsEnd : pointsends ≡ map (λ (c : Contact). c .pointsend) (contactsAt R s first (length (log .records)))
   pub recordsEnd : ends ≡ map (λ (c : Contact). c .end) (contactsAt R s first (length (log .records)))

@@ -9,18 +9,21 @@ ghost use mathlib.Core.List.{[], _∷_, _++_};
 ghost use mathlib.Core.Path.{_≡_};
 ghost use Rattle.reader.specs.Contact.{between};
 ghost use Rattle.rules.specs.Answers.{over};
+ghost use Rattle.rules.specs.Arguments.{entries};
 ghost use Rattle.rules.specs.Desk.{shownTotals, shownRefusal, desk};
 ghost use Rattle.rules.specs.Fields.{newMark, duplicateMark};
 ghost use Rattle.rules.specs.Log.{crlf};
 ghost use Rattle.rules.specs.Rules.{base};
 ghost use Rattle.rules.specs.Text.{digits};
 ghost use Rattle.writer.specs.ClaimsText.{claimNumbers, lineBehind, claimStarts, claimEnds, claimsText};
+ghost use Rattle.writer.specs.Respelling.{KeywordsLie, relisted};
 ghost use Rattle.writer.specs.Given.{ClaimsBegin, ClaimsLie, RecordLies, RecordsLie, Writable};
 ghost use Rattle.writer.specs.LogText.{wroteOf, writtenAfterwards};
 ghost use Rattle.writer.specs.RecordText.{saysDuplicate, markText, marksText, zeroText, recordText, recordsText};
 ghost use Rattle.writer.specs.Written.{Puts};
 use judge::Judged;
 use judge::Weighed;
+use reader::Heading;
 use rules::Refusal;
 use rules::Totals;
 
@@ -370,6 +373,26 @@ fn claim_numbers(t: Totals) -> [u64; 9]
     ]
 }
 
+// # The spelling
+
+// Where some keyword is respelt, each is put as it is listed, line by line. No spelling changes a length, so that every line stays at its place.
+fn respell(out: &mut [u8], respelt: usize)
+    requires { ⌜ KeywordsLie entries 14 (now out) ⌝ }
+    ensures { λ r. ⌜ now (out .exit) ≡ relisted respelt (now (out .entry)) ⌝ }
+{
+    if respelt == 0 {
+        return;
+    }
+    let mut at = 14;
+    let mut k = 0;
+    while k < 36 {
+        let word = header::listed(k);
+        let argument = put_part(out, at, &word, 0, 6);
+        at = line_behind(out, argument);
+        k += 1;
+    }
+}
+
 // # The log
 
 // How long the result is, or why nothing was written.
@@ -388,27 +411,27 @@ fn result_fits(length: usize, room: usize) -> bool
     length <= room
 }
 
-// A judged log, the first claim of which stands on the line that begins at `line`, is written back, if the slice has room for the result; otherwise
-// the slice is left as it is. The result is measured before its first byte is written.
+// A judged log is written back, if the slice has room for the result; otherwise the slice is left as it is. The result is measured before its first
+// byte is written.
 fn write_weighed(
     log: &[u8],
     t: Totals,
     first: usize,
-    line: usize,
+    heading: Heading,
     points: &[u16],
     pointsends: &[u16],
     ends: &[u16],
     numbers: &[u8],
     out: &mut [u8],
 ) -> Wrote
-    requires { ⌜ Writable base (now log) t first line (now points) (now pointsends) (now ends) (now numbers) ⌝ }
+    requires { ⌜ Writable base (now log) t first heading (now points) (now pointsends) (now ends) (now numbers) ⌝ }
     ensures answer { λ r. ⌜ r ≡ wroteOf base (length (now (out .entry))) (now (log .entry)) ⌝ }
     ensures slice { λ r. ⌜ now (out .exit) ≡ writtenAfterwards base (now (log .entry)) (now (out .entry)) ⌝ }
 {
     let claims = claim_numbers(t);
     let mut claimstarts = [0usize; 9];
     let mut claimends = [0usize; 9];
-    claims_at(log, line, &mut claimstarts, &mut claimends);
+    claims_at(log, heading.claims, &mut claimstarts, &mut claimends);
     let head = claims_length(log, first, &claimstarts, &claimends, &claims);
     let length = head + records_length(log, first, points, pointsends, ends, numbers);
     if !result_fits(length, out.len()) {
@@ -419,7 +442,9 @@ fn write_weighed(
         });
     }
     let at = put_claims(out, log, first, &claimstarts, &claimends, &claims);
-    Wrote::Length(put_records(out, at, log, first, points, pointsends, ends, numbers))
+    let end = put_records(out, at, log, first, points, pointsends, ends, numbers);
+    respell(out, heading.respelt);
+    Wrote::Length(end)
 }
 
 // A log is read, judged and written back to the front of the slice. On a refusal no byte of the slice is changed.
@@ -436,12 +461,12 @@ pub fn write(log: &[u8], out: &mut [u8]) -> Wrote
             totals,
             records,
             first,
-            claims,
+            heading,
         } => write_weighed(
             log,
             totals,
             first,
-            claims,
+            heading,
             &points[..records],
             &pointsends[..records],
             &ends[..records],

@@ -2,6 +2,7 @@
 -- Assumes nothing.
 use Prim.Native.Nat.{_+_, _≤_}
 use native.Mathlib.Omega.{arith}
+use mathlib.Core.Bool.{true, _&&_}
 use mathlib.Core.List.{_++_}
 use mathlib.Core.Path.{_≡_, refl, sym, ap, _∙_}
 use lib.Dec.{leb}
@@ -12,8 +13,9 @@ use denote.Ref.{now}
 use Rattle.rules.proofs.Tests.{and-r}
 use Rattle.rules.specs.Rules.{base}
 use Rattle.rules.specs.Text.{Text}
+use Rattle.writer.specs.Written.{Puts}
 use Rattle.writer.proofs.RecordLoops.{log-small}
-use Rattle.writer.proofs.WriteLaws.{result, bodyText, records-in-order, found-nine, found-in-order, found-text, claims-begin, short, result-length, as-tested, refused-answer, refused-slice, written-answer, written-slice}
+use Rattle.writer.proofs.WriteLaws.{result, headText, bodyText, records-in-order, found-nine, found-in-order, found-text, claims-begin, short, result-length, as-tested, refused-answer, refused-slice, keywords-there, written-answer, written-slice}
 use Rattle.writer.proofs.WrittenLaws.{puts-room, puts-then, puts-as}
 use Rattle.writer.proofs.write_weighed.Statement.{statement}
 use Rattle.writer.proofs.write_weighed.Tie as tie
@@ -130,23 +132,44 @@ put-records-requires c κs =
     let w = start (e .before) .pre in
     (records-in-order w, puts-room (p .put-claims .ensures) (bodyText w) (omega (arith, room e, m .before .claims-length .ensures .0, m .records-length .ensures .0)))
 
+-- Claims and records stand one behind the other, in the slice that has room for them.
+abbrev claimed : tie.After-put-records → tie.After-put-claims
+claimed r = r .before .before .before .before
+
+abbrev before : tie.After-put-records → tie.Start
+before r = start (tested (claimed r) .before)
+
+fits : (r : tie.After-put-records)
+    → let b = before r in
+    let n = length (result (b .pre)) in
+    (leb n (base .longestLog) && leb n (length (now (b .args .out)))) ≡ true
+fits r =
+    let e = tested (claimed r) in
+    let f = e .before in
+    let m = f .before in
+    let b = before r in
+    sym (as-tested (b .pre) (length (now (b .args .out))) (m .before .claims-length .result + m .records-length .result) (long m) (f .result-fits .ensures)) ∙ not-false _ (e .if1 .left)
+
+put-both : (r : tie.After-put-records)
+    → let b = before r in
+    Puts (now (b .args .out)) 0 (headText (b .pre) ++ bodyText (b .pre)) (r .put-records .last .0) (r .put-records .result)
+put-both r =
+    let w = before r .pre in
+    let l = located (tested (claimed r) .before .before .before) in
+    let head = found-text w (l .claims-at .ensures .0) (l .claims-at .ensures .1) (numbered l .claim-numbers .ensures) in
+    puts-as (puts-then (claimed r .put-claims .ensures) (r .put-records .ensures)) (ap (λ (t : Text). t ++ bodyText w) head)
+
+respell-requires : tie.Need-respell-requires
+respell-requires c κs = let r = c .before .before .before in keywords-there (before r .pre) (fits r) (put-both r)
+
 same-length : tie.Need-same-length
 same-length c = search needs
 
 returns-2 : tie.Need-returns-2
 returns-2 c =
-    let r = c .before .before in
-    let p = r .before .before .before .before in
-    let e = tested p in
-    let f = e .before in
-    let m = f .before in
-    let b = start f in
-    let w = b .pre in
-    let l = located (m .before) in
-    let yes = sym (as-tested w (length (now (b .args .out))) (m .before .claims-length .result + m .records-length .result) (long m) (f .result-fits .ensures)) ∙ not-false _ (e .if1 .left) in
-    let head = found-text w (l .claims-at .ensures .0) (l .claims-at .ensures .1) (numbered l .claim-numbers .ensures) in
-    let put = puts-as (puts-then (p .put-claims .ensures) (r .put-records .ensures)) (ap (λ (t : Text). t ++ bodyText w) head) in
-    (written-answer w yes put, written-slice w yes put)
+    let r = c .before .before .before .before .before .before in
+    let w = before r .pre in
+    (written-answer w (fits r) (put-both r), written-slice w (fits r) (put-both r) (c .before .before .respell .ensures))
 
 pub write-weighed-spec : {M : Type 1} → statement M
 write-weighed-spec =
@@ -169,5 +192,6 @@ write-weighed-spec =
     slice-aggregate-put-claims-3
     put-claims-requires
     put-records-requires
+    respell-requires
     same-length
     returns-2)
