@@ -133,6 +133,7 @@ fn copies_are_the_same() {
     for (name, copy) in [
         ("12-spring.edi", "samples/spring.edi"),
         ("12-spring.edi", "crates/desk/stdin"),
+        ("000-list.edi", "samples/old-spelling.edi"),
         ("001.edi", "tests/reference/samples/region1-1995.edi"),
     ] {
         assert_eq!(log_named(name), fs::read(kept(copy)).unwrap(), "{copy}");
