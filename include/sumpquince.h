@@ -8,12 +8,12 @@
  *     sumpquince_judge   a verdict for each record, and the totals
  *     sumpquince_write   the log again, with the right claims and marks in it, and each keyword in the listed spelling
  *
- * A keyword is read with each of its letters in either case: "SAnth" and "santh" are SAntH. The listed spelling is the one of the list at
- * sumpquince_view. All other words of the format stand as they are given here.
- *
  * Each either accepts or refuses. A refusal says why by a number, a line and a field; all other numbers of the answer are then 0, and no byte
  * of the memory that was lent for results has been changed. Every input gets an answer: there is nothing to check before a call, but for what
  * stands under "Pointers".
+ *
+ * Keywords: a keyword is read with each of its letters in either case, so that "SAnth" and "santh" are both SAntH. Its listed spelling is the one in
+ * the list at sumpquince_view. All else stands as it is given here, letter for letter.
  *
  * Sizes: a log has at most 65,535 bytes and at most 999 records, and a log that is written has at most 65,535 bytes. A longer log may be handed
  * over; it is refused with number 1.
