@@ -20,13 +20,13 @@ static void show(SumpquinceRefusal refusal, const char *what, uint64_t value) {
 }
 
 static void drive_read(size_t length, unsigned long long times) {
-    SumpquinceReading answer = {{0, 0, 0}, 0};
+    SumpquinceReading answer = {{0, 0, 0}, 0, 0};
     for (; times > 0; times--) answer = sumpquince_read(log_bytes, length);
     show(answer.refusal, "records", answer.records);
 }
 
 static void drive_view(size_t length, unsigned long long times) {
-    SumpquinceView answer = {{0, 0, 0}, 0, 0};
+    SumpquinceView answer = {{0, 0, 0}, 0, 0, 0};
     for (; times > 0; times--) answer = sumpquince_view(log_bytes, length, CTOSC);
     show(answer.refusal, "start", answer.start);
 }

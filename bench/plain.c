@@ -39,6 +39,7 @@ typedef struct {
 typedef struct {
     uint16_t argument[KEYWORDS];
     uint16_t argument_length[KEYWORDS];
+    bool respelt[KEYWORDS]; /* the keyword stands in another spelling than the listed one */
     size_t count;
     Record records[MOST_RECORDS];
 } Log;
@@ -298,12 +299,23 @@ static SumpquinceRefusal read_exact_line(Reader *reader, const char *wanted) {
     return ACCEPTED;
 }
 
+/* Small letters are their capitals, and every other byte is itself. */
+static uint8_t as_capital(uint8_t c) { return is_between(c, 'a', 'z') ? (uint8_t)(c - 'a' + 'A') : c; }
+
+static bool same_but_for_case(const uint8_t *at, const char *name) {
+    for (size_t i = 0; i < KEYWORD_LENGTH; i++) {
+        if (as_capital(at[i]) != as_capital((uint8_t)name[i])) return false;
+    }
+    return true;
+}
+
 static SumpquinceRefusal read_keyword(Reader *reader, size_t keyword, Log *out) {
     Text line;
     if (!next_line(reader, &line)) return refuse_line(reader, 2);
-    if (line.length < KEYWORD_LENGTH + 1 || memcmp(line.at, KEYWORD[keyword].name, KEYWORD_LENGTH) != 0 || line.at[KEYWORD_LENGTH] != '=') {
-        return refuse_line(reader, 3);
-    }
+    if (line.length < KEYWORD_LENGTH + 1 || line.at[KEYWORD_LENGTH] != '=') return refuse_line(reader, 3);
+    const char *name = KEYWORD[keyword].name;
+    out->respelt[keyword] = memcmp(line.at, name, KEYWORD_LENGTH) != 0;
+    if (out->respelt[keyword] && !same_but_for_case(line.at, name)) return refuse_line(reader, 3);
     Text argument = {line.at + KEYWORD_LENGTH + 1, line.length - KEYWORD_LENGTH - 1};
     if (!KEYWORD[keyword].holds(argument)) return refuse_line(reader, 4);
     out->argument[keyword] = (uint16_t)(argument.at - reader->log);
@@ -585,11 +597,19 @@ static uint8_t *put_tail(uint8_t *to, const uint8_t *bytes, const Record *record
 
 static void write_log(const uint8_t *bytes, size_t length, const Log *log, const uint8_t *verdicts, const Claim *claims, uint8_t *to) {
     size_t copied = 0; /* up to here the log has been dealt with */
-    for (size_t i = 0; i < CLAIMS; i++) {
-        size_t start = log->argument[claims[i].keyword];
+    size_t claim = 0;  /* the first claim that has not been written */
+    for (size_t k = 0; k < KEYWORDS; k++) {
+        size_t start = log->argument[k];
+        bool claimed = claim < CLAIMS && claims[claim].keyword == k;
+        if (!log->respelt[k] && !claimed) continue;
         to = put_bytes(to, bytes + copied, start - copied);
-        to = put_number(to, claims[i].value);
-        copied = start + claimed_digits(bytes + start);
+        copied = start;
+        if (log->respelt[k]) memcpy(to - KEYWORD_LENGTH - 1, KEYWORD[k].name, KEYWORD_LENGTH); /* the `=` stands behind it */
+        if (claimed) {
+            to = put_number(to, claims[claim].value);
+            copied += claimed_digits(bytes + start);
+            claim++;
+        }
     }
     for (size_t i = 0; i < log->count; i++) {
         const Record *record = &log->records[i];
@@ -603,15 +623,17 @@ static void write_log(const uint8_t *bytes, size_t length, const Log *log, const
 /* ---- The face ---- */
 
 SumpquinceReading sumpquince_read(const uint8_t *log, size_t log_len) {
-    SumpquinceReading answer = {ACCEPTED, 0};
+    SumpquinceReading answer = {ACCEPTED, 0, 0};
     Log parts;
     answer.refusal = read_log(log, log_len, &parts);
-    if (answer.refusal.number == 0) answer.records = parts.count;
+    if (answer.refusal.number != 0) return answer;
+    answer.records = parts.count;
+    for (size_t k = 0; k < KEYWORDS; k++) answer.respelt += parts.respelt[k];
     return answer;
 }
 
 SumpquinceView sumpquince_view(const uint8_t *log, size_t log_len, size_t keyword) {
-    SumpquinceView answer = {ACCEPTED, 0, 0};
+    SumpquinceView answer = {ACCEPTED, 0, 0, 0};
     Log parts;
     if (keyword < 1 || keyword > KEYWORDS) {
         answer.refusal = refuse(9, 0, 0);
@@ -621,6 +643,7 @@ SumpquinceView sumpquince_view(const uint8_t *log, size_t log_len, size_t keywor
     if (answer.refusal.number == 0) {
         answer.start = parts.argument[keyword - 1];
         answer.length = parts.argument_length[keyword - 1];
+        answer.listed = !parts.respelt[keyword - 1];
     }
     return answer;
 }

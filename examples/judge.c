@@ -1,4 +1,4 @@
-/* Judges the log on standard input: prints the totals, and for each record its verdict in words.
+/* Judges the log on standard input: prints the totals, for each record its verdict in words, and the keywords that are not spelt as listed.
  *
  *     judge < LOG
  *
@@ -8,7 +8,7 @@
 
 #include <stdio.h>
 
-enum { LONGEST_LOG = 65535, MOST_RECORDS = 999 };
+enum { LONGEST_LOG = 65535, MOST_RECORDS = 999, KEYWORDS = 36, KEYWORD_LENGTH = 5 };
 
 /* Judging is refused by 1 to 7 alone. The words are those of tools/refusals.md. */
 static const char *refusal_in_words(uint32_t number) {
@@ -54,6 +54,18 @@ static void print_verdict(unsigned record, uint8_t verdict) {
            verdict & SUMPQUINCE_NEW_SQUARE ? ", new square" : "", verdict & SUMPQUINCE_NEW_COUNTRY ? ", new country" : "");
 }
 
+/* The keywords of an accepted log that stand in another spelling than the listed one, as they stand there. Few logs have one, and sumpquince_read
+ * tells that at once; each view reads the whole log again. */
+static void print_spellings(const uint8_t *log, size_t length) {
+    if (sumpquince_read(log, length).respelt == 0) return;
+    for (unsigned keyword = 1; keyword <= KEYWORDS; keyword++) {
+        SumpquinceView view = sumpquince_view(log, length, keyword);
+        if (view.listed) continue;
+        const char *name = (const char *)log + view.start - KEYWORD_LENGTH - 1; /* in front of the argument and its "=" */
+        printf("keyword %-7u spelt %.*s\n", keyword, KEYWORD_LENGTH, name);
+    }
+}
+
 static void print_refusal(SumpquinceRefusal refusal) {
     printf("refused %u, line %u, field %u: %s\n", refusal.number, refusal.line, refusal.field, refusal_in_words(refusal.number));
 }
@@ -75,5 +87,6 @@ int main(void) {
     print_totals(&judgement);
     uint64_t records = judgement.credited + judgement.voids + judgement.duplicates + judgement.errors;
     for (uint64_t i = 0; i < records; i++) print_verdict((unsigned)i + 1, verdicts[i]);
+    print_spellings(log, length);
     return 0;
 }

@@ -6,11 +6,14 @@
  *     sumpquince_read    does it follow the format, and how many records has it?
  *     sumpquince_view    where in the log does the argument of one keyword lie?
  *     sumpquince_judge   a verdict for each record, and the totals
- *     sumpquince_write   the log again, with the right claims and marks in it
+ *     sumpquince_write   the log again, with the right claims and marks in it, and each keyword in the listed spelling
  *
  * Each either accepts or refuses. A refusal says why by a number, a line and a field; all other numbers of the answer are then 0, and no byte
  * of the memory that was lent for results has been changed. Every input gets an answer: there is nothing to check before a call, but for what
  * stands under "Pointers".
+ *
+ * Keywords: a keyword is read with each of its letters in either case, so that "SAnth" and "santh" are both SAntH. Its listed spelling is the one in
+ * the list at sumpquince_view. All else stands as it is given here, letter for letter.
  *
  * Sizes: a log has at most 65,535 bytes and at most 999 records, and a log that is written has at most 65,535 bytes. A longer log may be handed
  * over; it is refused with number 1.
@@ -55,7 +58,7 @@ extern "C" {
  *     1        the log is longer than 65,535 bytes                                           0                             0
  *     2        the line has no CR LF after at most 75 characters of code 32 to 127           that line                     0
  *     3        the line is not the one due: not the identifier "[REG1TEST;1]", not the
- *              keyword due with its "=", or not "[Remarks]"                                  that line                     0
+ *              keyword due, in either letter case, with its "=", or not "[Remarks]"          that line                     0
  *     4        the argument of the keyword breaks its rule, or the number and "]" of the
  *              line "[QSORecords;N]" do (N is 0 to 999)                                      that line                     0
  *     5        the record breaks a rule                                                      the record's line             0 to 15
@@ -82,7 +85,9 @@ typedef struct {
     SumpquinceRefusal refusal;
     /* The number of records, 0 to 999: the length that sumpquince_judge needs for its verdicts. 0 on refusal. */
     uint64_t records;
-} SumpquinceReading; /* 24 bytes */
+    /* How many of the 36 keywords stand in another spelling than the listed one, 0 to 36. 0 on refusal. */
+    uint64_t respelt;
+} SumpquinceReading; /* 32 bytes */
 
 /* The answer of sumpquince_view: the argument is the `length` bytes from log[start] on. */
 typedef struct {
@@ -92,7 +97,10 @@ typedef struct {
     /* How many bytes the argument has, up to its line's CR and without it; 0 for an empty argument, and on refusal. Where a keyword has several
      * arguments, they and the semicolons between them are all in the view. */
     uint64_t length;
-} SumpquinceView; /* 32 bytes */
+    /* 1 where the keyword stands in the listed spelling, 0 where it stands in another, which is then the 5 bytes from log[start - 6] on. 0 on refusal
+     * too. */
+    uint64_t listed;
+} SumpquinceView; /* 40 bytes */
 
 /* The answer of sumpquince_judge. Every number is 0 on refusal. */
 typedef struct {
@@ -134,11 +142,12 @@ typedef struct {
 #define SUMPQUINCE_NEW_SQUARE 32
 #define SUMPQUINCE_NEW_COUNTRY 64
 
-/* Reads the log of `log_len` bytes at `log`, and says whether it follows the format, and how many records it has. Claims need not be true.
- * Refusals: 1 to 6. */
+/* Reads the log of `log_len` bytes at `log`, and says whether it follows the format, how many records it has, and how many of its keywords are not
+ * in the listed spelling. Claims need not be true. Refusals: 1 to 6. */
 SumpquinceReading sumpquince_read(const uint8_t *log, size_t log_len);
 
-/* Says where in the log the argument of a keyword lies. `keyword` is 1 to 36, in the order in which the keyword lines stand:
+/* Says where in the log the argument of a keyword lies, and whether the keyword is in the listed spelling. `keyword` is 1 to 36, in the order in
+ * which the keyword lines stand, and this is the listed spelling of each:
  *
  *     1 TName   2 TDate   3 PCall   4 PWWLo   5 PExch   6 PAdr1   7 PAdr2   8 PSect   9 PBand  10 PClub  11 RName  12 RCall
  *    13 RAdr1  14 RAdr2  15 RPoCo  16 RCity  17 RCoun  18 RPhon  19 RHBBS  20 MOpe1  21 MOpe2  22 STXEq  23 SPowe  24 SRXEq
@@ -147,15 +156,15 @@ SumpquinceReading sumpquince_read(const uint8_t *log, size_t log_len);
  * The whole log is read first, and a view is given only of a log that follows the format. Refusals: 9, then 1 to 6. */
 SumpquinceView sumpquince_view(const uint8_t *log, size_t log_len, size_t keyword);
 
-/* Judges the log. On acceptance the verdict of record i, counted from 0, is in verdicts[i], and the bytes of the slice behind the last verdict
- * are as they were. `verdicts_len` is the length of the slice at `verdicts`: 999 is enough for every log. Refusals: 1 to 6, then 7; no byte of the
- * slice is then changed. */
+/* Judges the log. How its keywords are spelt makes no difference. On acceptance the verdict of record i, counted from 0, is in verdicts[i], and the
+ * bytes of the slice behind the last verdict are as they were. `verdicts_len` is the length of the slice at `verdicts`: 999 is enough for every log.
+ * Refusals: 1 to 6, then 7; no byte of the slice is then changed. */
 SumpquinceJudgement sumpquince_judge(const uint8_t *log, size_t log_len, uint8_t *verdicts, size_t verdicts_len);
 
-/* Writes the log back with the right claims. Every byte is copied but these: the counts in CQSOs, CWWLs, CExcs and CDXCs, and CQSOP, CWWLB, CExcB,
- * CDXCB and CToSc, become the recomputed ones; in each record New-Exchange and New-WWL become the marks as judged, New-DXCC is kept on credited
- * records and emptied elsewhere, the last field is D exactly on duplicates, and the points of a duplicate become 0. So the result can be longer
- * than the log.
+/* Writes the log back with the right claims. Every byte is copied but these: each keyword is put in the listed spelling; the counts in CQSOs, CWWLs,
+ * CExcs and CDXCs, and CQSOP, CWWLB, CExcB, CDXCB and CToSc, become the recomputed ones; in each record New-Exchange and New-WWL become the marks as
+ * judged, New-DXCC is kept on credited records and emptied elsewhere, the last field is D exactly on duplicates, and the points of a duplicate become
+ * 0. So the result can be longer than the log, though no spelling makes it so.
  *
  * `out_len` is the length of the slice at `out`: 65,535 is enough for every log that can be written. The bytes of the slice behind the result are
  * as they were. Refusals: 1 to 6, then 8; no byte of the slice is then changed. */

@@ -13,7 +13,7 @@
 #include <stdlib.h>
 #include <string.h>
 
-enum { MOST_LINES = 20, FENCE = 64, TOTALS = 12 };
+enum { MOST_LINES = 20, FENCE = 64, TOTALS = 12, KEYWORDS = 36 };
 
 /* No part of a stream is longer: a larger length means that the stream is broken, and asking for so much memory would hide that. */
 #define LONGEST_PART (1u << 26)
@@ -30,7 +30,8 @@ typedef struct {
     uint64_t keyword;
     uint32_t verdicts_len, output_len;
     SumpquinceRefusal read, view, judge, write;
-    uint32_t records, view_start, view_length;
+    uint32_t records, respelt, view_start, view_length, view_listed;
+    uint64_t listed; /* a bit for each keyword, the first as bit 0 */
     uint64_t totals[TOTALS];
     Bytes verdicts, result;
 } Trial;
@@ -100,9 +101,12 @@ static void take_trial(Trial *trial) {
     trial->output_len = take_u32();
     trial->read = take_answer();
     trial->records = take_u32();
+    trial->respelt = take_u32();
     trial->view = take_answer();
     trial->view_start = take_u32();
     trial->view_length = take_u32();
+    trial->view_listed = take_u32();
+    trial->listed = take_u64();
     trial->judge = take_answer();
     for (int i = 0; i < TOTALS; i++) trial->totals[i] = take_u64();
     trial->verdicts = take_bytes();
@@ -182,6 +186,7 @@ static void try_read(const Trial *trial) {
     SumpquinceReading got = sumpquince_read(trial->log.at, trial->log.length);
     hold_refusal(trial, "read", got.refusal, trial->read);
     hold(trial, "read", "the number of records", got.records, trial->records);
+    hold(trial, "read", "the number of respelt keywords", got.respelt, trial->respelt);
 }
 
 static void try_view(const Trial *trial) {
@@ -189,6 +194,16 @@ static void try_view(const Trial *trial) {
     hold_refusal(trial, "view", got.refusal, trial->view);
     hold(trial, "view", "start", got.start, trial->view_start);
     hold(trial, "view", "length", got.length, trial->view_length);
+    hold(trial, "view", "listed", got.listed, trial->view_listed);
+}
+
+/* Whether each keyword is listed, those too that the trial does not ask the view for. */
+static void try_spellings(const Trial *trial) {
+    for (uint32_t k = 0; k < KEYWORDS; k++) {
+        char what[32];
+        snprintf(what, sizeof what, "listed of keyword %u", k + 1);
+        hold(trial, "view", what, sumpquince_view(trial->log.at, trial->log.length, k + 1).listed, trial->listed >> k & 1);
+    }
 }
 
 static void hold_totals(const Trial *trial, const SumpquinceJudgement *got) {
@@ -223,6 +238,7 @@ static void try_trial(const Trial *trial) {
     memcpy(copy, trial->log.at, trial->log.length);
     try_read(trial);
     try_view(trial);
+    try_spellings(trial);
     try_judge(trial);
     try_write(trial);
     hold(trial, "all", "whether the log itself was changed", memcmp(copy, trial->log.at, trial->log.length) != 0, 0);
@@ -234,7 +250,7 @@ int main(int count, char **words) {
     uint8_t name[8];
     run.folder = count > 1 ? words[1] : NULL;
     take(name, sizeof name);
-    if (memcmp(name, "SQTRIAL1", sizeof name) != 0) stop("standard input is no stream of trials");
+    if (memcmp(name, "SQTRIAL2", sizeof name) != 0) stop("standard input is no stream of trials");
     take_u64(); /* the seed, which whoever asked for the trials knows */
     for (uint32_t left = take_u32(); left > 0; left--) {
         Trial trial;

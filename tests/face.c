@@ -11,8 +11,8 @@
 #include <string.h>
 
 _Static_assert(sizeof(SumpquinceRefusal) == 12 && _Alignof(SumpquinceRefusal) == 4, "a refusal");
-_Static_assert(sizeof(SumpquinceReading) == 24 && _Alignof(SumpquinceReading) == 8, "a reading");
-_Static_assert(sizeof(SumpquinceView) == 32 && _Alignof(SumpquinceView) == 8, "a view");
+_Static_assert(sizeof(SumpquinceReading) == 32 && _Alignof(SumpquinceReading) == 8, "a reading");
+_Static_assert(sizeof(SumpquinceView) == 40 && _Alignof(SumpquinceView) == 8, "a view");
 _Static_assert(sizeof(SumpquinceJudgement) == 112 && _Alignof(SumpquinceJudgement) == 8, "a judgement");
 _Static_assert(sizeof(SumpquinceWritten) == 24 && _Alignof(SumpquinceWritten) == 8, "a log written back");
 

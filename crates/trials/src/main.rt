@@ -36,8 +36,10 @@ fn show_read(log: &[u8]) -> usize {
             records,
             first: _,
             claims: _,
+            respelt,
         } => {
             show(b" records ", records as u64);
+            show(b" respelt ", respelt as u64);
             say(b"\n");
             records
         }
@@ -128,7 +130,8 @@ fn answers(name: &[u8]) {
     show_judged(&log[..n], records);
 }
 
-// What is answered of a log when a keyword is viewed: where its argument starts, how long it is, and the argument.
+// What is answered of a log when a keyword is viewed: where its argument starts, how long it is, whether the keyword stands in the listed spelling,
+// and the argument.
 fn argument(name: &[u8], keyword: usize) {
     show_name(name);
     let mut log = io::large_buffer();
@@ -136,10 +139,14 @@ fn argument(name: &[u8], keyword: usize) {
     show(b"  view ", keyword as u64);
     say(b":");
     match places::view(&log[..n], keyword) {
-        ViewRead::Seen { start, length } => {
+        ViewRead::Seen { start, length, listed } => {
             show(b" start ", start as u64);
             show(b" length ", length as u64);
-            say(b" ");
+            if listed {
+                say(b" listed ");
+            } else {
+                say(b" respelt ");
+            }
             say(places::viewed(&log[..n], keyword));
             say(b"\n");
         }
@@ -216,6 +223,8 @@ fn cases() {
     // Verdicts 96, 64, 3, 2, 1; total 700. What it is written back as has the same verdicts and total.
     answers(b"12-spring.edi");
     answers(b"12-written.edi");
+    // The same log with every keyword in another spelling: the same verdicts and total.
+    answers(b"12-respelt.edi");
     // The first record struck: the repeat is credited, total 700. Written back first, and then struck: total 580.
     answers(b"13-struck.edi");
     answers(b"13-written-struck.edi");
@@ -229,22 +238,36 @@ fn views() {
     argument(b"12-spring.edi", 5);
     argument(b"12-spring.edi", 36);
     argument(b"12-spring.edi", 37);
+    argument(b"12-respelt.edi", 1);
+    argument(b"12-respelt.edi", 36);
+    // 000 spells CQSOs and CExcs in its own way, and CQSOP and CWWLs as they are listed.
+    argument(b"000-list.edi", 27);
+    argument(b"000-list.edi", 28);
+    argument(b"000-list.edi", 29);
+    argument(b"000-list.edi", 31);
     argument(b"01-empty.edi", 1);
     argument(b"01-empty.edi", 0);
 }
 
 // Writing back: the log of case 12, whose fourth record then ends `JO40AA;0;;;;D`. The result, and the sample of case 14, whose claims are true, are
-// written back as they are. A refused log is not written.
+// written back as they are. A log with other spellings is written back as the one with the listed spellings is. A refused log is not written.
 fn writings() {
     written(b"12-spring.edi", b"12-written.edi");
     written(b"12-written.edi", b"12-written.edi");
     written(b"14-sample.edi", b"14-sample.edi");
+    written(b"12-respelt.edi", b"12-written.edi");
+    written(b"000-1-mended-no-remarks.edi", b"14-sample.edi");
+    written(b"000-list.edi", b"14-sample.edi");
+    written(b"000-1-mended.edi", b"000-1-written.edi");
+    written(b"000-1-written.edi", b"000-1-written.edi");
+    written(b"000-list-mopel.edi", b"14-sample.edi");
     written(b"01-empty.edi", b"01-empty.edi");
 }
 
-// The samples of the sources. As printed, with a bare LF behind each line, they have no first line. With CR LF they are refused where they
-// leave the format of 001: those of 000 misspell SAntH, the 26th keyword; the fourth remark of 001 has 76 characters; those of 003 have several
-// keywords on line 7, which is too long.
+// The samples of the sources. As printed, with a bare LF behind each line, they have no first line. With CR LF they are refused where they leave the
+// format of 001. Those of 000 write SAnth and CQSOS, which is read; the layout put a line of 82 characters into the remarks of the first; the third
+// has CQS0s, with a nought, and the others the locator IP620A, with a nought too. The fourth remark of 001 has 76 characters; those of 003 have
+// several keywords on line 7, which is too long.
 fn samples() {
     answers(b"000-1-lf.edi");
     answers(b"001-lf.edi");
@@ -257,11 +280,20 @@ fn samples() {
     answers(b"001.edi");
     answers(b"003-1.edi");
     answers(b"003-2.edi");
-    // Those of 000 mended by hand: the spelling of 001 (SAntH, CQSOs), IP62OA with the letter O, the semicolons that their ERROR records lack,
-    // and none of the lines that the layout put in. They claim 24 contacts, 19 squares and 7 countries (the last 8), exchanges where there are
+    // The first of 000 without its remarks: two semicolons are missing in its ERROR record. With them it has the figures of case 14.
+    answers(b"000-1-no-remarks.edi");
+    answers(b"000-1-mended-no-remarks.edi");
+    // The same log in the spellings of the list of keywords in 000, PEXch, CEXcs and CEXcB besides; and with that list's MOpel and CDXCc, which are
+    // other words.
+    answers(b"000-list.edi");
+    answers(b"000-list-mopel.edi");
+    answers(b"000-list-cdxcc.edi");
+    // Those of 000 mended by hand, in their own spellings: CQSOs and IP62OA with the letter O, the semicolons that their ERROR records lack, and
+    // none of the lines that the layout put in. They claim 24 contacts, 19 squares and 7 countries (the last 8), exchanges where there are
     // any, and 11579 points, or 24 where a contact is one point; all that is so, but the last has 20 squares. Of the totals that they claim only
     // the first and the third are sums as in document 01.
     answers(b"000-1-mended.edi");
+    answers(b"000-1-written.edi");
     answers(b"000-2-mended.edi");
     answers(b"000-3-mended.edi");
     answers(b"000-4-mended.edi");

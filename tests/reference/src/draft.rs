@@ -8,6 +8,8 @@ use crate::values;
 /// can be broken as easily as made.
 #[derive(Clone)]
 pub struct Draft {
+    /// The keywords as they are spelt in this log.
+    pub keywords: Vec<Vec<u8>>,
     pub header: Vec<Vec<u8>>,
     pub remarks: Vec<Vec<u8>>,
     pub records: Vec<[Vec<u8>; 15]>,
@@ -28,12 +30,12 @@ pub const FIRST_KEYWORD: usize = 1;
 pub const REMARKS_LINE: usize = 37;
 pub const FIRST_REMARK: usize = 38;
 
-const ODD_REMARKS: [&str; 24] = [
+const ODD_REMARKS: [&str; 28] = [
     "", "", "[QSORecords", "[QSORecords]", "[QSORecords:3]", " [QSORecords;3]", "[qsorecords;3]",
     "[QSORECORDS;3]", "[QSORecords ;3]", "QSORecords;3]", "[QSORecord;2]", "x[QSORecords;2]",
     "[Remarks]", "[REG1TEST;1]", "TName=again", "CToSc=12", ";", ";;;;;;;;;;;;;;", "\x7f", " ",
     "240302;1401;DK1AA;1;59;001;59;004;;JO40AA;120;;N;N;", "[", "[Remarks;1]",
-    "240302;1410;ERROR;;;003;;;;;0;;;;",
+    "240302;1410;ERROR;;;003;;;;;0;;;;", "[qSORecords;3]", "[QSORecordS;3]", "{QSORecords;3]", "tnAME=again",
 ];
 
 impl Draft {
@@ -48,8 +50,8 @@ impl Draft {
     /// The lines of the log without their ends.
     pub fn lines(&self) -> Vec<Vec<u8>> {
         let mut lines = vec![b"[REG1TEST;1]".to_vec()];
-        for (keyword, argument) in KEYWORDS.iter().zip(&self.header) {
-            lines.push([keyword.as_bytes(), b"=", argument].concat());
+        for (keyword, argument) in self.keywords.iter().zip(&self.header) {
+            lines.push([keyword, &b"="[..], argument].concat());
         }
         lines.push(REMARKS_MARK.to_vec());
         lines.extend(self.remarks.iter().cloned());
@@ -213,11 +215,70 @@ fn records(random: &mut Random, wish: Wish) -> Vec<[Vec<u8>; 15]> {
         .collect()
 }
 
+/// The spellings that differ by case alone in the format's printing of 1995.
+pub const OLD_SPELLINGS: [(&str, &str); 5] = [
+    ("PExch", "PEXch"),
+    ("SAntH", "SAnth"),
+    ("CQSOs", "CQSOS"),
+    ("CExcs", "CEXcs"),
+    ("CExcB", "CEXcB"),
+];
+
+pub fn listed_keywords() -> Vec<Vec<u8>> {
+    KEYWORDS.iter().map(|name| name.as_bytes().to_vec()).collect()
+}
+
+pub fn old_keywords() -> Vec<Vec<u8>> {
+    let old = |name: &str| OLD_SPELLINGS.iter().find(|pair| pair.0 == name).map(|pair| pair.1);
+    KEYWORDS.iter().map(|name| old(name).unwrap_or(name).as_bytes().to_vec()).collect()
+}
+
+/// Turns one letter of a keyword into its other case.
+pub fn turn_a_letter(random: &mut Random, keyword: &mut [u8]) {
+    let letters: Vec<usize> = (0..keyword.len()).filter(|&at| keyword[at].is_ascii_alphabetic()).collect();
+    let at = *random.pick(&letters);
+    keyword[at] = other_case(keyword[at]);
+}
+
+/// Each letter in either case, as chance has it.
+pub fn mix(random: &mut Random, keyword: &mut [u8]) {
+    for byte in keyword {
+        if random.chance(50) {
+            *byte = other_case(*byte);
+        }
+    }
+}
+
+fn other_case(byte: u8) -> u8 {
+    if byte.is_ascii_lowercase() { byte.to_ascii_uppercase() } else { byte.to_ascii_lowercase() }
+}
+
+/// Keywords in some spelling that is read: mostly the listed one.
+fn keywords(random: &mut Random) -> Vec<Vec<u8>> {
+    let mut keywords = listed_keywords();
+    match random.below(10) {
+        0 => {
+            let chosen = random.below(keywords.len());
+            turn_a_letter(random, &mut keywords[chosen]);
+        }
+        1 => {
+            for keyword in &mut keywords {
+                if random.chance(30) {
+                    mix(random, keyword);
+                }
+            }
+        }
+        2 => keywords = old_keywords(),
+        _ => {}
+    }
+    keywords
+}
+
 /// A log that keeps every rule. Where records are not compact there must be at
 /// most 700 of them, or the log might be too long.
 pub fn draft(random: &mut Random, wish: Wish) -> Draft {
     let header = KEYWORDS.iter().map(|name| header_argument(random, name)).collect();
-    let draft = Draft { header, remarks: remarks(random), records: records(random, wish) };
+    let draft = Draft { keywords: keywords(random), header, remarks: remarks(random), records: records(random, wish) };
     debug_assert!(draft.bytes().len() <= LONGEST_LOG);
     draft
 }

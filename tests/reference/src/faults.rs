@@ -249,14 +249,14 @@ const COUNTS: &[(&str, &[&str])] = &[
     ("other-character", &["[QSORecords; 1]", "[QSORecords;1 ]", "[QSORecords;1;]", "[QSORecords;;1]", "[QSORecords;1;1]", "[QSORecords;1,0]"]),
 ];
 
-const BAD_IDENTIFIERS: [&str; 12] = [
+const BAD_IDENTIFIERS: [&str; 15] = [
     "", "[REG1TEST;2]", "[REG1TEST;1] ", " [REG1TEST;1]", "[reg1test;1]", "REG1TEST;1", "[REG1TEST]", "[REG1TEST;01]",
-    "[REG1TEST;1", "[REG1TEST,1]", "[REG2TEST;1]", "[REG1TEST;1]x",
+    "[REG1TEST;1", "[REG1TEST,1]", "[REG2TEST;1]", "[REG1TEST;1]x", "[REG1TESt;1]", "{REG1TEST;1]", "[REG1TEST;1}",
 ];
 
-const BAD_REMARKS_MARKS: [&str; 11] = [
+const BAD_REMARKS_MARKS: [&str; 14] = [
     "", "[remarks]", "[REMARKS]", "[Remarks] ", " [Remarks]", "[Remarks", "Remarks", "[Remarks;]", "[Remark]", "[Remarks]x",
-    "[QSORecords;0]",
+    "[QSORecords;0]", "[RemArks]", "[RemarkS]", "{Remarks}",
 ];
 
 /// Faults that take more than one bad value.
@@ -271,9 +271,13 @@ const OTHERS: &[(&str, Maker)] = &[
     ("identifier/missing", identifier_missing),
     ("identifier/repeated", identifier_repeated),
     ("identifier/line-before", line_before_identifier),
-    ("keyword/case", keyword_case),
-    ("keyword/old-spelling", keyword_old_spelling),
-    ("keyword/letter", keyword_letter),
+    ("keyword/old-misprint", keyword_old_misprint),
+    ("keyword/other-byte", keyword_other_byte),
+    ("keyword/other-letter", keyword_other_letter),
+    ("keyword/32-off", keyword_32_off),
+    ("keyword/beside-the-letters", keyword_beside_the_letters),
+    ("keyword/letter-for-digit", keyword_letter_for_digit),
+    ("keyword/digit-for-letter", keyword_digit_for_letter),
     ("keyword/no-equals", keyword_no_equals),
     ("keyword/other-sign", keyword_other_sign),
     ("keyword/space-before-equals", keyword_space_before_equals),
@@ -532,33 +536,74 @@ fn with_keyword_line(random: &mut Random, change: fn(&mut Random, &mut Vec<u8>))
     (join(&lines), refused(3, place, 0))
 }
 
-fn keyword_case(random: &mut Random) -> (Vec<u8>, Expectation) {
-    with_keyword_line(random, |random, line| loop {
-        let at = random.below(5);
-        if line[at].is_ascii_alphabetic() {
-            line[at] ^= 32;
-            return;
-        }
-    })
-}
-
-fn keyword_old_spelling(random: &mut Random) -> (Vec<u8>, Expectation) {
-    let spellings = [("SAntH", "SAnth"), ("CQSOs", "CQSOS"), ("CExcs", "CEXcs"), ("CQSOs", "CQS0s"), ("MOpe1", "MOpel")];
-    let (listed, written) = *random.pick(&spellings);
+/// Misprints of 1995 that are other words, not the same letters in another case.
+fn keyword_old_misprint(random: &mut Random) -> (Vec<u8>, Expectation) {
+    let misprints = [("MOpe1", "MOpel"), ("CDXCs", "CDXCc"), ("CQSOs", "CQS0s")];
+    let (listed, written) = *random.pick(&misprints);
     let mut lines = draft::small(random).lines();
     let place = keyword_place(listed);
     lines[place][..5].copy_from_slice(written.as_bytes());
     (join(&lines), refused(3, place, 0))
 }
 
-fn keyword_letter(random: &mut Random) -> (Vec<u8>, Expectation) {
-    with_keyword_line(random, |random, line| loop {
+/// Puts another byte into the place of one in some keyword: `change` is given
+/// the byte that stands there, and tells none where it has none for it. The
+/// other byte is never the same letter in its other case.
+fn with_keyword_byte(random: &mut Random, change: fn(&mut Random, u8) -> Option<u8>) -> (Vec<u8>, Expectation) {
+    let mut draft = draft::small(random);
+    loop {
+        let keyword = random.below(KEYWORDS.len());
         let at = random.below(5);
-        let byte = random.between(32, 127) as u8;
-        if line[at] != byte {
-            line[at] = byte;
-            return;
+        let before = draft.keywords[keyword][at];
+        let after = change(random, before).filter(|byte| !byte.eq_ignore_ascii_case(&before));
+        if let Some(byte) = after {
+            draft.keywords[keyword][at] = byte;
+            return (draft.bytes(), refused(3, FIRST_KEYWORD + keyword, 0));
         }
+    }
+}
+
+fn keyword_other_byte(random: &mut Random) -> (Vec<u8>, Expectation) {
+    with_keyword_byte(random, |random, _| Some(random.between(32, 127) as u8))
+}
+
+fn keyword_other_letter(random: &mut Random) -> (Vec<u8>, Expectation) {
+    with_keyword_byte(random, |random, _| {
+        let letter = random.between(b'A' as usize, b'Z' as usize) as u8;
+        Some(if random.chance(50) { letter } else { letter.to_ascii_lowercase() })
+    })
+}
+
+/// A byte that lies 32 below a capital and is no letter, as `!` below `A`, or
+/// 32 above a digit, as `Q` above `1`: no case of what stands there.
+fn keyword_32_off(random: &mut Random) -> (Vec<u8>, Expectation) {
+    with_keyword_byte(random, |_, byte| match byte {
+        b'0'..=b'9' => Some(byte + 32),
+        b'A'..=b'Z' => Some(byte - 32),
+        _ => None,
+    })
+}
+
+/// The bytes beside the letters, which lie 32 apart as the two cases do.
+fn keyword_beside_the_letters(random: &mut Random) -> (Vec<u8>, Expectation) {
+    with_keyword_byte(random, |random, _| Some(*random.pick(b"@`[{\\|]}^~_\x7f")))
+}
+
+fn keyword_letter_for_digit(random: &mut Random) -> (Vec<u8>, Expectation) {
+    with_keyword_byte(random, |random, byte| match byte {
+        b'1' => Some(*random.pick(b"lLIi|Q")),
+        b'2' => Some(*random.pick(b"zZR")),
+        _ => None,
+    })
+}
+
+fn keyword_digit_for_letter(random: &mut Random) -> (Vec<u8>, Expectation) {
+    with_keyword_byte(random, |_, byte| match byte.to_ascii_lowercase() {
+        b'o' => Some(b'0'),
+        b'l' | b'i' => Some(b'1'),
+        b's' => Some(b'5'),
+        b'b' => Some(b'8'),
+        _ => None,
     })
 }
 
@@ -947,6 +992,22 @@ pub fn near_argument(random: &mut Random) -> Vec<u8> {
         draft.set(keyword, pair.as_bytes());
     }
     draft.bytes()
+}
+
+/// A log with one keyword and its `=` changed a little, so that it may or may
+/// not be the same word in another spelling.
+pub fn near_keyword(random: &mut Random) -> Vec<u8> {
+    let mut lines = draft::small(random).lines();
+    let line = &mut lines[random.between(FIRST_KEYWORD, KEYWORDS.len())];
+    for _ in 0..random.between(1, 3) {
+        let at = random.below(6);
+        line[at] = match random.below(4) {
+            0 => line[at].wrapping_sub(32),
+            1 => line[at].wrapping_add(32),
+            _ => line[at] ^ 32,
+        };
+    }
+    join(&lines)
 }
 
 /// A log with some line that is no record and no keyword changed a little.

@@ -38,6 +38,12 @@ const VALID: &[(&str, usize, Maker)] = &[
     ("valid/longest-lines", 2, longest_lines),
     ("valid/shortest-lines", 2, shortest_lines),
     ("valid/written-back", 3, written_back),
+    ("valid/respelt-one-letter", 4, respelt_one_letter),
+    ("valid/respelt-mixed", 3, respelt_mixed),
+    ("valid/respelt-small", 1, respelt_small),
+    ("valid/respelt-capitals", 1, respelt_capitals),
+    ("valid/respelt-old", 2, respelt_old),
+    ("valid/respelt-full", 1, respelt_full),
     ("valid/some-hundred", 3, some_hundred),
     ("valid/full", 1, full),
     ("valid/full-of-repeats", 1, full_of_repeats),
@@ -51,6 +57,7 @@ type Damage = fn(&mut Random, &mut Vec<u8>);
 
 const DAMAGES: &[(&str, Damage)] = &[
     ("damage/flip", flip_a_bit),
+    ("damage/case", flip_a_case),
     ("damage/replace", replace_a_byte),
     ("damage/insert", insert_a_byte),
     ("damage/delete", delete_a_byte),
@@ -67,6 +74,7 @@ const DAMAGES: &[(&str, Damage)] = &[
 const OPEN: &[(&str, usize, Maker)] = &[
     ("near/field", 6, faults::near_field),
     ("near/argument", 5, faults::near_argument),
+    ("near/keyword", 4, faults::near_keyword),
     ("near/line", 2, faults::near_line),
     ("two-faults", 2, faults::two_faults),
     ("noise/bytes", 1, noise),
@@ -283,6 +291,50 @@ fn written_back(random: &mut Random) -> Vec<u8> {
     write_log(&read(&log).expect("a valid log"))
 }
 
+fn respelt_one_letter(random: &mut Random) -> Vec<u8> {
+    let mut made = draft::small(random);
+    made.keywords = draft::listed_keywords();
+    let chosen = random.below(made.keywords.len());
+    draft::turn_a_letter(random, &mut made.keywords[chosen]);
+    made.bytes()
+}
+
+/// Every keyword with each of its letters in either case.
+fn respelt_mixed(random: &mut Random) -> Vec<u8> {
+    let mut made = draft::small(random);
+    for keyword in &mut made.keywords {
+        draft::mix(random, keyword);
+    }
+    made.bytes()
+}
+
+fn respelt_small(random: &mut Random) -> Vec<u8> {
+    let mut made = draft::small(random);
+    made.keywords.iter_mut().for_each(|keyword| keyword.make_ascii_lowercase());
+    made.bytes()
+}
+
+fn respelt_capitals(random: &mut Random) -> Vec<u8> {
+    let mut made = draft::small(random);
+    made.keywords.iter_mut().for_each(|keyword| keyword.make_ascii_uppercase());
+    made.bytes()
+}
+
+fn respelt_old(random: &mut Random) -> Vec<u8> {
+    let mut made = draft::small(random);
+    made.keywords = draft::old_keywords();
+    made.bytes()
+}
+
+fn respelt_full(random: &mut Random) -> Vec<u8> {
+    let calls = random.between(1, 2_000);
+    let mut made = draft::draft(random, Wish { records: 999, calls, compact: true });
+    for keyword in &mut made.keywords {
+        draft::mix(random, keyword);
+    }
+    made.bytes()
+}
+
 fn some_hundred(random: &mut Random) -> Vec<u8> {
     let wish = Wish { records: random.between(50, 400), calls: random.between(20, 400), compact: false };
     draft::draft(random, wish).bytes()
@@ -376,6 +428,13 @@ fn some_place(random: &mut Random, log: &[u8]) -> usize {
 fn flip_a_bit(random: &mut Random, log: &mut Vec<u8>) {
     let at = some_place(random, log);
     log[at] ^= 1 << random.below(8);
+}
+
+/// Changes the bit in which the two cases of a letter differ, mostly in the
+/// part of the log that has the keywords, and whether or not it is a letter.
+fn flip_a_case(random: &mut Random, log: &mut Vec<u8>) {
+    let end = if random.chance(70) { log.len().min(600) } else { log.len() };
+    log[random.below(end)] ^= 32;
 }
 
 fn replace_a_byte(random: &mut Random, log: &mut Vec<u8>) {

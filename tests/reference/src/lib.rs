@@ -15,7 +15,7 @@ pub mod values;
 pub mod writing;
 
 pub use judging::{judge, Totals};
-pub use reading::{read, view, Log, Refusal};
+pub use reading::{read, view, Log, Refusal, View};
 pub use writing::write;
 
 /// What the desk program writes for a log on its standard input.

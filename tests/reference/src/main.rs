@@ -11,15 +11,16 @@
 //! between the parts and nothing after the last trial:
 //!
 //! ```text
-//! stream   8 bytes "SQTRIAL1", u64 seed, u32 number of trials, the trials
+//! stream   8 bytes "SQTRIAL2", u64 seed, u32 number of trials, the trials
 //! trial    u32 index
 //!          bytes tag              (ASCII, for messages)
 //!          bytes log
 //!          u64 keyword            the number asked of the view
 //!          u32 verdict slice      its length in bytes
 //!          u32 output slice       its length in bytes
-//!          read:  answer, u32 records
-//!          view:  answer, u32 start, u32 length
+//!          read:  answer, u32 records, u32 respelt
+//!          view:  answer, u32 start, u32 length, u32 listed
+//!          u64 listed             of keyword k bit k - 1: whether it is listed
 //!          judge: answer, 12 x u64 totals, bytes verdicts
 //!          write: answer, bytes result
 //! bytes    u32 length, then that many bytes
@@ -28,11 +29,14 @@
 //!
 //! The totals come in the order credited, voids, duplicates, errors, points,
 //! squares, exchanges, countries, square bonus, exchange bonus, country bonus,
-//! total. After a refusal every number behind the answer is 0 and every
-//! `bytes` is empty; what was lent must then be unchanged.
+//! total. `respelt` is how many keywords stand in another spelling than the
+//! listed one, and `listed` is 1 where the one asked for stands in that. After
+//! a refusal every number behind the answer is 0 and every `bytes` is empty;
+//! what was lent must then be unchanged. The bits of all keywords are 0 for a
+//! log that is refused.
 
 use reference::generate::{Generator, Trial};
-use reference::reading::LONGEST_LOG;
+use reference::reading::{KEYWORDS, LONGEST_LOG};
 use reference::{desk, judge, read, view, write, Refusal, Totals};
 use std::io::{self, BufWriter, Read, Write};
 use std::process::ExitCode;
@@ -90,7 +94,7 @@ fn show_tags() -> io::Result<()> {
 
 fn write_trials(seed: u64, count: u32) -> io::Result<()> {
     let mut out = BufWriter::with_capacity(1 << 16, io::stdout().lock());
-    out.write_all(b"SQTRIAL1")?;
+    out.write_all(b"SQTRIAL2")?;
     put_u64(&mut out, seed)?;
     put_u32(&mut out, count)?;
     let generator = Generator::new(seed);
@@ -108,17 +112,21 @@ fn put_trial(out: &mut impl Write, index: u32, trial: &Trial) -> io::Result<()> 
     put_size(out, trial.verdicts_len)?;
     put_size(out, trial.output_len)?;
 
-    let answer = read(&trial.log).map(|log| log.records.len());
+    let answer = read(&trial.log).map(|log| (log.records.len(), log.respelt()));
     put_answer(out, &answer)?;
-    put_size(out, answer.unwrap_or(0))?;
+    let (records, respelt) = answer.unwrap_or((0, 0));
+    put_size(out, records)?;
+    put_size(out, respelt)?;
 
     // A number too large for this machine is as wrong as the largest one.
     let keyword = usize::try_from(trial.keyword).unwrap_or(usize::MAX);
     let answer = view(&trial.log, keyword);
     put_answer(out, &answer)?;
-    let (start, length) = answer.unwrap_or((0, 0));
-    put_size(out, start)?;
-    put_size(out, length)?;
+    let seen = answer.unwrap_or_default();
+    put_size(out, seen.start)?;
+    put_size(out, seen.length)?;
+    put_u32(out, u32::from(seen.listed))?;
+    put_u64(out, listed_bits(&trial.log))?;
 
     let answer = judge(&trial.log, trial.verdicts_len);
     put_answer(out, &answer)?;
@@ -131,6 +139,13 @@ fn put_trial(out: &mut impl Write, index: u32, trial: &Trial) -> io::Result<()> 
     let answer = write(&trial.log, trial.output_len);
     put_answer(out, &answer)?;
     put_bytes(out, &answer.unwrap_or_default())
+}
+
+/// Which keywords of a log stand in the listed spelling, the first as bit 0.
+fn listed_bits(log: &[u8]) -> u64 {
+    let Ok(log) = read(log) else { return 0 };
+    let listed = (0..KEYWORDS.len()).filter(|&place| log.is_listed(place));
+    listed.map(|place| 1 << place).sum()
 }
 
 fn put_u32(out: &mut impl Write, value: u32) -> io::Result<()> {

@@ -7,7 +7,8 @@ pub const LONGEST_LOG: usize = 65_535;
 /// The most characters a line holds before its CR LF.
 pub const LONGEST_LINE: usize = 75;
 
-/// The 36 keywords, in the order in which a log has them.
+/// The 36 keywords, in the order in which a log has them and in the spelling in
+/// which it is written back.
 pub const KEYWORDS: [&str; 36] = [
     "TName", "TDate", "PCall", "PWWLo", "PExch", "PAdr1", "PAdr2", "PSect", "PBand", "PClub",
     "RName", "RCall", "RAdr1", "RAdr2", "RPoCo", "RCity", "RCoun", "RPhon", "RHBBS", "MOpe1",
@@ -58,6 +59,8 @@ pub type Record = [Span; 15];
 #[derive(Clone, Debug)]
 pub struct Log<'a> {
     pub bytes: &'a [u8],
+    /// The keywords as this log spells them, without their `=`.
+    pub keywords: Vec<Span>,
     /// The arguments of the keywords, all that follows each `=`.
     pub arguments: Vec<Span>,
     pub records: Vec<Record>,
@@ -72,6 +75,16 @@ impl<'a> Log<'a> {
     pub fn argument(&self, keyword: &str) -> Span {
         let place = KEYWORDS.iter().position(|&name| name == keyword);
         self.arguments[place.expect("a listed keyword")]
+    }
+
+    /// Whether a keyword, counted from 0, stands in the listed spelling.
+    pub fn is_listed(&self, place: usize) -> bool {
+        self.text(self.keywords[place]) == KEYWORDS[place].as_bytes()
+    }
+
+    /// How many keywords stand in another spelling than the listed one.
+    pub fn respelt(&self) -> usize {
+        (0..KEYWORDS.len()).filter(|&place| !self.is_listed(place)).count()
     }
 }
 
@@ -119,11 +132,11 @@ pub fn read(bytes: &[u8]) -> Result<Log<'_>, Refusal> {
     }
     let mut lines = Lines { bytes, position: 0, due: 1 };
     take_fixed_line(&mut lines, IDENTIFIER)?;
-    let arguments = take_header(&mut lines)?;
+    let (keywords, arguments) = take_header(&mut lines)?;
     take_fixed_line(&mut lines, REMARKS_MARK)?;
     let count = take_remarks_and_count(&mut lines)?;
     let records = take_records(&mut lines, count)?;
-    Ok(Log { bytes, arguments, records })
+    Ok(Log { bytes, keywords, arguments, records })
 }
 
 fn take_fixed_line(lines: &mut Lines, wanted: &[u8]) -> Result<(), Refusal> {
@@ -135,21 +148,39 @@ fn take_fixed_line(lines: &mut Lines, wanted: &[u8]) -> Result<(), Refusal> {
     }
 }
 
-fn take_header(lines: &mut Lines) -> Result<Vec<Span>, Refusal> {
+/// The keywords and their arguments.
+fn take_header(lines: &mut Lines) -> Result<(Vec<Span>, Vec<Span>), Refusal> {
+    let mut keywords = Vec::new();
     let mut arguments = Vec::new();
     for keyword in KEYWORDS {
         let (span, line) = lines.take()?;
-        let start = format!("{keyword}=");
-        if !lines.text(span).starts_with(start.as_bytes()) {
+        if !begins_with_keyword(lines.text(span), keyword) {
             return Err(Refusal::at(3, line));
         }
-        let argument = Span { start: span.start + start.len(), end: span.end };
+        let equals = span.start + keyword.len();
+        let argument = Span { start: equals + 1, end: span.end };
         if !argument_holds(keyword, lines.text(argument)) {
             return Err(Refusal::at(4, line));
         }
+        keywords.push(Span { start: span.start, end: equals });
         arguments.push(argument);
     }
-    Ok(arguments)
+    Ok((keywords, arguments))
+}
+
+/// Whether a line begins with this keyword, each of its letters in either
+/// case, and with the `=` behind it.
+fn begins_with_keyword(line: &[u8], keyword: &str) -> bool {
+    let length = keyword.len();
+    line.len() > length
+        && line.iter().zip(keyword.bytes()).all(|(&byte, wanted)| is_same_letter(byte, wanted))
+        && line[length] == b'='
+}
+
+/// Whether two bytes are the same, or one letter in its two cases. A digit has
+/// no other case, and neither has anything else that is no letter.
+fn is_same_letter(one: u8, other: u8) -> bool {
+    one.to_ascii_lowercase() == other.to_ascii_lowercase()
 }
 
 /// Passes over the remarks; the first line that starts like a count line is
@@ -275,12 +306,23 @@ fn argument_holds(keyword: &str, text: &[u8]) -> bool {
     }
 }
 
-/// The start and length of one keyword's argument, keywords counted from 1.
-pub fn view(bytes: &[u8], keyword: usize) -> Result<(usize, usize), Refusal> {
+/// What is told of one keyword of an accepted log.
+#[derive(Clone, Copy, Debug, Default, PartialEq, Eq)]
+pub struct View {
+    /// Where its argument starts, and how long that is.
+    pub start: usize,
+    pub length: usize,
+    /// Whether the keyword stands in the listed spelling.
+    pub listed: bool,
+}
+
+/// The view of one keyword; they are counted from 1.
+pub fn view(bytes: &[u8], keyword: usize) -> Result<View, Refusal> {
     if !(1..=KEYWORDS.len()).contains(&keyword) {
         return Err(Refusal::whole(9));
     }
     let log = read(bytes)?;
     let span = log.arguments[keyword - 1];
-    Ok((span.start, span.end - span.start))
+    let listed = log.is_listed(keyword - 1);
+    Ok(View { start: span.start, length: span.end - span.start, listed })
 }

@@ -1,7 +1,7 @@
-//! Writing a log back with its claims put right.
+//! Writing a log back with its claims put right and its keywords as listed.
 
 use crate::judging::{self, judge_log, Totals};
-use crate::reading::{read, Log, Record, Refusal, Span, LONGEST_LOG};
+use crate::reading::{read, Log, Record, Refusal, Span, KEYWORDS, LONGEST_LOG};
 
 /// One stretch of the log and what stands there afterwards.
 struct Edit {
@@ -29,27 +29,33 @@ pub fn write_log(log: &Log) -> Vec<u8> {
     apply(log.bytes, &edits)
 }
 
+/// In the order of the keywords, since edits are applied from front to back.
 fn header_edits(log: &Log, totals: &Totals) -> Vec<Edit> {
-    let whole = |keyword, value: u64| Edit {
-        span: log.argument(keyword),
-        text: value.to_string().into_bytes(),
+    let mut edits = Vec::new();
+    for (&span, keyword) in log.keywords.iter().zip(KEYWORDS) {
+        edits.push(Edit { span, text: keyword.as_bytes().to_vec() });
+        edits.extend(claim_edit(log, totals, keyword));
+    }
+    edits
+}
+
+/// What becomes of a keyword's argument, if anything does.
+fn claim_edit(log: &Log, totals: &Totals, keyword: &str) -> Option<Edit> {
+    let argument = log.argument(keyword);
+    let count = before_semicolon(log, argument);
+    let (span, value) = match keyword {
+        "CQSOs" => (count, totals.credited),
+        "CQSOP" => (argument, totals.points),
+        "CWWLs" => (count, totals.squares),
+        "CWWLB" => (argument, totals.square_bonus),
+        "CExcs" => (count, totals.exchanges),
+        "CExcB" => (argument, totals.exchange_bonus),
+        "CDXCs" => (count, totals.countries),
+        "CDXCB" => (argument, totals.country_bonus),
+        "CToSc" => (argument, totals.total),
+        _ => return None,
     };
-    let count = |keyword, value: u64| Edit {
-        span: before_semicolon(log, log.argument(keyword)),
-        text: value.to_string().into_bytes(),
-    };
-    // In the order of the keywords, since edits are applied from front to back.
-    vec![
-        count("CQSOs", totals.credited),
-        whole("CQSOP", totals.points),
-        count("CWWLs", totals.squares),
-        whole("CWWLB", totals.square_bonus),
-        count("CExcs", totals.exchanges),
-        whole("CExcB", totals.exchange_bonus),
-        count("CDXCs", totals.countries),
-        whole("CDXCB", totals.country_bonus),
-        whole("CToSc", totals.total),
-    ]
+    Some(Edit { span, text: value.to_string().into_bytes() })
 }
 
 fn before_semicolon(log: &Log, span: Span) -> Span {

@@ -1,5 +1,7 @@
-//! The fourteen cases that stand on both sides of the line.
+//! The fourteen cases that stand on both sides of the line, and keywords in
+//! spellings of their own.
 
+use reference::reading::KEYWORDS;
 use reference::{desk, judge, read, view, write, Refusal, Totals};
 
 const SAMPLE: &[u8] = include_bytes!("../samples/region1-1995.edi");
@@ -188,8 +190,9 @@ fn case_14_sample() {
 fn sample_views() {
     let log = sample_without_remarks();
     let text = |keyword| {
-        let (start, length) = view(&log, keyword).unwrap();
-        std::str::from_utf8(&log[start..start + length]).unwrap()
+        let seen = view(&log, keyword).unwrap();
+        assert!(seen.listed);
+        std::str::from_utf8(&log[seen.start..seen.start + seen.length]).unwrap()
     };
     assert_eq!(text(1), "IARU Region 1, March contest VHF");
     assert_eq!(text(5), "");
@@ -199,6 +202,62 @@ fn sample_views() {
     assert_eq!(view(&log, 37).err(), refusal(9, 0, 0));
     assert_eq!(view(SAMPLE, 37).err(), refusal(9, 0, 0));
     assert_eq!(view(SAMPLE, 36).err(), refusal(2, 42, 0));
+}
+
+/// The sample without its remarks, with some keywords in other spellings.
+fn sample_spelt(spellings: &[(&str, &str)]) -> Vec<u8> {
+    let mut text = String::from_utf8(sample_without_remarks()).unwrap();
+    for (listed, spelt) in spellings {
+        let line = format!("\r\n{listed}=");
+        assert_eq!(text.matches(&line).count(), 1);
+        text = text.replace(&line, &format!("\r\n{spelt}="));
+    }
+    text.into_bytes()
+}
+
+#[test]
+fn old_spellings_are_read() {
+    let listed = sample_without_remarks();
+    let old = sample_spelt(&[
+        ("PExch", "PEXch"), ("SAntH", "SAnth"), ("CQSOs", "CQSOS"), ("CExcs", "CEXcs"), ("CExcB", "CEXcB"),
+    ]);
+    assert_eq!(read(&old).unwrap().respelt(), 5);
+    assert_eq!(judge(&old, 26), judge(&listed, 26));
+    assert_eq!(desk(&old), desk(&listed));
+    for (keyword, name) in KEYWORDS.iter().enumerate() {
+        let (one, other) = (view(&old, keyword + 1).unwrap(), view(&listed, keyword + 1).unwrap());
+        let kept = !["PExch", "SAntH", "CQSOs", "CExcs", "CExcB"].contains(name);
+        assert_eq!((one.start, one.length, one.listed), (other.start, other.length, kept), "{name}");
+    }
+}
+
+#[test]
+fn old_spellings_are_written_back_as_listed() {
+    let listed = sample_without_remarks();
+    let old = sample_spelt(&[("SAntH", "SAnth"), ("CQSOs", "CQSOS"), ("CExcs", "CEXcs"), ("TName", "tnAME")]);
+    assert_ne!(old, listed);
+    // The sample's claims are true, so nothing but the spelling changes.
+    assert_eq!(write(&old, old.len()).unwrap(), listed);
+    assert_eq!(write(&old, old.len() - 1).err(), refusal(8, 0, 0));
+    // Where a claim is false too, both are put right.
+    let text = String::from_utf8(old).unwrap().replace("CQSOS=24;1", "CQSOS=9999;1").replace("SAnth=14;41", "SAnth=");
+    let written = String::from_utf8(write(text.as_bytes(), 65_535).unwrap()).unwrap();
+    let text = String::from_utf8(listed).unwrap();
+    assert_eq!(written, text.replace("SAntH=14;41", "SAntH="));
+}
+
+#[test]
+fn misprints_are_not_read() {
+    for (listed, printed, line) in [("MOpe1", "MOpel", 21), ("CDXCs", "CDXCc", 34), ("CQSOs", "CQS0s", 28)] {
+        let log = sample_spelt(&[(listed, printed)]);
+        assert_eq!(read(&log).err(), refusal(3, line, 0), "{printed}");
+        assert_eq!(judge(&log, 26).err(), refusal(3, line, 0), "{printed}");
+        assert_eq!(view(&log, 1).err(), refusal(3, line, 0), "{printed}");
+        assert_eq!(write(&log, 65_535).err(), refusal(3, line, 0), "{printed}");
+    }
+    // An earlier keyword that is only respelt does not come into it.
+    let log = sample_spelt(&[("TName", "TNAME"), ("MOpe1", "mopel")]);
+    assert_eq!(read(&log).err(), refusal(3, 21, 0));
 }
 
 #[test]

@@ -3,7 +3,7 @@
 use reference::faults::Expectation;
 use reference::generate::{Generator, Trial};
 use reference::judging::{class, CREDITED, DUPLICATE};
-use reference::reading::LONGEST_LOG;
+use reference::reading::{KEYWORDS, LONGEST_LOG};
 use reference::writing::write_log;
 use reference::{judge, read, view, write, Refusal};
 use std::collections::BTreeSet;
@@ -135,6 +135,46 @@ fn writing_back_keeps_the_judgement_and_rests() {
         }
         assert_eq!(judge(&written, 999), judge(&trial.log, 999), "{}", trial.tag);
         assert_eq!(write(&written, written.len()).unwrap(), written, "{}", trial.tag);
+    }
+}
+
+#[test]
+fn every_keyword_comes_up_in_both_spellings() {
+    let mut listed = BTreeSet::new();
+    let mut respelt = BTreeSet::new();
+    let mut counts = BTreeSet::new();
+    for trial in accepted(TRIALS) {
+        let log = read(&trial.log).unwrap();
+        counts.insert(log.respelt());
+        for place in 0..KEYWORDS.len() {
+            let set = if log.is_listed(place) { &mut listed } else { &mut respelt };
+            set.insert(place);
+        }
+    }
+    assert_eq!((listed.len(), respelt.len()), (36, 36));
+    assert!([0, 1, 2, 5, 36].iter().all(|count| counts.contains(count)), "{counts:?}");
+}
+
+/// The log with each keyword in the listed spelling.
+fn in_listed_spelling(bytes: &[u8]) -> Vec<u8> {
+    let mut listed = bytes.to_vec();
+    for (keyword, name) in read(bytes).unwrap().keywords.iter().zip(KEYWORDS) {
+        listed[keyword.start..keyword.end].copy_from_slice(name.as_bytes());
+    }
+    listed
+}
+
+#[test]
+fn spelling_changes_no_answer_but_its_own() {
+    for trial in accepted(TRIALS).filter(|trial| read(&trial.log).unwrap().respelt() > 0) {
+        let listed = in_listed_spelling(&trial.log);
+        assert_eq!(read(&listed).unwrap().respelt(), 0, "{}", trial.tag);
+        assert_eq!(judge(&trial.log, trial.verdicts_len), judge(&listed, trial.verdicts_len), "{}", trial.tag);
+        assert_eq!(write(&trial.log, trial.output_len), write(&listed, trial.output_len), "{}", trial.tag);
+        let written = write_log(&read(&trial.log).unwrap());
+        if written.len() <= LONGEST_LOG {
+            assert_eq!(read(&written).unwrap().respelt(), 0, "{}", trial.tag);
+        }
     }
 }
 

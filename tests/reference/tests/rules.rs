@@ -274,7 +274,7 @@ fn keywords_misspelt() {
     for (at, keyword) in KEYWORDS.iter().enumerate() {
         let value = GOOD[at];
         let wrong = [
-            format!("{}={value}", keyword.to_lowercase()),
+            format!("{keyword}{value}"),
             format!("{keyword} ={value}"),
             format!(" {keyword}={value}"),
             format!("{keyword}:{value}"),
@@ -287,6 +287,115 @@ fn keywords_misspelt() {
             assert_eq!(read(&parts.bytes()).err(), refusal(3, at as u32 + 2, 0), "{line}");
         }
     }
+}
+
+/// A log with one line of its header, counted from 0, put as given.
+fn with_header_line(at: usize, line: &[u8]) -> Vec<u8> {
+    let before = Parts::new(&[]).bytes();
+    let text = format!("\r\n{}={}\r\n", KEYWORDS[at], GOOD[at]).into_bytes();
+    let start = before.windows(text.len()).position(|part| part == text).unwrap() + 2;
+    [&before[..start], line, &before[start + text.len() - 4..]].concat()
+}
+
+/// The answer to each byte in each place of each keyword and in that of its
+/// `=`: the listed byte and, of a letter, the other case are read.
+#[test]
+fn every_byte_of_every_keyword() {
+    for (at, keyword) in KEYWORDS.iter().enumerate() {
+        let line = format!("{keyword}={}", GOOD[at]).into_bytes();
+        for place in 0..=keyword.len() {
+            for byte in 0..=255u8 {
+                let listed = line[place];
+                let other = match listed {
+                    b'A'..=b'Z' => Some(listed + 32),
+                    b'a'..=b'z' => Some(listed - 32),
+                    _ => None,
+                };
+                let mut line = line.clone();
+                line[place] = byte;
+                let log = with_header_line(at, &line);
+                let answer = read(&log).map(|log| log.respelt());
+                let number = if (32..=127).contains(&byte) { 3 } else { 2 };
+                let wanted = if byte == listed {
+                    Ok(0)
+                } else if other == Some(byte) {
+                    Ok(1)
+                } else {
+                    Err(Refusal { number, line: at as u32 + 2, field: 0 })
+                };
+                assert_eq!(answer, wanted, "{keyword} place {place} byte {byte}");
+                assert_eq!(view(&log, at + 1).map(|seen| seen.listed), wanted.map(|respelt| respelt == 0));
+            }
+        }
+    }
+}
+
+/// Of two keywords none is the other in another case, so no line is ever read
+/// as another than the one due.
+#[test]
+fn keywords_differ_by_more_than_case() {
+    for (at, one) in KEYWORDS.iter().enumerate() {
+        for other in &KEYWORDS[at + 1..] {
+            assert_ne!(one.to_lowercase(), other.to_lowercase());
+        }
+    }
+}
+
+fn spelt(change: fn(&str) -> String) -> Parts {
+    let mut parts = Parts::new(&[&RECORD.join(";")]);
+    parts.header = KEYWORDS.iter().zip(GOOD).map(|(name, value)| format!("{}={value}", change(name))).collect();
+    parts
+}
+
+#[test]
+fn whole_logs_in_one_case() {
+    let listed = spelt(str::to_string).bytes();
+    assert_eq!(read(&listed).unwrap().respelt(), 0);
+    let small = spelt(str::to_lowercase).bytes();
+    assert_eq!(read(&small).unwrap().respelt(), 36);
+    // RHBBS, CQSOP, CWWLB, CDXCB and CODXC are listed in capitals.
+    let capital = spelt(str::to_uppercase).bytes();
+    assert_eq!(read(&capital).unwrap().respelt(), 31);
+    for log in [small, capital] {
+        assert_eq!(judge(&log, 1), judge(&listed, 1));
+        assert_eq!(write(&log, 65_535), write(&listed, 65_535));
+        assert_eq!(write(&log, 65_535).unwrap().len(), write(&listed, 65_535).unwrap().len());
+    }
+}
+
+/// The lines that are no keyword's, letter by letter in their other case.
+#[test]
+fn other_lines_are_read_as_they_are() {
+    let lines = [("[REG1TEST;1]", Some(refusal(3, 1, 0))), ("[Remarks]", Some(refusal(3, 38, 0))), ("[QSORecords;", None)];
+    for (line, wanted) in lines {
+        let text = String::from_utf8(Parts::new(&[]).bytes()).unwrap();
+        let start = text.find(line).unwrap();
+        for at in (start..start + line.len()).filter(|&at| text.as_bytes()[at] >= b'A') {
+            let mut log = text.clone().into_bytes();
+            log[at] ^= 32;
+            // Where the count line is not read as one it is a remark, and a
+            // line is due behind it.
+            assert_eq!(read(&log).err(), wanted.unwrap_or(refusal(2, 40, 0)), "{line} byte {at}");
+        }
+    }
+    // Such a remark takes no part in what follows.
+    let mut parts = Parts::new(&[]);
+    parts.remarks = ["[qSORecords;9]", "tnAME=", "[rEMARKS]"].map(String::from).to_vec();
+    assert_eq!(read(&parts.bytes()).unwrap().respelt(), 0);
+}
+
+/// A bad argument is told as before, and a bad line end before the keyword.
+#[test]
+fn refusals_behind_a_respelt_keyword() {
+    assert_eq!(read(&with_header_line(2, b"pcALL=oz1aa")).err(), refusal(4, 4, 0));
+    assert_eq!(read(&with_header_line(2, b"pcALL oz1aa")).err(), refusal(3, 4, 0));
+    assert_eq!(read(&with_header_line(2, b"pcALL\x1dOZ1AA")).err(), refusal(2, 4, 0));
+    assert_eq!(read(&with_header_line(19, b"MOpe\x11=")).err(), refusal(2, 21, 0));
+    assert_eq!(read(&with_header_line(19, b"MOpel=")).err(), refusal(3, 21, 0));
+    assert_eq!(read(&with_header_line(19, b"MOpeQ=")).err(), refusal(3, 21, 0));
+    assert_eq!(read(&with_header_line(0, b"TNam=")).err(), refusal(3, 2, 0));
+    assert_eq!(read(&with_header_line(0, b"TNames=")).err(), refusal(3, 2, 0));
+    assert_eq!(read(&with_header_line(0, b"tname")).err(), refusal(3, 2, 0));
 }
 
 #[test]

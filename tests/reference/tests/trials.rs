@@ -4,7 +4,7 @@
 //! what the proved library answers. What it has to print is kept in its file
 //! `stdout`, which is read here and held to the answers of the reference.
 
-use reference::{judge, read, view, write, Refusal, Totals};
+use reference::{judge, read, view, write, Refusal, Totals, View};
 use std::collections::BTreeSet;
 use std::fs;
 use std::path::PathBuf;
@@ -48,7 +48,7 @@ fn verdicts_told(verdicts: &[u8]) -> String {
 
 fn answers(log: &[u8]) -> String {
     let mut text = match read(log) {
-        Ok(log) => format!("  read: records {}\n", log.records.len()),
+        Ok(log) => format!("  read: records {} respelt {}\n", log.records.len(), log.respelt()),
         Err(refusal) => refused("read", refusal),
     };
     text += &match judge(log, 999) {
@@ -62,9 +62,10 @@ fn answers(log: &[u8]) -> String {
 
 fn argument(log: &[u8], keyword: usize) -> String {
     match view(log, keyword) {
-        Ok((start, length)) => {
+        Ok(View { start, length, listed }) => {
+            let spelling = if listed { "listed" } else { "respelt" };
             let argument = std::str::from_utf8(&log[start..start + length]).unwrap();
-            format!("  view {keyword}: start {start} length {length} {argument}\n")
+            format!("  view {keyword}: start {start} length {length} {spelling} {argument}\n")
         }
         Err(refusal) => refused(&format!("view {keyword}"), refusal),
     }
@@ -132,6 +133,7 @@ fn copies_are_the_same() {
     for (name, copy) in [
         ("12-spring.edi", "samples/spring.edi"),
         ("12-spring.edi", "crates/desk/stdin"),
+        ("000-list.edi", "samples/old-spelling.edi"),
         ("001.edi", "tests/reference/samples/region1-1995.edi"),
     ] {
         assert_eq!(log_named(name), fs::read(kept(copy)).unwrap(), "{copy}");
