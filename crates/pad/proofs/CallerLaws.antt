@@ -1,6 +1,8 @@
 -- What a caller in C may rely on: the refusal of each answer is the one of the definition, so what is proved of all calls holds of it.
 -- Assumes nothing.
-use Prim.Native.Nat.{ℕ}
+use Prim.Native.Nat.{ℕ, _≤_}
+use native.Mathlib.Omega.{arith}
+use mathlib.Core.Bool.{Bool, true, false}
 use mathlib.Core.Path.{_≡_, refl}
 use mathlib.Core.List.{List}
 use lib.ListN.{length}
@@ -8,22 +10,34 @@ use Rattle.rules.specs.Text.{Text}
 use Rattle.rules.specs.Rules.{base}
 use Rattle.rules.specs.Judging.{zeroTotals}
 use Rattle.rules.specs.Reading.{Reading, accepted, refused, read}
-use Rattle.rules.specs.Answers.{Viewing, seen, unseen, view, Judgement, judged, unjudged, judge, numbersOfJudgement, Writing, written, unwritten, write, bytesOfWriting, over}
+use Rattle.rules.specs.Answers.{respeltOfReading, Viewing, seen, unseen, view, listedOfView, Judgement, judged, unjudged, judge, numbersOfJudgement, Writing, written, unwritten, write, bytesOfWriting, over}
+use Rattle.rules.proofs.Format.{accepted-when-written}
+use Rattle.rules.proofs.Refusals.{refused-reading}
+use Rattle.rules.proofs.Respelt.{spellings-counted}
 use Rattle.rules.proofs.GivenCalls.{zero-when-accepted, line-and-field-told}
-use Rattle.pad.specs.Face.{readingFace, viewFace, totalsFace, judgementFace, writtenFace}
+use Rattle.pad.specs.Face.{oneIf, readingFace, viewFace, totalsFace, judgementFace, writtenFace}
 use Rattle.pad.specs.Caller.{Accepts, ToldByRead, ToldByView, ToldByJudge, ToldByWrite, ForTheCaller}
 
 -- # What a refused call leaves
 
-no-records : (r : Reading) → (Accepts ((readingFace r) .refusal) → ⊥) → (readingFace r) .records ≡ 0
+no-records : (r : Reading) → (Accepts ((readingFace r) .refusal) → ⊥) → ((readingFace r) .records ≡ 0) × ((readingFace r) .respelt ≡ 0)
 unfolding readingFace
 no-records (accepted log) h = absurd (h refl)
-no-records (refused r) h = refl
+no-records (refused r) h = (refl, refl)
 
-no-view : (v : Viewing) → (Accepts ((viewFace v) .refusal) → ⊥) → ((viewFace v) .start ≡ 0) × ((viewFace v) .length ≡ 0)
+-- How many keywords are respelt, of an accepted log and of a refused one.
+few-respelt : (s : Text) (r : Reading) → read base s ≡ r → respeltOfReading (read base s) ≤ 36
+few-respelt s (accepted log) e = (spellings-counted base s log e) .1
+few-respelt s (refused r) e = omega (arith, refused-reading base s r e .1)
+
+no-view : (v : Viewing) → (Accepts ((viewFace v) .refusal) → ⊥) → ((viewFace v) .start ≡ 0) × ((viewFace v) .length ≡ 0) × ((viewFace v) .listed ≡ 0)
 unfolding viewFace
-no-view (seen start t) h = absurd (h refl)
-no-view (unseen r) h = (refl, refl)
+no-view (seen start t listed) h = absurd (h refl)
+no-view (unseen r) h = (refl, refl, refl)
+
+one-at-most : (b : Bool) → oneIf b ≤ 1
+one-at-most true = omega arith
+one-at-most false = omega arith
 
 no-judgement : (j : Judgement) (slice : List ℕ) → (Accepts ((judgementFace j) .refusal) → ⊥) → (judgementFace j ≡ totalsFace ((judgementFace j) .refusal) zeroTotals) × (over (numbersOfJudgement j) slice ≡ slice)
 unfolding judgementFace numbersOfJudgement over
@@ -44,6 +58,8 @@ told-by-read s =
       accepted = (zero-when-accepted base) .reading s;
       place = (line-and-field-told base) .reading s;
       refused = no-records (read base s);
+      respelt = few-respelt s (read base s) refl;
+      listed = λ log w. (spellings-counted base s log (accepted-when-written base s log .1 w)) .0;
     }
 
 told-by-view : (s : Text) (k : ℕ) → ToldByView s k (viewFace (view base k s))
@@ -53,6 +69,7 @@ told-by-view s k =
       accepted = (zero-when-accepted base) .viewing s k;
       place = (line-and-field-told base) .viewing s k;
       refused = no-view (view base k s);
+      listed = one-at-most (listedOfView (view base k s));
     }
 
 told-by-judge : (s : Text) (slice : List ℕ) → ToldByJudge s slice (judgementFace (judge base (length slice) s)) (over (numbersOfJudgement (judge base (length slice) s)) slice)

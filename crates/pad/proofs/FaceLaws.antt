@@ -1,6 +1,7 @@
 -- From the answers of the crates below to those of the C face: each kind of answer has its face, and it is that of the definition.
 -- Assumes nothing.
 use Prim.Native.Nat.{ℕ}
+use mathlib.Core.Bool.{Bool}
 use mathlib.Core.Path.{_≡_, refl, ap, ap₂, _∙_}
 use lib.ListN.{length}
 use Rattle.rules.specs.declared.Refusal.{Refusal}
@@ -10,6 +11,7 @@ use Rattle.rules.specs.Rules.{base}
 use Rattle.rules.specs.Judging.{zeroTotals}
 use Rattle.rules.specs.Reading.{Reading, accepted, refused, read}
 use Rattle.rules.specs.Answers.{Viewing, seen, unseen, view, Judgement, judged, unjudged, judge, Writing, written, unwritten, write, noRefusal}
+use Rattle.reader.specs.declared.Heading.{Heading}
 use Rattle.reader.specs.declared.ReadAnswer.{ReadAnswer}
 use Rattle.reader.specs.declared.ReadAnswer.the-variants as ReadAnswer
 use Rattle.reader.specs.Read.{readTold, readOf}
@@ -27,16 +29,16 @@ use Rattle.pad.specs.declared.SumpquinceReading.{SumpquinceReading}
 use Rattle.pad.specs.declared.SumpquinceView.{SumpquinceView}
 use Rattle.pad.specs.declared.SumpquinceJudgement.{SumpquinceJudgement}
 use Rattle.pad.specs.declared.SumpquinceWritten.{SumpquinceWritten}
-use Rattle.pad.specs.Face.{refusalFace, readingFace, viewFace, totalsFace, judgementFace, writtenFace}
+use Rattle.pad.specs.Face.{refusalFace, oneIf, readingFace, viewFace, totalsFace, judgementFace, writtenFace}
 
 -- # Reading
 
-abbrev aReading : ℕ → SumpquinceRefusal → SumpquinceReading
-aReading n f = record { refusal = f; records = n }
+abbrev aReading : ℕ → ℕ → SumpquinceRefusal → SumpquinceReading
+aReading n respelt f = record { refusal = f; records = n; respelt = respelt }
 
 abbrev readingShown : ReadAnswer → SumpquinceReading
-readingShown (ReadAnswer.Accepted n first claims) = aReading n (refusalFace noRefusal)
-readingShown (ReadAnswer.Refused r) = aReading 0 (refusalFace r)
+readingShown (ReadAnswer.Accepted n first heading) = aReading n (heading .respelt) (refusalFace noRefusal)
+readingShown (ReadAnswer.Refused r) = aReading 0 0 (refusalFace r)
 
 module _ (s : Text) where
   reading-shown : readingShown (readOf base s) ≡ readingFace (read base s)
@@ -47,20 +49,20 @@ module _ (s : Text) where
       by (accepted log) = refl
       by (refused r) = refl
 
-  pub records-shown : {f : SumpquinceRefusal} {n first claims : ℕ} → f ≡ refusalFace noRefusal → ReadAnswer.Accepted n first claims ≡ readOf base s → aReading n f ≡ readingFace (read base s)
-  records-shown {n = n} e a = ap (aReading n) e ∙ ap readingShown a ∙ reading-shown
+  pub records-shown : {f : SumpquinceRefusal} {n first : ℕ} {heading : Heading} → f ≡ refusalFace noRefusal → ReadAnswer.Accepted n first heading ≡ readOf base s → aReading n (heading .respelt) f ≡ readingFace (read base s)
+  records-shown {n = n} {heading = heading} e a = ap (aReading n (heading .respelt)) e ∙ ap readingShown a ∙ reading-shown
 
-  pub unread-shown : {f : SumpquinceRefusal} {r : Refusal} → f ≡ refusalFace r → ReadAnswer.Refused r ≡ readOf base s → aReading 0 f ≡ readingFace (read base s)
-  unread-shown e a = ap (aReading 0) e ∙ ap readingShown a ∙ reading-shown
+  pub unread-shown : {f : SumpquinceRefusal} {r : Refusal} → f ≡ refusalFace r → ReadAnswer.Refused r ≡ readOf base s → aReading 0 0 f ≡ readingFace (read base s)
+  unread-shown e a = ap (aReading 0 0) e ∙ ap readingShown a ∙ reading-shown
 
 -- # Views
 
-abbrev aView : ℕ → ℕ → SumpquinceRefusal → SumpquinceView
-aView start n f = record { refusal = f; start = start; length = n }
+abbrev aView : ℕ → ℕ → ℕ → SumpquinceRefusal → SumpquinceView
+aView start n listed f = record { refusal = f; start = start; length = n; listed = listed }
 
 abbrev viewShown : ViewRead → SumpquinceView
-viewShown (ViewRead.Seen start n) = aView start n (refusalFace noRefusal)
-viewShown (ViewRead.Refused r) = aView 0 0 (refusalFace r)
+viewShown (ViewRead.Seen start n listed) = aView start n (oneIf listed) (refusalFace noRefusal)
+viewShown (ViewRead.Refused r) = aView 0 0 0 (refusalFace r)
 
 module _ (k : ℕ) (s : Text) where
   view-shown : viewShown (viewOf base k s) ≡ viewFace (view base k s)
@@ -68,14 +70,14 @@ module _ (k : ℕ) (s : Text) where
   view-shown = by (view base k s)
     where
       by : (v : Viewing) → viewShown (viewTold v) ≡ viewFace v
-      by (seen start t) = refl
+      by (seen start t listed) = refl
       by (unseen r) = refl
 
-  pub seen-shown : {f : SumpquinceRefusal} {start n : ℕ} → f ≡ refusalFace noRefusal → ViewRead.Seen start n ≡ viewOf base k s → aView start n f ≡ viewFace (view base k s)
-  seen-shown {start = start} {n = n} e a = ap (aView start n) e ∙ ap viewShown a ∙ view-shown
+  pub seen-shown : {f : SumpquinceRefusal} {start n one : ℕ} {listed : Bool} → f ≡ refusalFace noRefusal → one ≡ oneIf listed → ViewRead.Seen start n listed ≡ viewOf base k s → aView start n one f ≡ viewFace (view base k s)
+  seen-shown {start = start} {n = n} e o a = ap₂ (aView start n) o e ∙ ap viewShown a ∙ view-shown
 
-  pub unseen-shown : {f : SumpquinceRefusal} {r : Refusal} → f ≡ refusalFace r → ViewRead.Refused r ≡ viewOf base k s → aView 0 0 f ≡ viewFace (view base k s)
-  unseen-shown e a = ap (aView 0 0) e ∙ ap viewShown a ∙ view-shown
+  pub unseen-shown : {f : SumpquinceRefusal} {r : Refusal} → f ≡ refusalFace r → ViewRead.Refused r ≡ viewOf base k s → aView 0 0 0 f ≡ viewFace (view base k s)
+  unseen-shown e a = ap (aView 0 0 0) e ∙ ap viewShown a ∙ view-shown
 
 -- # Judging
 

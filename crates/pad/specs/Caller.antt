@@ -8,7 +8,8 @@ use lib.ListN.{length}
 use Rattle.rules.specs.declared.Refusal.{Refusal}
 use Rattle.rules.specs.Text.{Text}
 use Rattle.rules.specs.Rules.{base}
-use Rattle.rules.specs.Log.{Log, render, IsWrittenAs, FollowsTheFormat}
+use Rattle.rules.specs.Arguments.{entries}
+use Rattle.rules.specs.Log.{Log, keywordsOf, render, IsWrittenAs, FollowsTheFormat}
 use Rattle.rules.specs.Judging.{zeroTotals}
 use Rattle.rules.specs.Writing.{writtenBack}
 use Rattle.rules.specs.Reading.{refusal, read}
@@ -29,17 +30,22 @@ refusalIn f = refusal (f .number) (f .line) (f .field)
 abbrev pub Accepts : SumpquinceRefusal → Type 0
 Accepts f = f .number ≡ 0
 
--- sumpquince_read: "A file is accepted exactly when it follows the format"; a refused log has no records.
+-- sumpquince_read: "A file is accepted exactly when it follows the format"; a refused log has no records, and none of its keywords is counted; of
+-- an accepted one at most 36 are, and none exactly where all are spelt as they are listed.
 pub record ToldByRead (s : Text) (r : SumpquinceReading) : Type 0 where
   pub accepted : Accepts (r .refusal) ↔ FollowsTheFormat base s
   pub place : LineAndField (refusalIn (r .refusal))
-  pub refused : (Accepts (r .refusal) → ⊥) → r .records ≡ 0
+  pub refused : (Accepts (r .refusal) → ⊥) → (r .records ≡ 0) × (r .respelt ≡ 0)
+  pub respelt : r .respelt ≤ 36
+  pub listed : (log : Log) → IsWrittenAs base s log → (r .respelt ≡ 0) ↔ (log .keywords ≡ keywordsOf entries)
 
--- sumpquince_view: "A view .. is given only of an accepted log", for a keyword number from 1 to 36; a refused one is empty.
+-- sumpquince_view: "A view .. is given only of an accepted log", for a keyword number from 1 to 36; a refused one is empty. The
+-- keyword is spelt as it is listed, 1, or it is not, 0.
 pub record ToldByView (s : Text) (k : ℕ) (v : SumpquinceView) : Type 0 where
   pub accepted : Accepts (v .refusal) ↔ ((1 ≤ k) × (k ≤ 36) × FollowsTheFormat base s)
   pub place : LineAndField (refusalIn (v .refusal))
-  pub refused : (Accepts (v .refusal) → ⊥) → (v .start ≡ 0) × (v .length ≡ 0)
+  pub refused : (Accepts (v .refusal) → ⊥) → (v .start ≡ 0) × (v .length ≡ 0) × (v .listed ≡ 0)
+  pub listed : v .listed ≤ 1
 
 -- sumpquince_judge, with the slice as it is handed over and as it is afterwards: an accepted log of no more records than the slice has bytes;
 -- "the totals are then zero and lent memory is as it was handed over".

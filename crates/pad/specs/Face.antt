@@ -1,11 +1,13 @@
 -- The answers of include/sumpquince.h, by the definitions of document 01: the refusal, number 0 where nothing is refused, and behind it the
 -- numbers of the answer, each 0 on a refusal.
 -- Assumes nothing.
+use Prim.Native.Nat.{ℕ}
+use mathlib.Core.Bool.{Bool, cond}
 use lib.ListN.{length}
 use Rattle.rules.specs.declared.Refusal.{Refusal}
 use Rattle.rules.specs.declared.Totals.{Totals}
 use Rattle.rules.specs.Reading.{Reading}
-use Rattle.rules.specs.Answers.{Viewing, Judgement, refusalOfReading, recordsOfReading, refusalOfView, startOfView, viewed, refusalOfJudgement, totalsOfJudgement, Writing, refusalOfWriting, bytesOfWriting}
+use Rattle.rules.specs.Answers.{Viewing, Judgement, refusalOfReading, recordsOfReading, respeltOfReading, refusalOfView, startOfView, viewed, listedOfView, refusalOfJudgement, totalsOfJudgement, Writing, refusalOfWriting, bytesOfWriting}
 use Rattle.pad.specs.declared.SumpquinceRefusal.{SumpquinceRefusal}
 use Rattle.pad.specs.declared.SumpquinceReading.{SumpquinceReading}
 use Rattle.pad.specs.declared.SumpquinceView.{SumpquinceView}
@@ -16,12 +18,23 @@ unfoldable pub refusalFace : Refusal → SumpquinceRefusal
 refusalFace r = record { number = r .number; line = r .line; field = r .field }
 
 unfoldable pub readingFace : Reading → SumpquinceReading
-unfolding refusalFace refusalOfReading recordsOfReading
-readingFace r = record { refusal = refusalFace (refusalOfReading r); records = recordsOfReading r }
+unfolding refusalFace refusalOfReading recordsOfReading respeltOfReading
+readingFace r =
+    record { refusal = refusalFace (refusalOfReading r); records = recordsOfReading r; respelt = respeltOfReading r }
+
+-- C's word for yes and no.
+abbrev pub oneIf : Bool → ℕ
+oneIf said = cond said 1 0
 
 unfoldable pub viewFace : Viewing → SumpquinceView
-unfolding refusalFace refusalOfView startOfView viewed
-viewFace v = record { refusal = refusalFace (refusalOfView v); start = startOfView v; length = length (viewed v) }
+unfolding refusalFace refusalOfView startOfView viewed listedOfView
+viewFace v =
+    record {
+      refusal = refusalFace (refusalOfView v);
+      start = startOfView v;
+      length = length (viewed v);
+      listed = oneIf (listedOfView v);
+    }
 
 -- The twelve totals, behind a refusal.
 unfoldable pub totalsFace : SumpquinceRefusal → Totals → SumpquinceJudgement

@@ -6,7 +6,7 @@ ghost use lib.ListN.{length};
 ghost use Rattle.rules.specs.Rules.{base};
 ghost use Rattle.rules.specs.Reading.{read};
 ghost use Rattle.rules.specs.Answers.{noRefusal, view, judge, numbersOfJudgement, write, bytesOfWriting, over};
-ghost use Rattle.pad.specs.Face.{refusalFace, readingFace, viewFace, totalsFace, judgementFace, writtenFace};
+ghost use Rattle.pad.specs.Face.{refusalFace, oneIf, readingFace, viewFace, totalsFace, judgementFace, writtenFace};
 use judge::Judged;
 use places::ViewRead;
 use reader::ReadAnswer;
@@ -25,6 +25,7 @@ pub struct SumpquinceRefusal {
 pub struct SumpquinceReading {
     pub refusal: SumpquinceRefusal,
     pub records: u64,
+    pub respelt: u64,
 }
 
 #[repr(C)]
@@ -32,6 +33,7 @@ pub struct SumpquinceView {
     pub refusal: SumpquinceRefusal,
     pub start: u64,
     pub length: u64,
+    pub listed: u64,
 }
 
 #[repr(C)]
@@ -78,6 +80,16 @@ fn refusal_face(r: Refusal) -> SumpquinceRefusal
     }
 }
 
+// C's word for yes and no.
+fn one_if(said: bool) -> u64
+    ensures { λ n. ⌜ n ≡ oneIf said ⌝ }
+{
+    if said {
+        return 1;
+    }
+    0
+}
+
 fn totals_face(refusal: SumpquinceRefusal, t: Totals) -> SumpquinceJudgement
     ensures { λ f. ⌜ f ≡ totalsFace refusal t ⌝ }
 {
@@ -106,14 +118,16 @@ pub extern "C" fn sumpquince_read(log: &[u8]) -> SumpquinceReading
         ReadAnswer::Accepted {
             records,
             first: _,
-            claims: _,
+            heading,
         } => SumpquinceReading {
             refusal: no_refusal(),
             records: records as u64,
+            respelt: heading.respelt as u64,
         },
         ReadAnswer::Refused(r) => SumpquinceReading {
             refusal: refusal_face(r),
             records: 0,
+            respelt: 0,
         },
     }
 }
@@ -123,15 +137,21 @@ pub extern "C" fn sumpquince_view(log: &[u8], keyword: usize) -> SumpquinceView
     ensures { λ r. ⌜ r ≡ viewFace (view base keyword (now (log .entry))) ⌝ }
 {
     match places::view(log, keyword) {
-        ViewRead::Seen { start, length } => SumpquinceView {
+        ViewRead::Seen {
+            start,
+            length,
+            listed,
+        } => SumpquinceView {
             refusal: no_refusal(),
             start: start as u64,
             length: length as u64,
+            listed: one_if(listed),
         },
         ViewRead::Refused(r) => SumpquinceView {
             refusal: refusal_face(r),
             start: 0,
             length: 0,
+            listed: 0,
         },
     }
 }

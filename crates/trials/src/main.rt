@@ -139,7 +139,11 @@ fn argument(name: &[u8], keyword: usize) {
     show(b"  view ", keyword as u64);
     say(b":");
     match places::view(&log[..n], keyword) {
-        ViewRead::Seen { start, length, listed } => {
+        ViewRead::Seen {
+            start,
+            length,
+            listed,
+        } => {
             show(b" start ", start as u64);
             show(b" length ", length as u64);
             if listed {

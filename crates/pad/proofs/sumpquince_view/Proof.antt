@@ -17,11 +17,14 @@ no-refusal-requires c κs = search needs
 enum-known-r : tie.Need-enum-known-r
 enum-known-r c = search needs
 
+one-if-requires : tie.Need-one-if-requires
+one-if-requires c κs = search needs
+
 refusal-face-requires : tie.Need-refusal-face-requires
 refusal-face-requires c κs = search needs
 
 returns : tie.Need-returns
-returns c = seen-shown _ _ (c .no-refusal .ensures) (sym (c .before .before .start .given .1) ∙ c .before .before .before .before .view .ensures)
+returns c = seen-shown _ _ (c .before .no-refusal .ensures) (c .one-if .ensures) (sym (c .before .before .before .start .given .1) ∙ c .before .before .before .before .before .view .ensures)
 
 returns-2 : tie.Need-returns-2
 returns-2 c = unseen-shown _ _ (c .refusal-face .ensures) (sym (c .before .before .r .given .1) ∙ c .before .before .before .before .view .ensures)
@@ -33,6 +36,7 @@ sumpquince-view-spec =
     view-requires
     enum-known-start
     no-refusal-requires
+    one-if-requires
     enum-known-r
     refusal-face-requires
     returns
