@@ -35,11 +35,10 @@ fn show_read(log: &[u8]) -> usize {
         ReadAnswer::Accepted {
             records,
             first: _,
-            claims: _,
-            respelt,
+            heading,
         } => {
             show(b" records ", records as u64);
-            show(b" respelt ", respelt as u64);
+            show(b" respelt ", heading.respelt as u64);
             say(b"\n");
             records
         }
