@@ -12,7 +12,7 @@ use Rattle.rules.specs.Log.{keywordStart, keywordsOf}
 use Rattle.rules.specs.Text.{Text, begins, lower}
 use Rattle.header.specs.declared.KeywordRead.{KeywordRead}
 use Rattle.header.specs.declared.KeywordRead.the-variants as KeywordRead
-use Rattle.header.specs.Header.{firstKeyword, keywordAt, listedAt}
+use Rattle.header.specs.Header.{spellingOf, firstKeyword, keywordAt, listedAt}
 use Rattle.header.proofs.WordLaws.{has-keyword-by}
 
 -- The words, by the paper.
@@ -42,34 +42,34 @@ pub word-length : (k : ℕ) (d : Text) → k < 36 → 6 ≡ length (getD words k
 unfolding entries keywordsOf keywordStart
 word-length k d h = six words k d tt h
 
--- The word at a place decides how the line begins where that keyword is due: by a test of its bytes, and one of its letters.
-abbrev told : Bool → Bool → KeywordRead
-told listed has =
-    let otherwise = cond has KeywordRead.Respelt KeywordRead.Differs in
-    cond listed KeywordRead.Listed otherwise
-
+-- The word at a place decides how the line begins where that keyword is due.
 picked : (es : List Entry) (k : ℕ) (d line : Text) →
     k < length es →
-    let word = getD (map keywordStart (keywordsOf es)) k d in
-    told (begins word line) (begins (map lower word) (map lower line)) ≡ firstKeyword (drop k es) line
-unfolding firstKeyword keywordsOf
+    spellingOf (getD (map keywordStart (keywordsOf es)) k d) line ≡ firstKeyword (drop k es) line
+unfolding spellingOf firstKeyword keywordsOf
 picked [] k d line h = absurd (not-suc-le-zero h)
-picked (e ∷ es) zero d line h = ap (told (begins (keywordStart (e .keyword)) line)) (has-keyword-by e line)
+picked (e ∷ es) zero d line h =
+    ap (λ (b : Bool). cond (begins (keywordStart (e .keyword)) line) KeywordRead.Listed (cond b KeywordRead.Respelt KeywordRead.Differs)) (has-keyword-by e line)
 picked (e ∷ es) (suc k) d line h = picked es k d line (le-of-suc-le-suc h)
 
-module _ (k : ℕ) (d line : Text) (h : k < 36) where
-  known : (a b : Bool) → begins (getD words k d) line ≡ a → begins (map lower (getD words k d)) (map lower line) ≡ b → told a b ≡ keywordAt k line
-  unfolding keywordAt entries words
-  known a b e f = sym (ap₂ told e f) ∙ picked entries k d line h
+pub keyword-known : (k : ℕ) (d line : Text) → k < 36 → spellingOf (getD words k d) line ≡ keywordAt k line
+unfolding keywordAt entries words
+keyword-known k d line h = picked entries k d line h
 
-  pub keyword-listed : begins (getD words k d) line ≡ true → KeywordRead.Listed ≡ keywordAt k line
-  keyword-listed e = known true (begins (map lower (getD words k d)) (map lower line)) e refl
+-- Its three cases.
+module _ (word line : Text) where
+  spelling-by : (a b : Bool) → begins word line ≡ a → begins (map lower word) (map lower line) ≡ b → cond a KeywordRead.Listed (cond b KeywordRead.Respelt KeywordRead.Differs) ≡ spellingOf word line
+  unfolding spellingOf
+  spelling-by a b e f = sym (ap₂ (λ (x y : Bool). cond x KeywordRead.Listed (cond y KeywordRead.Respelt KeywordRead.Differs)) e f)
 
-  pub keyword-respelt : begins (getD words k d) line ≡ false → begins (map lower (getD words k d)) (map lower line) ≡ true → KeywordRead.Respelt ≡ keywordAt k line
-  keyword-respelt e f = known false true e f
+  pub spelling-listed : begins word line ≡ true → KeywordRead.Listed ≡ spellingOf word line
+  spelling-listed e = spelling-by true (begins (map lower word) (map lower line)) e refl
 
-  pub keyword-differs : begins (getD words k d) line ≡ false → begins (map lower (getD words k d)) (map lower line) ≡ false → KeywordRead.Differs ≡ keywordAt k line
-  keyword-differs e f = known false false e f
+  pub spelling-respelt : begins word line ≡ false → begins (map lower word) (map lower line) ≡ true → KeywordRead.Respelt ≡ spellingOf word line
+  spelling-respelt e f = spelling-by false true e f
+
+  pub spelling-differs : begins word line ≡ false → begins (map lower word) (map lower line) ≡ false → KeywordRead.Differs ≡ spellingOf word line
+  spelling-differs e f = spelling-by false false e f
 
 pub keyword-beyond : (k : ℕ) (line : Text) → 36 ≤ k → KeywordRead.Differs ≡ keywordAt k line
 unfolding keywordAt entries firstKeyword

@@ -8,13 +8,20 @@ use Rattle.rules.specs.Arguments.{Entry, entries, aBand, meets}
 use Rattle.rules.specs.Log.{keywordStart, keywordsOf}
 use Rattle.rules.specs.Reading.{hasKeyword}
 use Rattle.rules.specs.Rules.{Rules}
-use Rattle.rules.specs.Text.{Text, begins}
+use Rattle.rules.specs.Text.{Text, begins, lower}
 use Rattle.header.specs.declared.ArgumentRead.{ArgumentRead}
 use Rattle.header.specs.declared.ArgumentRead.the-variants as ArgumentRead
 use Rattle.header.specs.declared.BandRead.{BandRead}
 use Rattle.header.specs.declared.BandRead.the-variants as BandRead
 use Rattle.header.specs.declared.KeywordRead.{KeywordRead}
 use Rattle.header.specs.declared.KeywordRead.the-variants as KeywordRead
+
+-- Whether a line begins with a word: as it is, with letters in their other case, or not at all.
+unfoldable pub spellingOf : Text → Text → KeywordRead
+unfolding begins
+spellingOf word line =
+    let otherwise = cond (begins (map lower word) (map lower line)) KeywordRead.Respelt KeywordRead.Differs in
+    cond (begins word line) KeywordRead.Listed otherwise
 
 -- Whether a line begins with the first of the keywords that are left, and its `=`: as it is listed, in another spelling, or not at all.
 unfoldable pub firstKeyword : List Entry → Text → KeywordRead

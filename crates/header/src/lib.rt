@@ -8,7 +8,7 @@ ghost use lib.ListN.{getD};
 ghost use Rattle.rules.specs.Arguments.{meets, twoDates, aCall, emptyOrCall, emptyOrCalls, aLocator, anExchange, aBand, countAndMultiplier, countBonusMultiplier, claimedPoints, claimedBonus, claimedTotal, bestContact};
 ghost use Rattle.rules.specs.Rules.{base, bandNames};
 ghost use Rattle.rules.specs.Text.{same, begins, lower};
-ghost use Rattle.header.specs.Header.{keywordAt, listedAt, bandOf, argumentOf};
+ghost use Rattle.header.specs.Header.{spellingOf, keywordAt, listedAt, bandOf, argumentOf};
 use fields::CallRead;
 use fields::ExchangeRead;
 use fields::LocatorRead;
@@ -136,20 +136,26 @@ pub enum KeywordRead {
     Differs,
 }
 
+fn spelling(word: &[u8], line: &[u8]) -> KeywordRead
+    ensures { λ r. ⌜ r ≡ spellingOf (now (word .entry)) (now (line .entry)) ⌝ }
+{
+    if begins_with(word, line) {
+        return KeywordRead::Listed;
+    }
+    // asked only where bytes differ, which is rare
+    if begins_in_any_case(word, line) {
+        return KeywordRead::Respelt;
+    }
+    KeywordRead::Differs
+}
+
 pub fn keyword(k: usize, line: &[u8]) -> KeywordRead
     ensures { λ r. ⌜ r ≡ keywordAt k (now (line .entry)) ⌝ }
 {
     if 36 <= k {
         return KeywordRead::Differs;
     }
-    if begins_with(&KEYWORDS[k], line) {
-        return KeywordRead::Listed;
-    }
-    // asked only where bytes differ, which is rare
-    if begins_in_any_case(&KEYWORDS[k], line) {
-        return KeywordRead::Respelt;
-    }
-    KeywordRead::Differs
+    spelling(&KEYWORDS[k], line)
 }
 
 // The keyword that comes after k others, as it is listed, with its `=`; noughts where there is none.

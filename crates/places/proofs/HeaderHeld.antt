@@ -2,17 +2,17 @@
 -- Assumes nothing.
 use Prim.Native.Nat.{ℕ, zero, suc, _+_, _-_, _≤_, _<_, min}
 use native.Mathlib.Omega.{arith}
-use mathlib.Core.Path.{_≡_, refl, sym, ap, _∙_}
-use mathlib.Core.Bool.{Bool, true, false, cond, not, _&&_}
+use mathlib.Core.Path.{_≡_, refl, sym, ap, ap₂, _∙_}
+use mathlib.Core.Bool.{Bool, true, false, not, _&&_}
 use mathlib.Core.List.{List, [], _∷_, _++_, map, append-assoc}
 use lib.Dec.{T, eqb}
-use lib.ListN.{length, drop, getD, length-append, length-drop, length-take}
+use lib.ListN.{length, drop, getD, replicate, length-append, length-drop, length-take}
 use lib.Seq.{drop-at}
 use Rattle.rules.specs.Text.{Text, same, sameButCase, begins, value, parts, allowed, span}
 use Rattle.rules.specs.Rules.{Rules}
 use Rattle.rules.specs.Arguments.{Entry, entries, meets, countBonusMultiplier, count, bonus, multiplier, part}
-use Rattle.rules.specs.Log.{Log, identifier, argumentIn, argument, remarksLine, countLine, recordLine, keywordStart, keywordLines, linesOf, render, keywordRules, argumentRules, valid}
-use Rattle.rules.specs.Reading.{hasKeyword, read, accepted}
+use Rattle.rules.specs.Log.{Log, identifier, argumentIn, argument, remarksLine, countLine, recordLine, keywordStart, keywordLines, keywordsOf, linesOf, render, keywordRules, argumentRules, valid}
+use Rattle.rules.specs.Reading.{read, accepted}
 use Rattle.rules.specs.Judging.{declared, Declared as Judged}
 use Rattle.rules.specs.Answers.{argumentStart, isListed}
 use Rattle.rules.proofs.Tests.{so, holds, never, and-l, and-r, not-true, eq-of-test}
@@ -21,12 +21,11 @@ use Rattle.rules.proofs.SpellingLaws.{case-length, length-start, spelling-on, k
 use Rattle.rules.proofs.LogLaws.{argument-count}
 use Rattle.rules.proofs.Bounds.{each-at}
 use Rattle.rules.proofs.Format.{accepted-when-written, of-valid}
-use Rattle.header.specs.Header.{firstKeyword, keywordAt}
-use Rattle.header.specs.declared.KeywordRead.the-variants as KeywordRead
+use Rattle.header.specs.Header.{listedAt}
 use Rattle.reader.specs.Contact.{valueBy}
 use Rattle.reader.specs.Read.{claimsStart}
 use Rattle.places.specs.declared.Declared.{Declared}
-use Rattle.places.specs.Places.{saysListed, lineTextAt, lineOn, lineStart, argumentOn, argumentAt, declaredAt}
+use Rattle.places.specs.Places.{lineTextAt, lineOn, lineStart, argumentOn, argumentAt, declaredAt}
 use Rattle.places.proofs.LineStarts.{line-more}
 use Rattle.places.proofs.LinesHeld.{start-of-line, text-of-line, line-inside}
 
@@ -60,11 +59,15 @@ all-apart : apart entries ≡ true
 unfolding apart everyEntry entries same
 all-apart = refl
 
--- What the matcher tells is that the spelling is the listed one by its first test.
-listed-by : (a b : Bool) → saysListed (cond a KeywordRead.Listed (cond b KeywordRead.Respelt KeywordRead.Differs)) ≡ a
-listed-by true b = refl
-listed-by false true = refl
-listed-by false false = refl
+-- The keyword as it is listed at a place of the table.
+listed-there : (j : ℕ) (e : Entry) (rest : List Entry) → drop j entries ≡ e ∷ rest → listedAt j ≡ keywordStart (e .keyword)
+unfolding listedAt keywordsOf
+listed-there j e rest h = in-table entries j e rest h
+  where
+    in-table : (es : List Entry) (j : ℕ) (e : Entry) (rest : List Entry) → drop j es ≡ e ∷ rest → getD (map keywordStart (map (λ (d : Entry). d .keyword) es)) j (replicate 6 0) ≡ keywordStart (e .keyword)
+    in-table [] j e rest h = none-left j e rest h
+    in-table (d ∷ es) zero e rest h = let g : d ≡ e = cc in ap (λ (f : Entry). keywordStart (f .keyword)) g
+    in-table (d ∷ es) (suc j) e rest h = in-table es j e rest h
 
 module _ (R : Rules) where
   -- The line at a place, how its keyword is spelt, the rule that its argument keeps, and that it is the argument of its keyword.
@@ -179,16 +182,12 @@ module _ (R : Rules) (s : Text) (log : Log) (w : read R s ≡ accepted log) wher
     word-six : length (keywordStart word) ≡ 6
     word-six = omega (arith, six, length-start (e .keyword), length-start word, case-length (e .keyword) word spelt-so)
 
-    -- How the matcher finds it spelt.
-    keyword-told : saysListed (keywordAt j (lineTextAt s (lineStart s (suc j)))) ≡ same (e .keyword) word
-    unfolding keywordAt firstKeyword
+    -- It is spelt as it is listed where the line begins so.
+    keyword-told : begins (listedAt j) (lineTextAt s (lineStart s (suc j))) ≡ same (e .keyword) word
     keyword-told =
         let t = getD (log .arguments) j [] in
-        let l = keywordStart word ++ t in
-        ap (λ (x : Text). saysListed (keywordAt j x)) line-is
-        ∙ ap (λ (es : List Entry). saysListed (firstKeyword es l)) h
-        ∙ listed-by (begins (keywordStart (e .keyword)) l) (hasKeyword e l)
-        ∙ listed-spelt e l (keyword-had e word t spelt-so)
+        ap₂ begins (listed-there j e rest h) line-is
+        ∙ listed-spelt e (keywordStart word ++ t) (keyword-had e word t spelt-so)
         ∙ ap (same (e .keyword)) (spelling-on e word t spelt-so)
 
     argument-is : argument log (e .keyword) ≡ getD (log .arguments) j []
@@ -243,7 +242,7 @@ module _ (R : Rules) (s : Text) (log : Log) (w : read R s ≡ accepted log) wher
     pub argument-starts : lineStart s k + 6 ≡ argumentStart log k e
     argument-starts = rw counted at (starts (k - 1) e rest h)
 
-    pub keyword-listed : saysListed (keywordAt (k - 1) (lineTextAt s (lineStart s k))) ≡ isListed log k e
+    pub keyword-listed : begins (listedAt (k - 1)) (lineTextAt s (lineStart s k)) ≡ isListed log k e
     unfolding isListed
     keyword-listed = rw counted at (keyword-told (k - 1) e rest h)
 

@@ -10,7 +10,7 @@ use lib.ListN.{length, take, drop, getD, length-drop, drop-of-length-le}
 use lib.Seq.{length-take-le, drop-cons, drop-drop, take-nil}
 use borrow.Author.Tests.{le-leb, lt-leb, leb-true}
 use Rattle.rules.specs.declared.Refusal.{Refusal}
-use Rattle.rules.specs.Text.{Text, allowed, span}
+use Rattle.rules.specs.Text.{Text, allowed, begins, span}
 use Rattle.rules.specs.Rules.{Rules}
 use Rattle.rules.specs.Arguments.{Entry, entries, anything}
 use Rattle.rules.specs.Log.{Log, argument}
@@ -18,14 +18,14 @@ use Rattle.rules.specs.Reading.{Reading, accepted, refused, refusal, read}
 use Rattle.rules.specs.Answers.{Viewing, seen, unseen, viewOfReading, argumentStart, isListed, startOfView, view, viewed}
 use Rattle.rules.proofs.TextLaws.{span-short, take-its-length}
 use Rattle.reader.proofs.DueLaws.{entries-length}
-use Rattle.header.specs.Header.{keywordAt}
+use Rattle.header.specs.Header.{listedAt}
 use Rattle.reader.specs.declared.Heading.{Heading}
 use Rattle.reader.specs.declared.ReadAnswer.{ReadAnswer}
 use Rattle.reader.specs.declared.ReadAnswer.the-variants as ReadAnswer
 use Rattle.reader.specs.Read.{readTold, readOf}
 use Rattle.places.specs.declared.ViewRead.{ViewRead}
 use Rattle.places.specs.declared.ViewRead.the-variants as ViewRead
-use Rattle.places.specs.Places.{saysListed, lineTextAt, lineStart, argumentOn, argumentAt, partSeen, viewTold, viewOf}
+use Rattle.places.specs.Places.{lineTextAt, lineStart, argumentOn, argumentAt, partSeen, viewTold, viewOf}
 use Rattle.places.proofs.HeaderHeld.{argument-held, argument-starts, keyword-listed, argument-inside, argument-within}
 
 -- A line ends within the text.
@@ -45,9 +45,9 @@ module _ (s : Text) (at end : ℕ) (e : end ≡ at + span allowed (drop at s)) w
   unfolding lineTextAt
   line-part = let n : end - at ≡ span allowed (drop at s) = omega arith in ap (λ (m : ℕ). take m (drop at s)) n
 
-  pub part-told : (k : ℕ) {n : ℕ} {listed : Bool} → n ≡ end - (at + 6) → listed ≡ saysListed (keywordAt (k - 1) (take (end - at) (drop at s))) → ViewRead.Seen (at + 6) n listed ≡ partSeen k s at
+  pub part-told : (k : ℕ) {n : ℕ} {listed : Bool} → n ≡ end - (at + 6) → listed ≡ begins (listedAt (k - 1)) (take (end - at) (drop at s)) → ViewRead.Seen (at + 6) n listed ≡ partSeen k s at
   unfolding partSeen
-  part-told k q p = ap₂ (ViewRead.Seen (at + 6)) (q ∙ sym behind-length) (p ∙ ap (λ (l : Text). saysListed (keywordAt (k - 1) l)) line-part)
+  part-told k q p = ap₂ (ViewRead.Seen (at + 6)) (q ∙ sym behind-length) (p ∙ ap (begins (listedAt (k - 1))) line-part)
 
 -- The number of a keyword.
 view-law : (R : Rules) (k : ℕ) (s : Text) → viewOf R k s ≡ viewTold (cond (leb 1 k) (viewOfReading k (drop (k - 1) entries) (read R s)) (unseen (refusal 9 0 0)))
@@ -109,7 +109,7 @@ module _ (R : Rules) (k : ℕ) (s : Text) where
     unfolding viewOfReading viewTold
     shown-law log = refl
 
-    part-law : (at : ℕ) → partSeen k s at ≡ ViewRead.Seen (at + 6) (length (drop 6 (lineTextAt s at))) (saysListed (keywordAt (k - 1) (lineTextAt s at)))
+    part-law : (at : ℕ) → partSeen k s at ≡ ViewRead.Seen (at + 6) (length (drop 6 (lineTextAt s at))) (begins (listedAt (k - 1)) (lineTextAt s at))
     unfolding partSeen
     part-law at = refl
 

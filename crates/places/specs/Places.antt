@@ -1,15 +1,12 @@
 -- Where the lines of a log lie, and what is told of those of its keywords. Each definition gives an answer for every text.
 -- Assumes nothing.
 use Prim.Native.Nat.{ℕ, zero, suc, _+_, _-_}
-use mathlib.Core.Bool.{Bool, true, false}
 use lib.ListN.{length, take, drop}
-use Rattle.rules.specs.Text.{Text, allowed, span}
+use Rattle.rules.specs.Text.{Text, allowed, begins, span}
 use Rattle.rules.specs.Rules.{Rules}
 use Rattle.rules.specs.Arguments.{bonus, multiplier, part}
 use Rattle.rules.specs.Answers.{Viewing, seen, unseen, view}
-use Rattle.header.specs.Header.{keywordAt}
-use Rattle.header.specs.declared.KeywordRead.{KeywordRead}
-use Rattle.header.specs.declared.KeywordRead.the-variants as KeywordRead
+use Rattle.header.specs.Header.{listedAt}
 use Rattle.reader.specs.Contact.{valueBy}
 use Rattle.places.specs.declared.Declared.{Declared}
 use Rattle.places.specs.declared.ViewRead.{ViewRead}
@@ -55,17 +52,11 @@ declaredAt R s claims =
 
 -- # Views
 
--- The matcher says that a keyword is spelt as it is listed.
-abbrev pub saysListed : KeywordRead → Bool
-saysListed KeywordRead.Listed = true
-saysListed KeywordRead.Respelt = false
-saysListed KeywordRead.Differs = false
-
 -- The part behind the six characters of the k-th keyword and its `=`, on the line that begins at a place, and how the keyword is spelt there.
 unfoldable pub partSeen : ℕ → Text → ℕ → ViewRead
-unfolding lineTextAt keywordAt
+unfolding lineTextAt begins listedAt
 partSeen k s at =
-    ViewRead.Seen (at + 6) (length (drop 6 (lineTextAt s at))) (saysListed (keywordAt (k - 1) (lineTextAt s at)))
+    ViewRead.Seen (at + 6) (length (drop 6 (lineTextAt s at))) (begins (listedAt (k - 1)) (lineTextAt s at))
 
 -- The code's word for each case of a view.
 unfoldable pub viewTold : Viewing → ViewRead

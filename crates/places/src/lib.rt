@@ -4,18 +4,17 @@ ghost use mathlib.Core.Path.{_≡_};
 ghost use Prim.Native.Nat.{_+_, _≤_, min};
 ghost use lib.ListN.{drop, length};
 ghost use denote.Ref.{ptr};
-ghost use Rattle.rules.specs.Text.{allowed, span};
+ghost use Rattle.rules.specs.Text.{allowed, begins, span};
 ghost use Rattle.rules.specs.Rules.{base};
 ghost use Rattle.rules.specs.Arguments.{bonus, multiplier, part};
 ghost use Rattle.rules.specs.Answers.{startOfView, view, viewed};
 ghost use Rattle.fields.specs.Field.{textAt};
-ghost use Rattle.header.specs.Header.{keywordAt};
+ghost use Rattle.header.specs.Header.{listedAt};
 ghost use Rattle.reader.specs.Contact.{valueBy};
-ghost use Rattle.places.specs.Places.{declaredAt, saysListed, lineStart, lineTextAt, partSeen, viewOf};
+ghost use Rattle.places.specs.Places.{declaredAt, lineStart, lineTextAt, partSeen, viewOf};
 use figures::NumberRead;
 use figures::bonus_of;
 use figures::multiplier_of;
-use header::KeywordRead;
 use reader::ReadAnswer;
 use reader::allowed_run;
 use reader::field_end;
@@ -141,14 +140,10 @@ pub enum ViewRead {
 
 // A line begins with the keyword that comes after so many, spelt as it is listed.
 fn is_listed(k: usize, line: &[u8]) -> bool
-    ensures { λ r. ⌜ r ≡ saysListed (keywordAt k (now (line .entry))) ⌝ }
+    ensures { λ r. ⌜ r ≡ begins (listedAt k) (now (line .entry)) ⌝ }
 {
-    let spelling = header::keyword(k, line);
-    match spelling {
-        KeywordRead::Listed => true,
-        KeywordRead::Respelt => false,
-        KeywordRead::Differs => false,
-    }
+    let word = header::listed(k);
+    header::begins_with(&word, line)
 }
 
 // The part behind the keyword and its `=` of the line behind so many lines, and how the keyword is spelt.

@@ -234,18 +234,20 @@ module _ (R : Rules) where
     unfolding step
     at-due-keyword = refl
 
-    stepped-by : {next : Next} {r : KeywordRead} → keywordAt k line ≡ r → next ≡ keywordDue R (drop k entries) k line → record { next = next; respelt = saysRespelt r } ≡ stepOf R (Due.Keyword k) line
-    unfolding stepOf respeltBy
-    stepped-by e q = ap₂ (λ (n : Next) (x : KeywordRead). record { next = n; respelt = saysRespelt x }) (q ∙ sym at-due-keyword) (sym e)
+    module _ (before : ℕ) where
+      stepped-by : {next : Next} {r : KeywordRead} {count : ℕ} → keywordAt k line ≡ r → next ≡ keywordDue R (drop k entries) k line → count ≡ before + cond (saysRespelt r) 1 0 → record { next = next; respelt = count } ≡ stepOf R before (Due.Keyword k) line
+      unfolding stepOf respeltBy
+      stepped-by e q n =
+          ap₂ (λ (x : Next) (c : ℕ). record { next = x; respelt = c }) (q ∙ sym at-due-keyword) (n ∙ ap (λ (x : KeywordRead). before + cond (saysRespelt x) 1 0) (sym e))
 
-    pub step-differs : keywordAt k line ≡ KeywordRead.Differs → record { next = Next.Stops 3 0; respelt = false } ≡ stepOf R (Due.Keyword k) line
-    step-differs e = stepped-by e (keyword-differs e)
+      pub step-differs : keywordAt k line ≡ KeywordRead.Differs → record { next = Next.Stops 3 0; respelt = before } ≡ stepOf R before (Due.Keyword k) line
+      step-differs e = stepped-by e (keyword-differs e) (omega arith)
 
-    pub step-listed : {next : Next} → keywordAt k line ≡ KeywordRead.Listed → next ≡ afterArgument k (argumentOf R k (take (length line - 6) (drop 6 line))) → record { next = next; respelt = false } ≡ stepOf R (Due.Keyword k) line
-    step-listed e q = stepped-by e (q ∙ argument-leads (stands-listed k line e))
+      pub step-listed : {next : Next} {count : ℕ} → keywordAt k line ≡ KeywordRead.Listed → next ≡ afterArgument k (argumentOf R k (take (length line - 6) (drop 6 line))) → count ≡ before → record { next = next; respelt = count } ≡ stepOf R before (Due.Keyword k) line
+      step-listed e q n = stepped-by e (q ∙ argument-leads (stands-listed k line e)) (omega arith)
 
-    pub step-respelt : {next : Next} → keywordAt k line ≡ KeywordRead.Respelt → next ≡ afterArgument k (argumentOf R k (take (length line - 6) (drop 6 line))) → record { next = next; respelt = true } ≡ stepOf R (Due.Keyword k) line
-    step-respelt e q = stepped-by e (q ∙ argument-leads (stands-respelt k line e))
+      pub step-respelt : {next : Next} {count : ℕ} → keywordAt k line ≡ KeywordRead.Respelt → next ≡ afterArgument k (argumentOf R k (take (length line - 6) (drop 6 line))) → count ≡ before + 1 → record { next = next; respelt = count } ≡ stepOf R before (Due.Keyword k) line
+      step-respelt e q n = stepped-by e (q ∙ argument-leads (stands-respelt k line e)) n
 
 -- The argument's two cases.
 module _ (k : ℕ) where
@@ -328,29 +330,37 @@ module _ (R : Rules) (n : ℕ) (line : Text) where
       ap (λ (k : ℕ). Next.Stops k field) (q .0) ∙ sym (record-law ∙ ap (afterRecord n) (q .1))
 
 -- The step goes by what is due; only a keyword has a spelling.
-abbrev plainly : Next → Stepped
-plainly next = record { next = next; respelt = false }
+module _ (R : Rules) (before : ℕ) (line : Text) where
+  abbrev plainly : Next → Stepped
+  plainly next = record { next = next; respelt = before }
 
-module _ (R : Rules) (line : Text) {r : Next} where
-  pub at-identifier : (due : Due) → due ≡ Due.Identifier → r ≡ whole identifier line (Due.Keyword 0) → plainly r ≡ stepOf R due line
+  no-more-respelt : (next : Next) → plainly next ≡ record { next = next; respelt = before + 0 }
+  no-more-respelt next = let none : before ≡ before + 0 = omega arith in ap (λ (n : ℕ). record { next = next; respelt = n }) none
+
+  module _ {r : Next} where
+    pub at-identifier : (due : Due) → due ≡ Due.Identifier → r ≡ whole identifier line (Due.Keyword 0) → plainly r ≡ stepOf R before due line
+    unfolding step stepOf respeltBy
+    at-identifier due e q = ap plainly q ∙ no-more-respelt (whole identifier line (Due.Keyword 0)) ∙ ap (λ (d : Due). stepOf R before d line) (sym e)
+
+    pub at-remarks : (due : Due) → due ≡ Due.Remarks → r ≡ whole remarksLine line Due.Remark → plainly r ≡ stepOf R before due line
+    unfolding step stepOf respeltBy
+    at-remarks due e q = ap plainly q ∙ no-more-respelt (whole remarksLine line Due.Remark) ∙ ap (λ (d : Due). stepOf R before d line) (sym e)
+
+    pub at-remark : (due : Due) → due ≡ Due.Remark → r ≡ step R Due.Remark line → plainly r ≡ stepOf R before due line
+    unfolding stepOf respeltBy
+    at-remark due e q = ap plainly q ∙ no-more-respelt (step R Due.Remark line) ∙ ap (λ (d : Due). stepOf R before d line) (sym e)
+
+    pub at-record : {n : ℕ} (due : Due) → due ≡ Due.Record n → r ≡ step R (Due.Record n) line → plainly r ≡ stepOf R before due line
+    unfolding stepOf respeltBy
+    at-record {n} due e q = ap plainly q ∙ no-more-respelt (step R (Due.Record n) line) ∙ ap (λ (d : Due). stepOf R before d line) (sym e)
+
+  pub at-due : (due : Due) {r : Stepped} {d : Due} → due ≡ d → r ≡ stepOf R before d line → r ≡ stepOf R before due line
+  at-due due e q = q ∙ ap (λ (x : Due). stepOf R before x line) (sym e)
+
+  pub at-end : (due : Due) {r : Stepped} → due ≡ Due.End → r ≡ stepOf R before Due.End [] → r ≡ stepOf R before due line
   unfolding step stepOf respeltBy
-  at-identifier due e q = ap plainly q ∙ ap (λ (d : Due). stepOf R d line) (sym e)
+  at-end due e q = q ∙ ap (λ (d : Due). stepOf R before d line) (sym e)
 
-  pub at-remarks : (due : Due) → due ≡ Due.Remarks → r ≡ whole remarksLine line Due.Remark → plainly r ≡ stepOf R due line
-  unfolding step stepOf respeltBy
-  at-remarks due e q = ap plainly q ∙ ap (λ (d : Due). stepOf R d line) (sym e)
-
-  pub at-remark : (due : Due) → due ≡ Due.Remark → r ≡ step R Due.Remark line → plainly r ≡ stepOf R due line
-  unfolding stepOf respeltBy
-  at-remark due e q = ap plainly q ∙ ap (λ (d : Due). stepOf R d line) (sym e)
-
-  pub at-record : {n : ℕ} (due : Due) → due ≡ Due.Record n → r ≡ step R (Due.Record n) line → plainly r ≡ stepOf R due line
-  unfolding stepOf respeltBy
-  at-record due e q = ap plainly q ∙ ap (λ (d : Due). stepOf R d line) (sym e)
-
-pub at-due : (R : Rules) (due : Due) (line : Text) {r : Stepped} {d : Due} → due ≡ d → r ≡ stepOf R d line → r ≡ stepOf R due line
-at-due R due line e q = q ∙ ap (λ (x : Due). stepOf R x line) (sym e)
-
-pub at-end : (R : Rules) (due : Due) (line : Text) {r : Stepped} → due ≡ Due.End → r ≡ stepOf R Due.End [] → r ≡ stepOf R due line
+pub nothing-due : (R : Rules) (before : ℕ) → record { next = Next.Stops 6 0; respelt = before } ≡ stepOf R before Due.End []
 unfolding step stepOf respeltBy
-at-end R due line e q = q ∙ ap (λ (d : Due). stepOf R d line) (sym e)
+nothing-due R before = no-more-respelt R before [] (Next.Stops 6 0)

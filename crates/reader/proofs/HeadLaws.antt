@@ -35,29 +35,27 @@ pub log-small : base .longestLog ≤ 65_535
 unfolding base
 log-small = omega arith
 
--- What the step carries.
-module _ (R : Rules) (due : Due) (line : Text) {r : Stepped} (e : r ≡ stepOf R due line) where
+one-at-most : (b : Bool) → cond b 1 0 ≤ 1
+one-at-most true = omega arith
+one-at-most false = omega arith
+
+-- What the step carries: what follows, and how many keywords are respelt, which is at most one more than before.
+module _ (R : Rules) (before : ℕ) (due : Due) (line : Text) {r : Stepped} (e : r ≡ stepOf R before due line) where
   pub stepped-next : step R due line ≡ r .next
   unfolding stepOf
   stepped-next = ap (λ (x : Stepped). x .next) (sym e)
 
-  pub stepped-respelt : r .respelt ≡ respeltBy due line
+  counts : r .respelt ≡ before + cond (respeltBy due line) 1 0
   unfolding stepOf
-  stepped-respelt = ap (λ (x : Stepped). x .respelt) e
+  counts = ap (λ (x : Stepped). x .respelt) e
 
-pub one-at-most : (b : Bool) → cond b 1 0 ≤ 1
-one-at-most true = omega arith
-one-at-most false = omega arith
+  pub stepped-few : r .respelt ≤ before + 1
+  stepped-few = omega (arith, counts, one-at-most (respeltBy due line))
 
--- The heading behind a line, by its parts.
-pub heading-next : (due : Due) (line : Text) (heading : Heading) (at : ℕ) {claims count : ℕ} {more : Bool} →
-    claims ≡ claimsBy due (heading .claims) at →
-    count ≡ heading .respelt + cond more 1 0 →
-    more ≡ respeltBy due line →
-    headingBy due line heading at ≡ record { claims = claims; respelt = count }
-unfolding headingBy
-heading-next due line heading at p q e =
-    ap₂ (λ (c n : ℕ). record { claims = c; respelt = n }) (sym p) (ap (λ (b : Bool). heading .respelt + cond b 1 0) (sym e) ∙ sym q)
+  -- The heading behind the line, by its parts.
+  pub heading-next : (claims at : ℕ) {found : ℕ} → found ≡ claimsBy due claims at → headingBy due line (record { claims = claims; respelt = before }) at ≡ record { claims = found; respelt = r .respelt }
+  unfolding headingBy
+  heading-next claims at p = ap₂ (λ (c n : ℕ). record { claims = c; respelt = n }) (sym p) (sym counts)
 
 -- What is told from a place on.
 abbrev pub headAt : Rules → Text → Due → ℕ → ℕ → Heading → HeadRead

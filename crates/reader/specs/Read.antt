@@ -51,10 +51,10 @@ respeltBy Remark l = false
 respeltBy (Record n) l = false
 respeltBy End l = false
 
--- What follows from a line, and how its keyword is spelt.
-unfoldable pub stepOf : Rules → Due → Text → Stepped
+-- What follows from a line, and how many keywords are respelt behind it, where so many were in front of it.
+unfoldable pub stepOf : Rules → ℕ → Due → Text → Stepped
 unfolding step respeltBy
-stepOf R due l = record { next = step R due l; respelt = respeltBy due l }
+stepOf R before due l = record { next = step R due l; respelt = before + cond (respeltBy due l) 1 0 }
 
 -- The argument behind a keyword after so many: the next keyword is due, or `[Remarks]` behind the last.
 unfoldable pub afterArgument : ℕ → ArgumentRead → Next

@@ -459,33 +459,37 @@ fn argument_step(k: usize, t: &[u8]) -> Next
     Next::Goes(Due::Remarks)
 }
 
-// What follows from a line, and whether its keyword is spelt otherwise than it is listed.
+// What follows from a line, and how many keywords are respelt so far, its own too.
 pub struct Stepped {
     pub next: Next,
-    pub respelt: bool,
+    pub respelt: usize,
 }
 
 // A keyword's line after so many keywords: the keyword in either letter case and its `=`, and the argument.
-fn keyword_step(k: usize, line: &[u8]) -> Stepped
-    ensures { λ r. ⌜ r ≡ stepOf base (Due.Keyword k) (now (line .entry)) ⌝ }
+fn keyword_step(k: usize, line: &[u8], respelt: usize) -> Stepped
+    requires { ⌜ respelt ≤ base .longestLog ⌝ }
+    ensures { λ r. ⌜ r ≡ stepOf base respelt (Due.Keyword k) (now (line .entry)) ⌝ }
 {
     let spelling = header::keyword(k, line);
+    let mut count = respelt;
     match spelling {
-        KeywordRead::Listed => Stepped {
-            next: argument_step(k, &line[6..]),
-            respelt: false,
-        },
-        KeywordRead::Respelt => Stepped {
-            next: argument_step(k, &line[6..]),
-            respelt: true,
-        },
-        KeywordRead::Differs => Stepped {
-            next: Next::Stops {
-                number: 3,
-                field: 0,
-            },
-            respelt: false,
-        },
+        KeywordRead::Listed => {}
+        KeywordRead::Respelt => {
+            count = respelt + 1;
+        }
+        KeywordRead::Differs => {
+            return Stepped {
+                next: Next::Stops {
+                    number: 3,
+                    field: 0,
+                },
+                respelt,
+            };
+        }
+    }
+    Stepped {
+        next: argument_step(k, &line[6..]),
+        respelt: count,
     }
 }
 
@@ -529,56 +533,56 @@ fn record_step(n: usize, line: &[u8]) -> Next
 }
 
 // A line where nothing more is due.
-fn no_more() -> Stepped
-    ensures { λ r. ⌜ r ≡ stepOf base Due.End [] ⌝ }
+fn no_more(respelt: usize) -> Stepped
+    ensures { λ r. ⌜ r ≡ stepOf base respelt Due.End [] ⌝ }
 {
     Stepped {
         next: Next::Stops {
             number: 6,
             field: 0,
         },
-        respelt: false,
+        respelt,
     }
 }
 
 // What follows from a line in front of the records. None is due there, so that this needs no record reader.
-fn head_step(due: Due, line: &[u8]) -> Stepped
-    requires { ⌜ early due ≡ true ⌝ }
-    ensures { λ r. ⌜ r ≡ stepOf base due (now (line .entry)) ⌝ }
+fn head_step(due: Due, line: &[u8], respelt: usize) -> Stepped
+    requires { ⌜ (early due ≡ true) × (respelt ≤ base .longestLog) ⌝ }
+    ensures { λ r. ⌜ r ≡ stepOf base respelt due (now (line .entry)) ⌝ }
 {
     match due {
         Due::Identifier => Stepped {
             next: whole_step(b"[REG1TEST;1]", line, Due::Keyword(0)),
-            respelt: false,
+            respelt,
         },
-        Due::Keyword(k) => keyword_step(k, line),
+        Due::Keyword(k) => keyword_step(k, line, respelt),
         Due::Remarks => Stepped {
             next: whole_step(b"[Remarks]", line, Due::Remark),
-            respelt: false,
+            respelt,
         },
         Due::Remark => Stepped {
             next: remark_step(line),
-            respelt: false,
+            respelt,
         },
-        Due::Record(_) => no_more(),
-        Due::End => no_more(),
+        Due::Record(_) => no_more(respelt),
+        Due::End => no_more(respelt),
     }
 }
 
-// What follows from a line where this is due: what is due next, or the refusal's number and field; and how its keyword is spelt.
+// What follows from a line where this is due: what is due next, or the refusal's number and field; and 1 where its keyword is respelt, else 0.
 pub fn step(due: Due, line: &[u8]) -> Stepped
-    ensures { λ r. ⌜ r ≡ stepOf base due (now (line .entry)) ⌝ }
+    ensures { λ r. ⌜ r ≡ stepOf base 0 due (now (line .entry)) ⌝ }
 {
     match due {
         Due::Record(n) => Stepped {
             next: record_step(n, line),
-            respelt: false,
+            respelt: 0,
         },
-        Due::End => no_more(),
-        Due::Identifier => head_step(due, line),
-        Due::Keyword(_) => head_step(due, line),
-        Due::Remarks => head_step(due, line),
-        Due::Remark => head_step(due, line),
+        Due::End => no_more(0),
+        Due::Identifier => head_step(due, line, 0),
+        Due::Keyword(_) => head_step(due, line, 0),
+        Due::Remarks => head_step(due, line, 0),
+        Due::Remark => head_step(due, line, 0),
     }
 }
 
@@ -622,17 +626,6 @@ fn claims_by(due: Due, claims: usize, at: usize) -> usize
     }
 }
 
-// How many keywords are respelt behind one more line.
-fn respelt_by(respelt: usize, more: bool) -> usize
-    requires { ⌜ respelt ≤ base .longestLog ⌝ }
-    ensures { λ r. ⌜ r ≡ respelt + cond more 1 0 ⌝ }
-{
-    if more {
-        return respelt + 1;
-    }
-    respelt
-}
-
 // What is told of the header: where the first of the nine claims begins, and how many keywords are not spelt as they are listed.
 pub struct Heading {
     pub claims: usize,
@@ -673,7 +666,7 @@ fn head(log: &[u8]) -> HeadRead
                 field: 0,
             });
         };
-        let stepped = head_step(due, &log[at..end]);
+        let stepped = head_step(due, &log[at..end], respelt);
         let after = stepped.next;
         match after {
             Next::Stops { number, field } => {
@@ -696,7 +689,7 @@ fn head(log: &[u8]) -> HeadRead
                     };
                 }
                 claims = claims_by(due, claims, at);
-                respelt = respelt_by(respelt, stepped.respelt);
+                respelt = stepped.respelt;
                 due = next;
             }
         }

@@ -13,7 +13,7 @@ use Rattle.rules.specs.Reading.{step}
 use Rattle.rules.specs.Rules.{base}
 use Rattle.rules.specs.Text.{Text}
 use Rattle.rules.specs.declared.Next.the-variants as Next
-use Rattle.reader.proofs.HeadLaws.{head-ends, head-goes-on, head-missing, head-refuses, head-starts, head-too-long, headAt, heading-next, log-small, one-at-most, still-early, stepped-next, stepped-respelt}
+use Rattle.reader.proofs.HeadLaws.{head-ends, head-goes-on, head-missing, head-refuses, head-starts, head-too-long, headAt, heading-next, log-small, still-early, stepped-few, stepped-next}
 use Rattle.reader.proofs.LineLaws.{Stood, stood}
 use Rattle.reader.proofs.head.Statement.{statement}
 use Rattle.reader.proofs.head.Tie as tie
@@ -47,7 +47,7 @@ found : (c : tie.After-known-told Inv-loop μ-loop) → Stood base (text (looped
 found c = stood base _ _ (line-is c)
 
 goes : (k : tie.After-known-told3 Inv-loop μ-loop) → step base ((looped (lined k)) .loop .due) (take ((lined k) .before .end .given .0 .0 - (looped (lined k)) .loop .at) (drop ((looped (lined k)) .loop .at) (text (looped (lined k))))) ≡ Next.Goes (k .before .after2 .given .0 .0)
-goes k = stepped-next base _ _ (k .before .before .before .head-step .ensures) ∙ k .before .after2 .given .1
+goes k = stepped-next base _ _ _ (k .before .before .before .head-step .ensures) ∙ k .before .after2 .given .1
 
 longest-log-requires : tie.Need-longest-log-requires Inv-loop μ-loop
 longest-log-requires c κs = search needs
@@ -85,7 +85,9 @@ part-head-step-end : tie.Need-part-head-step-end Inv-loop μ-loop
 part-head-step-end c = omega (arith, (found c) .within)
 
 head-step-requires : tie.Need-head-step-requires Inv-loop μ-loop
-head-step-requires c κs = c .before .before .before .before .before .loop .inv .3
+head-step-requires c κs =
+    let l = c .before .before .before .before .before in
+    (l .loop .inv .3, omega (arith, l .loop .inv .0, l .loop .inv .1, l .loop .inv .2, l .loop .inv .5))
 
 enum-known-after : tie.Need-enum-known-after Inv-loop μ-loop
 enum-known-after c = search needs
@@ -95,7 +97,7 @@ returns-3 c =
     let d = c .before .before .before .before .before in
     sym
     ((looped d) .loop .inv .4
-    ∙ head-refuses base _ _ _ _ _ (line-is d) (stepped-next base _ _ (c .before .before .before .head-step .ensures) ∙ c .before .after .given .1))
+    ∙ head-refuses base _ _ _ _ _ (line-is d) (stepped-next base _ _ _ (c .before .before .before .head-step .ensures) ∙ c .before .after .given .1))
 
 enum-known-after-2 : tie.Need-enum-known-after-2 Inv-loop μ-loop
 enum-known-after-2 c = search needs
@@ -124,28 +126,23 @@ enum-told-2 c = search needs
 claims-by-requires : tie.Need-claims-by-requires Inv-loop μ-loop
 claims-by-requires c κs = search needs
 
-respelt-by-requires : tie.Need-respelt-by-requires Inv-loop μ-loop
-respelt-by-requires c κs =
-    let l = looped (lined (c .before .before .before .before)) in
-    omega (arith, l .loop .inv .0, l .loop .inv .1, l .loop .inv .2, l .loop .inv .5)
-
 loop-less : tie.Need-loop-less Inv-loop μ-loop
-loop-less c = let d = lined (c .before .before .before .before .before) in omega (arith, (found d) .behind, (found d) .within)
+loop-less c = let d = lined (c .before .before .before .before) in omega (arith, (found d) .behind, (found d) .within)
 
 loop-again : tie.Need-loop-again Inv-loop μ-loop
 loop-again c =
-    let k = c .before .before .before .before .before in
+    let k = c .before .before .before .before in
     let d = lined k in
     let l = looped d in
-    let further = sym (c .before .before .before .before .counted-by .ensures) ∙ c .before .before .enum-told2 .given .1 in (
+    let further = sym (c .before .before .before .counted-by .ensures) ∙ c .before .enum-told2 .given .1 in (
       omega (arith, (found d) .within),
       l .loop .inv .1,
       omega (arith, (found d) .behind, l .loop .inv .2),
       still-early _ further,
       l .loop .inv .4
           ∙ head-goes-on base _ _ _ _ _ (line-is d) (goes k) further
-          ∙ ap (headAt base (text l) (k .before .after2 .given .0 .0) (l .loop .line + 1) (d .before .end .given .0 .0 + 2)) (heading-next _ _ _ _ (c .before .claims-by .ensures) (c .respelt-by .ensures) (stepped-respelt base _ _ (k .before .before .before .head-step .ensures))),
-      omega (arith, l .loop .inv .5, c .respelt-by .ensures, one-at-most (k .before .before .before .head-step .result .respelt)),
+          ∙ ap (headAt base (text l) (k .before .after2 .given .0 .0) (l .loop .line + 1) (d .before .end .given .0 .0 + 2)) (heading-next base _ _ _ (k .before .before .before .head-step .ensures) (l .loop .claims) (d .before .end .given .0 .0 + 2) (c .claims-by .ensures)),
+      omega (arith, l .loop .inv .5, stepped-few base _ _ _ (k .before .before .before .head-step .ensures)),
     )
 
 pub head-spec : {M : Type 1} → statement M
@@ -175,6 +172,5 @@ head-spec =
     returns-4
     enum-told-2
     claims-by-requires
-    respelt-by-requires
     loop-less
     loop-again)

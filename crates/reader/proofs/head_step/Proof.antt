@@ -22,7 +22,7 @@ enum-known-due : tie.Need-enum-known-due
 enum-known-due c = search needs
 
 keyword-step-requires : tie.Need-keyword-step-requires
-keyword-step-requires c κs = search needs
+keyword-step-requires c κs = c .before .before .before .before .pre .1
 
 enum-told-2 : tie.Need-enum-told-2
 enum-told-2 c = search needs
@@ -53,23 +53,23 @@ no-more-requires-2 c κs = search needs
 
 returns : tie.Need-returns
 unfolding identifier
-returns c = at-identifier base _ _ (c .before .before .enum-told .given .1) (c .whole-step .ensures)
+returns c = at-identifier base _ _ _ (c .before .before .enum-told .given .1) (c .whole-step .ensures)
 
 returns-2 : tie.Need-returns-2
-returns-2 c = at-due base _ _ (c .before .before .due .given .1) (c .keyword-step .ensures)
+returns-2 c = at-due base _ _ _ (c .before .before .due .given .1) (c .keyword-step .ensures)
 
 returns-3 : tie.Need-returns-3
 unfolding remarksLine
-returns-3 c = at-remarks base _ _ (c .before .before .enum-told2 .given .1) (c .whole-step2 .ensures)
+returns-3 c = at-remarks base _ _ _ (c .before .before .enum-told2 .given .1) (c .whole-step2 .ensures)
 
 returns-4 : tie.Need-returns-4
-returns-4 c = at-remark base _ _ (c .before .enum-told3 .given .1) (c .remark-step .ensures)
+returns-4 c = at-remark base _ _ _ (c .before .enum-told3 .given .1) (c .remark-step .ensures)
 
 returns-5 : tie.Need-returns-5
-returns-5 c = absurd (true≢false (sym (c .before .before .before .before .pre) ∙ ap early (c .before .enum-told4 .given .1)))
+returns-5 c = absurd (true≢false (sym (c .before .before .before .before .pre .0) ∙ ap early (c .before .enum-told4 .given .1)))
 
 returns-6 : tie.Need-returns-6
-returns-6 c = at-end base _ _ (c .before .enum-told5 .given .1) (c .no-more2 .ensures)
+returns-6 c = at-end base _ _ _ (c .before .enum-told5 .given .1) (c .no-more2 .ensures)
 
 pub head-step-spec : {M : Type 1} → statement M
 head-step-spec =

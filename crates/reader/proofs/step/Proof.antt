@@ -1,6 +1,7 @@
 -- The step goes by what is due: a record, or what stands in front of the records.
 use borrow.Author.Needs.{needs}
 use mathlib.Core.Path.{ap}
+use native.Mathlib.Omega.{arith}
 use Rattle.reader.specs.Read.{early}
 use Rattle.rules.specs.Rules.{base}
 use Rattle.reader.proofs.DueLaws.{at-end, at-record}
@@ -23,31 +24,31 @@ enum-told-2 : tie.Need-enum-told-2
 enum-told-2 c = search needs
 
 head-step-requires : tie.Need-head-step-requires
-head-step-requires c κs = ap early (c .enum-told2 .given .1)
+head-step-requires c κs = (ap early (c .enum-told2 .given .1), omega arith)
 
 enum-told-3 : tie.Need-enum-told-3
 enum-told-3 c = search needs
 
 head-step-requires-2 : tie.Need-head-step-requires-2
-head-step-requires-2 c κs = ap early (c .enum-told3 .given .1)
+head-step-requires-2 c κs = (ap early (c .enum-told3 .given .1), omega arith)
 
 enum-told-4 : tie.Need-enum-told-4
 enum-told-4 c = search needs
 
 head-step-requires-3 : tie.Need-head-step-requires-3
-head-step-requires-3 c κs = ap early (c .enum-told4 .given .1)
+head-step-requires-3 c κs = (ap early (c .enum-told4 .given .1), omega arith)
 
 enum-told-5 : tie.Need-enum-told-5
 enum-told-5 c = search needs
 
 head-step-requires-4 : tie.Need-head-step-requires-4
-head-step-requires-4 c κs = ap early (c .enum-told5 .given .1)
+head-step-requires-4 c κs = (ap early (c .enum-told5 .given .1), omega arith)
 
 returns : tie.Need-returns
-returns c = at-record base _ _ (c .before .before .due .given .1) (c .record-step .ensures)
+returns c = at-record base _ _ _ (c .before .before .due .given .1) (c .record-step .ensures)
 
 returns-2 : tie.Need-returns-2
-returns-2 c = at-end base _ _ (c .before .enum-told .given .1) (c .no-more .ensures)
+returns-2 c = at-end base _ _ _ (c .before .enum-told .given .1) (c .no-more .ensures)
 
 returns-3 : tie.Need-returns-3
 returns-3 c = c .head-step .ensures
