@@ -103,7 +103,7 @@ pub fn same_text(a: &[u8], b: &[u8]) -> bool
 }
 
 // The small letter of a capital; every other byte is its own.
-pub fn lower(b: u8) -> u8
+fn lower(b: u8) -> u8
     ensures { λ r. ⌜ r ≡ lower b ⌝ }
 {
     if fields::is_capital(b) {
@@ -113,7 +113,7 @@ pub fn lower(b: u8) -> u8
 }
 
 // The text begins with the word, but for the case of letters.
-pub fn begins_in_any_case(word: &[u8], s: &[u8]) -> bool
+fn begins_in_any_case(word: &[u8], s: &[u8]) -> bool
     ensures { λ r. ⌜ r ≡ begins (map lower (now (word .entry))) (map lower (now (s .entry))) ⌝ }
 {
     if s.len() < word.len() {

@@ -18,7 +18,7 @@ use Rattle.rules.specs.Answers.{argumentStart, isListed}
 use Rattle.rules.proofs.Tests.{so, holds, never, and-l, and-r, not-true, eq-of-test}
 use Rattle.rules.proofs.TextLaws.{same-refl}
 use Rattle.rules.proofs.SpellingLaws.{case-length, length-start, spelling-on, keyword-had, listed-spelt, spelling-count, keyword-count}
-use Rattle.rules.proofs.LogLaws.{argument-count}
+use Rattle.rules.proofs.LogLaws.{argument-count, behindKeywords, lines-opened}
 use Rattle.rules.proofs.Bounds.{each-at}
 use Rattle.rules.proofs.Format.{accepted-when-written, of-valid}
 use Rattle.header.specs.Header.{listedAt}
@@ -146,21 +146,12 @@ module _ (R : Rules) (s : Text) (log : Log) (w : read R s ≡ accepted log) wher
   many : length (log .keywords) ≡ length (log .arguments)
   many = spelling-count entries (log .keywords) spelt ∙ sym (argument-count R entries (log .arguments) ruled)
 
-  abbrev behind : List Text
-  behind = (remarksLine ∷ log .remarks) ++ (countLine (length (log .records)) ∷ map recordLine (log .records))
-
-  lines-from : linesOf log ≡ identifier ∷ (keywordLines (log .keywords) (log .arguments) ++ behind)
-  unfolding linesOf
-  lines-from =
-      ap {B = List Text} (λ r. identifier ∷ r)
-      (append-assoc (keywordLines (log .keywords) (log .arguments)) (remarksLine ∷ log .remarks) (countLine (length (log .records)) ∷ map recordLine (log .records)))
-
   -- The keyword at a place of the table, and its line, one further on.
   module _ (j : ℕ) (e : Entry) (rest : List Entry) (h : drop j entries ≡ e ∷ rest) where
     line-there : suc j < length (linesOf log)
     line-there =
         let n : length entries - j ≡ suc (length rest) = sym (length-drop j entries) ∙ ap length h in
-        omega (arith, ap length lines-from, length-append (keywordLines (log .keywords) (log .arguments)) behind, keyword-count (log .keywords) (log .arguments) many, spelling-count entries (log .keywords) spelt)
+        omega (arith, ap length (lines-opened log), length-append (keywordLines (log .keywords) (log .arguments)) (behindKeywords log), keyword-count (log .keywords) (log .arguments) many, spelling-count entries (log .keywords) spelt)
 
     -- The keyword as it stands there.
     abbrev word : Text
@@ -173,8 +164,8 @@ module _ (R : Rules) (s : Text) (log : Log) (w : read R s ≡ accepted log) wher
     line-is =
         let n : length entries - j ≡ suc (length rest) = sym (length-drop j entries) ∙ ap length h in
         text-of-line R s log is-valid is-written (suc j) line-there
-        ∙ ap (λ (ls : List Text). getD ls (suc j) []) lines-from
-        ∙ keyword-line R (log .keywords) (log .arguments) behind j many (omega (arith, spelling-count entries (log .keywords) spelt))
+        ∙ ap (λ (ls : List Text). getD ls (suc j) []) (lines-opened log)
+        ∙ keyword-line R (log .keywords) (log .arguments) (behindKeywords log) j many (omega (arith, spelling-count entries (log .keywords) spelt))
 
     six : length (keywordStart (e .keyword)) ≡ 6
     six = omega (arith, length-start (e .keyword), eq-of-test (length (e .keyword)) 5 (of-entry (λ d. eqb (length (d .keyword)) 5) entries j e rest five h))

@@ -2,8 +2,8 @@
 -- Assumes nothing.
 use Prim.Native.Nat.{ℕ, suc, _+_, _≤_}
 use mathlib.Core.Path.{_≡_, refl, ap}
-use mathlib.Core.Bool.{Bool, true}
-use mathlib.Core.List.{List, [], _∷_, _++_, map}
+use mathlib.Core.Bool.{Bool, true, false, _&&_}
+use mathlib.Core.List.{List, [], _∷_, _++_, map, append-assoc}
 use lib.Dec.{leb}
 use lib.ListN.{length, length-append}
 use native.Mathlib.Omega.{arith}
@@ -33,6 +33,15 @@ module _ (f : Text → Bool) where
   unfolding every
   every-back [] b e = e
   every-back (t ∷ a) b e = every-back a b (and-r (f t) (every f (a ++ b)) e)
+
+  pub every-split : (a b : List Text) → every f (a ++ b) ≡ (every f a && every f b)
+  unfolding every
+  every-split [] b = refl
+  every-split (t ∷ a) b = by (f t) (every-split a b)
+    where
+      by : (c : Bool) → every f (a ++ b) ≡ (every f a && every f b) → (c && every f (a ++ b)) ≡ (c && every f a && every f b)
+      by true e = e
+      by false e = refl
 
   pub every-more : (t : Text) (ts : List Text) → f t ≡ true → every f ts ≡ true → every f (t ∷ ts) ≡ true
   unfolding every
@@ -66,6 +75,17 @@ argument-count R (f ∷ es) (t ∷ ts) e = ap suc (argument-count R es ts (and-r
 -- What stands in front of the count line.
 unfoldable pub front : Log → List Text
 front log = identifier ∷ keywordLines (log .keywords) (log .arguments) ++ remarksLine ∷ log .remarks
+
+-- What stands behind the keyword lines, and the lines of a log by these.
+abbrev pub behindKeywords : Log → List Text
+behindKeywords log =
+    remarksLine ∷ log .remarks ++ countLine (length (log .records)) ∷ map recordLine (log .records)
+
+pub lines-opened : (log : Log) → linesOf log ≡ identifier ∷ (keywordLines (log .keywords) (log .arguments) ++ behindKeywords log)
+unfolding linesOf
+lines-opened log =
+    ap {B = List Text} (λ r. identifier ∷ r)
+    (append-assoc (keywordLines (log .keywords) (log .arguments)) (remarksLine ∷ log .remarks) (countLine (length (log .records)) ∷ map recordLine (log .records)))
 
 pub lines-split : (log : Log) → linesOf log ≡ front log ++ countLine (length (log .records)) ∷ map recordLine (log .records)
 unfolding linesOf front

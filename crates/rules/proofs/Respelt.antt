@@ -5,23 +5,23 @@ use Prim.Native.Nat.{ℕ, _+_, _≤_}
 use native.Mathlib.Omega.{arith}
 use mathlib.Core.Path.{_≡_, refl, sym, ap, ap₂, _∙_}
 use mathlib.Core.Bool.{Bool, true, false, cond, _&&_}
-use mathlib.Core.List.{List, [], _∷_, _++_, map, append-assoc}
+use mathlib.Core.List.{List, [], _∷_, _++_, map}
 use lib.Dec.{leb}
 use lib.ListN.{length, length-append}
 use borrow.Author.Tests.{leb-true, le-leb}
 use Rattle.rules.specs.Text.{Text, bytes, all, allowed, capital, lower, sameButCase}
 use Rattle.rules.specs.Rules.{Rules}
 use Rattle.rules.specs.Arguments.{Entry, entries, every}
-use Rattle.rules.specs.Log.{Log, argument, identifier, remarksLine, countLine, keywordStart, keywordLines, respelt, recordLine, linesOf, ended, render, lineRule, keywordRules, valid}
+use Rattle.rules.specs.Log.{Log, argument, identifier, keywordStart, keywordLines, respelt, linesOf, ended, render, lineRule, keywordRules, valid}
 use Rattle.rules.specs.Judging.{declared, verdictsOfLog, totalsOfLog}
 use Rattle.rules.specs.Writing.{writtenBack}
 use Rattle.rules.specs.Reading.{accepted, read}
 use Rattle.rules.specs.Answers.{respeltOfReading}
 use Rattle.rules.specs.Demands.{spelt, EitherCaseIsTakenAlike, SpellingsAreCounted}
 use Rattle.rules.proofs.Tests.{so, holds, never, and-l, and-r, and-i}
-use Rattle.rules.proofs.TextLaws.{same-eq}
+use Rattle.rules.proofs.TextLaws.{all-split, same-eq}
 use Rattle.rules.proofs.SpellingLaws.{case-length, length-start, spelling-count, none-respelt, respelt-none, respelt-most}
-use Rattle.rules.proofs.LogLaws.{length-ended-more, length-ended-append}
+use Rattle.rules.proofs.LogLaws.{every-split, length-ended-more, length-ended-append, behindKeywords, lines-opened}
 use Rattle.rules.proofs.Format.{Rightly, valid-of, of-valid, render-law, accepted-when-written}
 
 -- # A spelling is as long as any other, and has as many allowed characters
@@ -45,24 +45,6 @@ all-lower (c ∷ s) = rw (lower-allowed c, all-lower s)
 case-allowed : (s t : Text) → sameButCase s t ≡ true → all allowed s ≡ all allowed t
 unfolding sameButCase
 case-allowed s t e = sym (all-lower s) ∙ ap (all allowed) (same-eq (map lower s) (map lower t) e) ∙ all-lower t
-
-all-split : (f : ℕ → Bool) (s t : Text) → all f (s ++ t) ≡ (all f s && all f t)
-unfolding all
-all-split f [] t = refl
-all-split f (c ∷ s) t = by (f c) (all-split f s t)
-  where
-    by : (b : Bool) → all f (s ++ t) ≡ (all f s && all f t) → (b && all f (s ++ t)) ≡ (b && all f s && all f t)
-    by true e = e
-    by false e = refl
-
-every-split : (f : Text → Bool) (a b : List Text) → every f (a ++ b) ≡ (every f a && every f b)
-unfolding every
-every-split f [] b = refl
-every-split f (t ∷ a) b = by (f t) (every-split f a b)
-  where
-    by : (c : Bool) → every f (a ++ b) ≡ (every f a && every f b) → (c && every f (a ++ b)) ≡ (c && every f a && every f b)
-    by true e = e
-    by false e = refl
 
 -- Two spellings of a keyword, in front of the same argument.
 module _ (e : Entry) (v w t : Text) (a : sameButCase (e .keyword) v ≡ true) (b : sameButCase (e .keyword) w ≡ true) where
@@ -107,22 +89,6 @@ lines-alike R (e ∷ es) (v ∷ vs) (w ∷ ws) (t ∷ ts) a b =
 -- # The log
 
 module _ (R : Rules) (log : Log) (ws : List Text) where
-  -- The lines of the two logs: the identifier, the keyword lines, and what stands behind them.
-  behind : List Text
-  behind = remarksLine ∷ log .remarks ++ countLine (length (log .records)) ∷ map recordLine (log .records)
-
-  lines-are : linesOf log ≡ identifier ∷ (keywordLines (log .keywords) (log .arguments) ++ behind)
-  unfolding linesOf behind
-  lines-are =
-      ap {B = List Text} (λ r. identifier ∷ r)
-      (append-assoc (keywordLines (log .keywords) (log .arguments)) (remarksLine ∷ log .remarks) (countLine (length (log .records)) ∷ map recordLine (log .records)))
-
-  spelt-lines-are : linesOf (spelt ws log) ≡ identifier ∷ (keywordLines ws (log .arguments) ++ behind)
-  unfolding linesOf behind
-  spelt-lines-are =
-      ap {B = List Text} (λ r. identifier ∷ r)
-      (append-assoc (keywordLines ws (log .arguments)) (remarksLine ∷ log .remarks) (countLine (length (log .records)) ∷ map recordLine (log .records)))
-
   module _ (a : keywordRules entries (log .keywords) ≡ true) (b : keywordRules entries ws ≡ true) where
     alike : (every (lineRule R) (keywordLines ws (log .arguments)) ≡ every (lineRule R) (keywordLines (log .keywords) (log .arguments))) × (length (ended (keywordLines ws (log .arguments))) ≡ length (ended (keywordLines (log .keywords) (log .arguments))))
     alike = lines-alike R entries ws (log .keywords) (log .arguments) b a
@@ -130,20 +96,20 @@ module _ (R : Rules) (log : Log) (ws : List Text) where
     rules-alike : every (lineRule R) (linesOf (spelt ws log)) ≡ every (lineRule R) (linesOf log)
     unfolding every
     rules-alike =
-        rw (lines-are, spelt-lines-are, every-split (lineRule R) (keywordLines ws (log .arguments)) behind, every-split (lineRule R) (keywordLines (log .keywords) (log .arguments)) behind, alike .0)
+        rw (lines-opened log, lines-opened (spelt ws log), every-split (lineRule R) (keywordLines ws (log .arguments)) (behindKeywords log), every-split (lineRule R) (keywordLines (log .keywords) (log .arguments)) (behindKeywords log), alike .0)
 
     pub spelt-as-long : length (render (spelt ws log)) ≡ length (render log)
     spelt-as-long =
-        ap length (render-law (spelt ws log) ∙ ap ended spelt-lines-are)
+        ap length (render-law (spelt ws log) ∙ ap ended (lines-opened (spelt ws log)))
         ∙ omega (
           arith,
-          length-ended-more identifier (keywordLines ws (log .arguments) ++ behind),
-          length-ended-more identifier (keywordLines (log .keywords) (log .arguments) ++ behind),
-          length-ended-append (keywordLines ws (log .arguments)) behind,
-          length-ended-append (keywordLines (log .keywords) (log .arguments)) behind,
+          length-ended-more identifier (keywordLines ws (log .arguments) ++ behindKeywords log),
+          length-ended-more identifier (keywordLines (log .keywords) (log .arguments) ++ behindKeywords log),
+          length-ended-append (keywordLines ws (log .arguments)) (behindKeywords log),
+          length-ended-append (keywordLines (log .keywords) (log .arguments)) (behindKeywords log),
           alike .1,
         )
-        ∙ sym (ap length (render-law log ∙ ap ended lines-are))
+        ∙ sym (ap length (render-law log ∙ ap ended (lines-opened log)))
 
   -- A log that is valid is so in any spelling that is read.
   pub spelt-rightly : Rightly R log → keywordRules entries ws ≡ true → Rightly R (spelt ws log)

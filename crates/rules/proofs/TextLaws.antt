@@ -4,7 +4,7 @@ use Prim.Native.Nat.{ℕ, zero, suc, _≤_}
 use native.Mathlib.Omega.{arith}
 use mathlib.Core.Path.{_≡_, refl, sym, ap, _∙_}
 use mathlib.Core.Logic.{⊎-elim}
-use mathlib.Core.Bool.{Bool, true, false, cond, not}
+use mathlib.Core.Bool.{Bool, true, false, cond, not, _&&_}
 use mathlib.Core.List.{List, [], _∷_, _++_}
 use lib.Dec.{eqb}
 use lib.ListN.{length, take, drop, take-append-drop}
@@ -29,6 +29,15 @@ module _ (f : ℕ → Bool) where
   unfolding all
   all-back [] t e = e
   all-back (c ∷ s) t e = all-back s t (and-r (f c) (all f (s ++ t)) e)
+
+  pub all-split : (s t : Text) → all f (s ++ t) ≡ (all f s && all f t)
+  unfolding all
+  all-split [] t = refl
+  all-split (c ∷ s) t = by (f c) (all-split s t)
+    where
+      by : (b : Bool) → all f (s ++ t) ≡ (all f s && all f t) → (b && all f (s ++ t)) ≡ (b && all f s && all f t)
+      by true e = e
+      by false e = refl
 
   pub all-drop : (n : ℕ) (s : Text) → all f s ≡ true → all f (drop n s) ≡ true
   all-drop n s e = all-back (take n s) (drop n s) (rw (take-append-drop n s) e)

@@ -23,6 +23,7 @@ use Rattle.rules.specs.Log.{Log, identifier, remarksLine, countStart, co
 use Rattle.rules.specs.Reading.{RecordRule, keeps, breaks, recordRule, recordsDue, whole, spellingOn, argumentOn, hasKeyword, keywordLine, keywordDue, countRule, afterRecord, step, Reading, accepted, refused, atRest, spellingDue, argumentDue, withLine, put, onNext, walk}
 use Rattle.rules.proofs.Tests.{never, and-l, and-r, and-i, not-false}
 use Rattle.rules.proofs.TextLaws.{span-run, same-eq, same-refl, begins-split}
+use Rattle.rules.proofs.LogLaws.{lines-opened}
 use Rattle.rules.proofs.SpellingLaws.{HasKeyword, spelling-on, argument-on, keyword-had, keyword-has}
 use Rattle.rules.proofs.NumberLaws.{value-digits, digits-all, digits-value, digits-from, number-from}
 use Rattle.rules.proofs.FieldLaws.{parts-of-record, record-kept, record-is, record-of-fields}
@@ -437,12 +438,6 @@ module _ (R : Rules) where
 
   -- # The whole log
 
-  lines-of : (log : Log) → linesOf log ≡ identifier ∷ (keywordLines (log .keywords) (log .arguments) ++ behind (log .remarks) (log .records))
-  unfolding linesOf
-  lines-of log =
-      ap {B = List Text} (λ r. identifier ∷ r)
-      (append-assoc (keywordLines (log .keywords) (log .arguments)) (remarksLine ∷ log .remarks) (countLine (length (log .records)) ∷ recordLines (log .records)))
-
   pub record LogIs (ls : List Text) (rest : Text) (log : Log) : Type 0 where
     pub noMore : rest ≡ []
     pub theLines : ls ≡ linesOf log
@@ -479,7 +474,7 @@ module _ (R : Rules) where
       let k = keywords-are entries 0 (n + 1) ls rest log refl reads in
       record {
         noMore = k .noMore;
-        theLines = ap {B = List Text} (λ x. x ∷ ls) (g .0) ∙ ap {B = List Text} (λ x. identifier ∷ x) (k .theLines) ∙ sym (lines-of log);
+        theLines = ap {B = List Text} (λ x. x ∷ ls) (g .0) ∙ ap {B = List Text} (λ x. identifier ∷ x) (k .theLines) ∙ sym (lines-opened log);
         spellings = k .spellings;
         rulesOfArguments = k .rulesOfArguments;
         remarkRules = k .remarkRules;
@@ -492,7 +487,7 @@ module _ (R : Rules) where
   log-leads n log c a m f r =
       let keywords = keywordLines (log .keywords) (log .arguments) ++ behind (log .remarks) (log .records) in
       let more : walk R (Keyword 0) (n + 1) keywords [] ≡ accepted log = rw first-keyword at (keywords-lead (log .remarks) (log .records) m f r entries 0 (n + 1) (log .keywords) (log .arguments) refl c a) in
-      rw (lines-of log)
+      rw (lines-opened log)
       (walk-goes R Identifier (Keyword 0) n identifier keywords [] log
       (unfold step in whole-goes identifier (Keyword 0))
       more

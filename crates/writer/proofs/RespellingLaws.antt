@@ -16,6 +16,7 @@ use Rattle.reader.specs.Contact.{between}
 use Rattle.reader.proofs.DueLaws.{entryAt, entry-due, entries-length}
 use Rattle.reader.proofs.RecordsHeld.{ended-append}
 use Rattle.rules.proofs.Format.{render-law}
+use Rattle.rules.proofs.LogLaws.{behindKeywords, lines-opened}
 use Rattle.rules.proofs.SpellingLaws.{case-length, length-start, spelling-count, respelt-none}
 use Rattle.rules.proofs.Tests.{never, and-l, and-r}
 use Rattle.rules.proofs.TextLaws.{all-back, span-run}
@@ -235,9 +236,6 @@ module _ (k at : ℕ) (s : Text) (h : k < 36) (l : KeywordsLie (drop k entries) 
 -- # The log
 
 module _ (log : Log) (rest : Text) where
-  abbrev behind : List Text
-  behind = remarksLine ∷ log .remarks ++ countLine (length (log .records)) ∷ map recordLine (log .records)
-
   -- What stands in front of the keywords has fourteen characters.
   abbrev opening : Text
   opening = ended (identifier ∷ [])
@@ -246,21 +244,15 @@ module _ (log : Log) (rest : Text) where
   unfolding identifier ended crlf
   opening-length = refl
 
-  lines-are : (ws : List Text) → linesOf (spelt ws log) ≡ identifier ∷ (keywordLines ws (log .arguments) ++ behind)
-  unfolding linesOf
-  lines-are ws =
-      ap {B = List Text} (λ r. identifier ∷ r)
-      (append-assoc (keywordLines ws (log .arguments)) (remarksLine ∷ log .remarks) (countLine (length (log .records)) ∷ map recordLine (log .records)))
-
   -- The text of the log in a spelling, by the lines of its keywords.
-  text-is : (ws : List Text) → render (spelt ws log) ++ rest ≡ linesOn (ended behind ++ rest) opening ws (log .arguments)
+  text-is : (ws : List Text) → render (spelt ws log) ++ rest ≡ linesOn (ended (behindKeywords log) ++ rest) opening ws (log .arguments)
   text-is ws =
-      ap (λ (t : Text). t ++ rest) (render-law (spelt ws log) ∙ ap ended (lines-are ws) ∙ ended-append (identifier ∷ []) (keywordLines ws (log .arguments) ++ behind) ∙ ap (λ (t : Text). opening ++ t) (ended-append (keywordLines ws (log .arguments)) behind))
+      ap (λ (t : Text). t ++ rest) (render-law (spelt ws log) ∙ ap ended (lines-opened (spelt ws log)) ∙ ended-append (identifier ∷ []) (keywordLines ws (log .arguments) ++ behindKeywords log) ∙ ap (λ (t : Text). opening ++ t) (ended-append (keywordLines ws (log .arguments)) (behindKeywords log)))
       ∙ simp append-assoc
 
   module _ (ws : List Text) (c : keywordRules entries ws ≡ true) (n : length (log .arguments) ≡ length ws) (r : every (all allowed) (keywordLines ws (log .arguments)) ≡ true) where
-    respelled-both : (respelled entries (length opening) (linesOn (ended behind ++ rest) opening ws (log .arguments)) ≡ linesOn (ended behind ++ rest) opening (keywordsOf entries) (log .arguments)) × KeywordsLie entries (length opening) (linesOn (ended behind ++ rest) opening ws (log .arguments))
-    respelled-both = respelled-lines (ended behind ++ rest) entries opening ws (log .arguments) all-five c n r
+    respelled-both : (respelled entries (length opening) (linesOn (ended (behindKeywords log) ++ rest) opening ws (log .arguments)) ≡ linesOn (ended (behindKeywords log) ++ rest) opening (keywordsOf entries) (log .arguments)) × KeywordsLie entries (length opening) (linesOn (ended (behindKeywords log) ++ rest) opening ws (log .arguments))
+    respelled-both = respelled-lines (ended (behindKeywords log) ++ rest) entries opening ws (log .arguments) all-five c n r
 
     respelled-log : respelled entries 14 (render (spelt ws log) ++ rest) ≡ render (spelt (keywordsOf entries) log) ++ rest
     respelled-log =
