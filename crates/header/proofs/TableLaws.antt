@@ -1,12 +1,14 @@
 -- The code's table of keywords is the paper's: each word is the keyword and its `=`.
 -- Assumes nothing.
-use Prim.Native.Nat.{ℕ, zero, suc, _≤_, _<_}
+use Prim.Native.Nat.{ℕ, zero, suc, _-_, _≤_, _<_}
 use native.Mathlib.Nat.{le-of-suc-le-suc, not-suc-le-zero}
 use mathlib.Core.Bool.{Bool, true, false, cond}
 use mathlib.Core.List.{List, [], _∷_, map}
 use mathlib.Core.Path.{_≡_, refl, sym, ap, ap₂, _∙_}
 use lib.Dec.{T, eqb, eqb→eq}
-use lib.ListN.{length, drop, getD, replicate, drop-of-length-le}
+use lib.ListN.{length, drop, getD, replicate, length-drop, List·getD-map, drop-of-length-le}
+use native.Mathlib.Omega.{arith}
+use Rattle.rules.proofs.SpellingLaws.{keyword-in-table}
 use Rattle.rules.specs.Arguments.{Entry, entries}
 use Rattle.rules.specs.Log.{keywordStart, keywordsOf}
 use Rattle.rules.specs.Text.{Text, begins, lower}
@@ -93,3 +95,13 @@ listed-beyond k h = sym (beyond words k h)
     beyond [] k h = refl
     beyond (w ∷ ws) zero h = absurd (not-suc-le-zero h)
     beyond (w ∷ ws) (suc k) h = beyond ws k (le-of-suc-le-suc h)
+
+-- It is the keyword of the entry there, and its `=`.
+pub listed-entry : (k : ℕ) (e : Entry) (rest : List Entry) → drop k entries ≡ e ∷ rest → listedAt k ≡ keywordStart (e .keyword)
+unfolding words
+listed-entry k e rest h =
+    let some : length entries - k ≡ suc (length rest) = sym (length-drop k entries) ∙ ap length h in
+    let many : length entries ≡ 36 = unfold entries in refl in
+    sym (listed-within k (omega arith) (keywordStart []))
+    ∙ List·getD-map keywordStart (keywordsOf entries) k []
+    ∙ ap keywordStart (sym (keyword-in-table entries k e rest h))

@@ -27,7 +27,7 @@ no-records (refused r) h = (refl, refl)
 
 -- How many keywords are respelt, of an accepted log and of a refused one.
 few-respelt : (s : Text) (r : Reading) → read base s ≡ r → respeltOfReading (read base s) ≤ 36
-few-respelt s (accepted log) e = (spellings-counted base s log e) .1
+few-respelt s (accepted log) e = (spellings-counted base s log e) .few
 few-respelt s (refused r) e = omega (arith, refused-reading base s r e .1)
 
 no-view : (v : Viewing) → (Accepts ((viewFace v) .refusal) → ⊥) → ((viewFace v) .start ≡ 0) × ((viewFace v) .length ≡ 0) × ((viewFace v) .listed ≡ 0)
@@ -59,7 +59,7 @@ told-by-read s =
       place = (line-and-field-told base) .reading s;
       refused = no-records (read base s);
       respelt = few-respelt s (read base s) refl;
-      listed = λ log w. (spellings-counted base s log (accepted-when-written base s log .1 w)) .0;
+      listed = λ log w. (spellings-counted base s log (accepted-when-written base s log .1 w)) .none;
     }
 
 told-by-view : (s : Text) (k : ℕ) → ToldByView s k (viewFace (view base k s))

@@ -6,12 +6,12 @@ use mathlib.Core.Path.{_≡_, refl, sym, ap, ap₂, _∙_}
 use mathlib.Core.Bool.{Bool, true, false, not, _&&_}
 use mathlib.Core.List.{List, [], _∷_, _++_, map, append-assoc}
 use lib.Dec.{T, eqb}
-use lib.ListN.{length, drop, getD, replicate, length-append, length-drop, length-take}
+use lib.ListN.{length, drop, getD, length-append, length-drop, length-take}
 use lib.Seq.{drop-at}
 use Rattle.rules.specs.Text.{Text, same, sameButCase, begins, value, parts, allowed, span}
 use Rattle.rules.specs.Rules.{Rules}
 use Rattle.rules.specs.Arguments.{Entry, entries, meets, countBonusMultiplier, count, bonus, multiplier, part}
-use Rattle.rules.specs.Log.{Log, identifier, argumentIn, argument, remarksLine, countLine, recordLine, keywordStart, keywordLines, keywordsOf, linesOf, render, keywordRules, argumentRules, valid}
+use Rattle.rules.specs.Log.{Log, identifier, argumentIn, argument, remarksLine, countLine, recordLine, keywordStart, keywordLines, linesOf, render, keywordRules, argumentRules, valid}
 use Rattle.rules.specs.Reading.{read, accepted}
 use Rattle.rules.specs.Judging.{declared, Declared as Judged}
 use Rattle.rules.specs.Answers.{argumentStart, isListed}
@@ -22,6 +22,7 @@ use Rattle.rules.proofs.LogLaws.{argument-count, behindKeywords, lines-opened}
 use Rattle.rules.proofs.Bounds.{each-at}
 use Rattle.rules.proofs.Format.{accepted-when-written, of-valid}
 use Rattle.header.specs.Header.{listedAt}
+use Rattle.header.proofs.TableLaws.{listed-entry}
 use Rattle.reader.specs.Contact.{valueBy}
 use Rattle.reader.specs.Read.{claimsStart}
 use Rattle.places.specs.declared.Declared.{Declared}
@@ -58,16 +59,6 @@ five = refl
 all-apart : apart entries ≡ true
 unfolding apart everyEntry entries same
 all-apart = refl
-
--- The keyword as it is listed at a place of the table.
-listed-there : (j : ℕ) (e : Entry) (rest : List Entry) → drop j entries ≡ e ∷ rest → listedAt j ≡ keywordStart (e .keyword)
-unfolding listedAt keywordsOf
-listed-there j e rest h = in-table entries j e rest h
-  where
-    in-table : (es : List Entry) (j : ℕ) (e : Entry) (rest : List Entry) → drop j es ≡ e ∷ rest → getD (map keywordStart (map (λ (d : Entry). d .keyword) es)) j (replicate 6 0) ≡ keywordStart (e .keyword)
-    in-table [] j e rest h = none-left j e rest h
-    in-table (d ∷ es) zero e rest h = let g : d ≡ e = cc in ap (λ (f : Entry). keywordStart (f .keyword)) g
-    in-table (d ∷ es) (suc j) e rest h = in-table es j e rest h
 
 module _ (R : Rules) where
   -- The line at a place, how its keyword is spelt, the rule that its argument keeps, and that it is the argument of its keyword.
@@ -177,7 +168,7 @@ module _ (R : Rules) (s : Text) (log : Log) (w : read R s ≡ accepted log) wher
     keyword-told : begins (listedAt j) (lineTextAt s (lineStart s (suc j))) ≡ same (e .keyword) word
     keyword-told =
         let t = getD (log .arguments) j [] in
-        ap₂ begins (listed-there j e rest h) line-is
+        ap₂ begins (listed-entry j e rest h) line-is
         ∙ listed-spelt e (keywordStart word ++ t) (keyword-had e word t spelt-so)
         ∙ ap (same (e .keyword)) (spelling-on e word t spelt-so)
 

@@ -1,26 +1,27 @@
 -- A valid log whose keywords are spelt otherwise, but for nothing more than the case of their letters, is valid, is judged alike and is written
 -- back alike; and how many are spelt otherwise is told rightly.
 -- Assumes nothing.
-use Prim.Native.Nat.{ℕ, _+_, _≤_}
+use Prim.Native.Nat.{ℕ, zero, suc, _+_, _-_, _≤_, _<_}
 use native.Mathlib.Omega.{arith}
 use mathlib.Core.Path.{_≡_, refl, sym, ap, ap₂, _∙_}
-use mathlib.Core.Bool.{Bool, true, false, cond, _&&_}
+use mathlib.Core.Bool.{Bool, true, false, cond, not, _&&_}
 use mathlib.Core.List.{List, [], _∷_, _++_, map}
 use lib.Dec.{leb}
-use lib.ListN.{length, length-append}
+use lib.ListN.{length, drop, getD, length-append}
+use lib.Seq.{drop-cons}
 use borrow.Author.Tests.{leb-true, le-leb}
-use Rattle.rules.specs.Text.{Text, bytes, all, allowed, capital, lower, sameButCase}
+use Rattle.rules.specs.Text.{Text, bytes, all, allowed, capital, lower, same, sameButCase}
 use Rattle.rules.specs.Rules.{Rules}
-use Rattle.rules.specs.Arguments.{Entry, entries, every}
-use Rattle.rules.specs.Log.{Log, argument, identifier, keywordStart, keywordLines, respelt, linesOf, ended, render, lineRule, keywordRules, valid}
+use Rattle.rules.specs.Arguments.{Entry, entries, anything, every}
+use Rattle.rules.specs.Log.{Log, argument, identifier, keywordStart, keywordLines, keywordsOf, respelt, linesOf, ended, render, lineRule, keywordRules, valid}
 use Rattle.rules.specs.Judging.{declared, verdictsOfLog, totalsOfLog}
 use Rattle.rules.specs.Writing.{writtenBack}
 use Rattle.rules.specs.Reading.{accepted, read}
-use Rattle.rules.specs.Answers.{respeltOfReading}
-use Rattle.rules.specs.Demands.{spelt, EitherCaseIsTakenAlike, SpellingsAreCounted}
+use Rattle.rules.specs.Answers.{respeltOfReading, view, viewOfReading, isListed, listedOfView}
+use Rattle.rules.specs.Demands.{spelt, EitherCaseIsTakenAlike, sumOver, howMany, spelledAsListed, SpellingsAreCounted}
 use Rattle.rules.proofs.Tests.{so, holds, never, and-l, and-r, and-i}
 use Rattle.rules.proofs.TextLaws.{all-split, same-eq}
-use Rattle.rules.proofs.SpellingLaws.{case-length, length-start, spelling-count, none-respelt, respelt-none, respelt-most}
+use Rattle.rules.proofs.SpellingLaws.{case-length, length-start, keyword-in-table, spelling-count, none-respelt, respelt-none, respelt-most}
 use Rattle.rules.proofs.LogLaws.{every-split, length-ended-more, length-ended-append, behindKeywords, lines-opened}
 use Rattle.rules.proofs.Format.{Rightly, valid-of, of-valid, render-law, accepted-when-written}
 
@@ -147,18 +148,61 @@ either-case R s log ws e b =
       writtenAlike = spelt-written R log ws;
     }
 
-counted : (s : Text) (R : Rules) (log : Log) → read R s ≡ accepted log → respeltOfReading (read R s) ≡ respelt entries (log .keywords)
-unfolding respeltOfReading
-counted s R log e = rw e
+-- # How many are respelt
+
+same-sums : (n : ℕ) (f g : ℕ → ℕ) → ((j : ℕ) → f j ≡ g j) → sumOver n f ≡ sumOver n g
+unfolding sumOver
+same-sums zero f g h = refl
+same-sums (suc n) f g h = ap₂ (λ (a b : ℕ). a + b) (h 0) (same-sums n (λ j. f (suc j)) (λ j. g (suc j)) (λ j. h (suc j)))
+
+-- They are counted one by one.
+one-by-one : (es : List Entry) (ws : List Text) → length ws ≡ length es → respelt es ws ≡ howMany (length es) (λ j. not (same (getD (keywordsOf es) j []) (getD ws j [])))
+unfolding respelt keywordsOf sumOver
+one-by-one [] [] n = refl
+one-by-one [] (w ∷ ws) n = absurd (omega arith)
+one-by-one (e ∷ es) [] n = absurd (omega arith)
+one-by-one (e ∷ es) (w ∷ ws) n = ap₂ (λ (a b : ℕ). a + b) (by (same (e .keyword) w)) (one-by-one es ws (omega arith))
+  where
+    by : (b : Bool) → _≡_ {A = ℕ} (cond b 0 1) (cond (not b) 1 0)
+    by true = refl
+    by false = refl
+
+module _ (R : Rules) (s : Text) (log : Log) (e : read R s ≡ accepted log) where
+  respelt-is : respeltOfReading (read R s) ≡ respelt entries (log .keywords)
+  unfolding respeltOfReading
+  respelt-is = rw e
+
+  many : length (log .keywords) ≡ length entries
+  many =
+      let v = accepted-when-written R s log .0 e in
+      spelling-count entries (log .keywords) (of-valid R log (so (valid R log) (v .0)) .spellings)
+
+  -- The place before the next is this one.
+  places-are : howMany 36 (λ j. not (same (getD (keywordsOf entries) j []) (getD (log .keywords) j []))) ≡ howMany 36 (λ j. not (spelledAsListed log (suc j)))
+  places-are = same-sums 36 (λ j. cond (not (same (getD (keywordsOf entries) j []) (getD (log .keywords) j []))) 1 0) (λ j. cond (not (spelledAsListed log (suc j))) 1 0) (λ j. let one : j ≡ suc j - 1 = omega arith in ap (λ (i : ℕ). cond (not (same (getD (keywordsOf entries) i []) (getD (log .keywords) i []))) 1 0) one)
+
+  counted : respeltOfReading (read R s) ≡ howMany 36 (λ j. not (spelledAsListed log (suc j)))
+  unfolding entries
+  counted = respelt-is ∙ one-by-one entries (log .keywords) many ∙ places-are
+
+  -- A view's own keyword.
+  viewing : (k : ℕ) → 1 ≤ k → k ≤ 36 → listedOfView (view R k s) ≡ spelledAsListed log k
+  unfolding view viewOfReading listedOfView isListed
+  viewing k low high =
+      let few : k - 1 < length entries = unfold entries in omega arith in
+      let none : Entry = record { keyword = []; rule = anything } in
+      let left = drop-cons entries (k - 1) none few in
+      rw (le-leb 1 k low, e, left) (ap (λ (w : Text). same w (getD (log .keywords) (k - 1) [])) (keyword-in-table entries (k - 1) (getD entries (k - 1) none) (drop (suc (k - 1)) entries) left))
 
 pub spellings-counted : (R : Rules) → SpellingsAreCounted R
 spellings-counted R s log e =
-    let v = accepted-when-written R s log .0 e in
-    let n = spelling-count entries (log .keywords) (of-valid R log (so (valid R log) (v .0)) .spellings) in
-    let c = counted s R log e in (
-      (
-        λ z. respelt-none entries (log .keywords) n (sym c ∙ z),
+    let c = respelt-is R s log e in
+    record {
+      counted = counted R s log e;
+      none = (
+        λ z. respelt-none entries (log .keywords) (many R s log e) (sym c ∙ z),
         λ l. c ∙ ap (respelt entries) l ∙ none-respelt entries,
-      ),
-      rw c (unfold entries in respelt-most entries (log .keywords)),
-    )
+      );
+      few = rw c (unfold entries in respelt-most entries (log .keywords));
+      viewing = viewing R s log e;
+    }

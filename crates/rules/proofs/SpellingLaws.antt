@@ -1,14 +1,14 @@
 -- Laws of how a keyword is spelt: the listed spelling is one of those that are read, none changes a length, and a line that has a keyword is its
 -- spelling, its `=` and its argument.
 -- Assumes nothing.
-use Prim.Native.Nat.{ℕ, suc, _+_, _≤_}
+use Prim.Native.Nat.{ℕ, zero, suc, _+_, _≤_}
 use native.Mathlib.Omega.{arith}
 use mathlib.Core.Path.{_≡_, refl, sym, ap, _∙_}
 use mathlib.Core.Logic.{_↔_}
 use mathlib.Core.Bool.{Bool, true, false, cond, _&&_}
 use mathlib.Core.List.{List, [], _∷_, _++_, map, append-assoc}
 use lib.Dec.{eqb}
-use lib.ListN.{length, take, drop, length-map, length-append, take-append-drop}
+use lib.ListN.{length, take, drop, getD, length-map, length-append, take-append-drop}
 use lib.Seq.{drop-drop, take-append-seam, drop-append-seam}
 use Rattle.rules.specs.Text.{Text, bytes, same, lower, sameButCase, begins}
 use Rattle.rules.specs.Arguments.{Entry}
@@ -113,6 +113,14 @@ listed-spelt e l h = by (same (e .keyword) (spellingOn e l)) refl (keyword-has e
     by false s q = fails (begins (keywordStart word) l) (λ b. clash (same-of-eq word (spellingOn e l) (sym (spelt-so b))) s)
 
 -- # The spellings of all keywords
+
+-- The keyword of the entry at a place of the list.
+pub keyword-in-table : (es : List Entry) (j : ℕ) (d : Entry) (rest : List Entry) → drop j es ≡ d ∷ rest → d .keyword ≡ getD (keywordsOf es) j []
+unfolding keywordsOf
+keyword-in-table [] zero d rest h = let z : _≡_ {A = ℕ} 0 1 = cc in absurd (omega arith)
+keyword-in-table [] (suc j) d rest h = let z : _≡_ {A = ℕ} 0 1 = cc in absurd (omega arith)
+keyword-in-table (c ∷ es) zero d rest h = let g : c ≡ d = cc in ap (λ (x : Entry). x .keyword) (sym g)
+keyword-in-table (c ∷ es) (suc j) d rest h = keyword-in-table es j d rest h
 
 pub listed-spelling : (es : List Entry) → keywordRules es (keywordsOf es) ≡ true
 unfolding keywordRules keywordsOf

@@ -115,14 +115,6 @@ EitherCaseIsTakenAlike R =
     T (keywordRules entries keywords) →
     TakenAlike R log (spelt keywords log)
 
--- W1: "the keyword matcher now also says whether the spelling was the listed one": of an accepted log, none of the 36 is counted exactly where
--- all stand in the listed spelling.
-abbrev pub SpellingsAreCounted : Rules → Type 0
-SpellingsAreCounted R =
-    (s : Text) (log : Log) →
-    read R s ≡ accepted log →
-    ((respeltOfReading (read R s) ≡ 0) ↔ (log .keywords ≡ keywordsOf entries)) × (respeltOfReading (read R s) ≤ 36)
-
 -- The record and the verdict at a place of a list, the first of which is 0.
 abbrev pub qsoAt : List Qso → ℕ → Qso
 qsoAt qs j =
@@ -204,6 +196,21 @@ sumOver (suc n) f = f 0 + sumOver n (λ j. f (suc j))
 
 abbrev pub howMany : ℕ → (ℕ → Bool) → ℕ
 howMany n test = sumOver n (λ j. cond (test j) 1 0)
+
+-- W1: "the keyword matcher now also says whether the spelling was the listed one, and all who call it carry that on": the k-th keyword of a log is
+-- spelt as the k-th of the list.
+abbrev pub spelledAsListed : Log → ℕ → Bool
+spelledAsListed log k = same (getD (keywordsOf entries) (k - 1) []) (getD (log .keywords) (k - 1) [])
+
+-- Of an accepted log, how many of the 36 are not; none exactly where all stand in the listed spelling. A view says it of its own.
+pub record SpellingsAreTold (R : Rules) (s : Text) (log : Log) : Type 0 where
+  pub counted : respeltOfReading (read R s) ≡ howMany 36 (λ j. not (spelledAsListed log (suc j)))
+  pub none : (respeltOfReading (read R s) ≡ 0) ↔ (log .keywords ≡ keywordsOf entries)
+  pub few : respeltOfReading (read R s) ≤ 36
+  pub viewing : (k : ℕ) → 1 ≤ k → k ≤ 36 → listedOfView (view R k s) ≡ spelledAsListed log k
+
+abbrev pub SpellingsAreCounted : Rules → Type 0
+SpellingsAreCounted R = (s : Text) (log : Log) → read R s ≡ accepted log → SpellingsAreTold R s log
 
 -- "So four counts, each defined over the list of records"; "Countries are counted by the claimed New-DXCC marks on credited records. P is the
 -- sum of credited points. A bonus is the number of new ones times the declared bonus. Total = (P + three bonuses) x the three declared

@@ -6,11 +6,11 @@ use mathlib.Core.Bool.{Bool, true, false, cond}
 use mathlib.Core.List.{List, [], _∷_, _++_, map, append-assoc}
 use mathlib.Core.Path.{_≡_, refl, sym, ap, ap₂, subst, subst₂, _∙_}
 use lib.Dec.{eqb}
-use lib.ListN.{length, take, drop, length-append, List·getD-map, drop-of-length-le}
+use lib.ListN.{length, take, drop, length-append, drop-of-length-le}
 use lib.Seq.{take-append-seam, drop-append-seam, drop-append-add, drop-drop}
 use borrow.Author.Tests.{eqb-true, eq-eqb, ne-eqb}
 use Rattle.header.specs.Header.{listedAt}
-use Rattle.header.proofs.TableLaws.{word-length, listed-within}
+use Rattle.header.proofs.TableLaws.{word-length, listed-within, listed-entry}
 use Rattle.places.proofs.HeaderHeld.{everyEntry}
 use Rattle.reader.specs.Contact.{between}
 use Rattle.reader.proofs.DueLaws.{entryAt, entry-due, entries-length}
@@ -20,7 +20,7 @@ use Rattle.rules.proofs.LogLaws.{behindKeywords, lines-opened}
 use Rattle.rules.proofs.SpellingLaws.{case-length, length-start, spelling-count, respelt-none}
 use Rattle.rules.proofs.Tests.{never, and-l, and-r}
 use Rattle.rules.proofs.TextLaws.{all-back, span-run}
-use Rattle.rules.specs.Arguments.{Entry, entries, anything, every}
+use Rattle.rules.specs.Arguments.{Entry, entries, every}
 use Rattle.rules.specs.Log.{Log, identifier, remarksLine, countLine, keywordStart, keywordLines, keywordsOf, respelt, keywordRules, recordLine, linesOf, crlf, ended, render}
 use Rattle.rules.specs.Demands.{spelt}
 use Rattle.rules.specs.Text.{Text, all, allowed, span, sameButCase}
@@ -164,11 +164,7 @@ relisted-some count s f = sym (relisted-law count s ∙ ap (λ (b : Bool). cond 
 
 -- The keyword that is handed out is that of the entry.
 listed-word : (k : ℕ) → k < 36 → listedAt k ≡ keywordStart ((entryAt k) .keyword)
-unfolding listedAt keywordsOf
-listed-word k h =
-    sym (listed-within k h (keywordStart []))
-    ∙ List·getD-map keywordStart (keywordsOf entries) k []
-    ∙ ap keywordStart (List·getD-map (λ (e : Entry). e .keyword) entries k (record { keyword = []; rule = anything }))
+listed-word k h = listed-entry k (entryAt k) (drop (suc k) entries) (entry-due k h)
 
 pub listed-six : (k : ℕ) → k < 36 → length (listedAt k) ≡ 6
 listed-six k h = ap length (sym (listed-within k h [])) ∙ sym (word-length k [] h)
