@@ -16,6 +16,13 @@ Inv-loop word s i₀ i = begins (map lower word) (map lower s) ≡ begins (drop 
 abbrev μ-loop : tie.MeasureT-loop
 μ-loop word s i₀ i = length word - i
 
+-- The places of a turn: its start, and the call's.
+abbrev looped : tie.After-lower2 Inv-loop μ-loop → tie.At-loop Inv-loop μ-loop
+looped c = c .before .before .before .before .before
+
+abbrev begun : tie.At-loop Inv-loop μ-loop → tie.Start Inv-loop μ-loop
+begun l = l .before .before .before .before
+
 returns : tie.Need-returns Inv-loop μ-loop
 returns c = case-short (now (c .before .before .before .args .word)) (now (c .before .before .before .args .s)) (c .if1 .taken)
 
@@ -36,9 +43,10 @@ lower-requires-2 c κs = tt
 
 returns-2 : tie.Need-returns-2 Inv-loop μ-loop
 returns-2 c =
+    let l = looped (c .before) in
     sym
-    (c .before .before .before .before .before .before .loop .inv
-    ∙ case-differs (now (c .before .before .before .before .before .before .before .before .before .before .args .word)) (now (c .before .before .before .before .before .before .before .before .before .before .args .s)) (c .before .before .before .before .before .before .loop .i) (search needs) (search needs) (λ e. c .if2 .taken (c .before .before .before .lower .ensures ∙ e ∙ sym (c .before .lower2 .ensures))))
+    (l .loop .inv
+    ∙ case-differs (now (begun l .args .word)) (now (begun l .args .s)) (l .loop .i) (search needs) (search needs) (λ e. c .if2 .taken (c .before .before .before .lower .ensures ∙ e ∙ sym (c .before .lower2 .ensures))))
 
 add-i : tie.Need-add-i Inv-loop μ-loop
 add-i c = search needs
@@ -48,8 +56,9 @@ loop-less c = search needs
 
 loop-again : tie.Need-loop-again Inv-loop μ-loop
 loop-again c =
-    c .before .before .before .before .before .before .loop .inv
-    ∙ case-more (now (c .before .before .before .before .before .before .before .before .before .before .args .word)) (now (c .before .before .before .before .before .before .before .before .before .before .args .s)) (c .before .before .before .before .before .before .loop .i) (search needs) (search needs) (sym (c .before .before .before .lower .ensures) ∙ c .if2 .left ∙ c .before .lower2 .ensures)
+    let l = looped (c .before) in
+    l .loop .inv
+    ∙ case-more (now (begun l .args .word)) (now (begun l .args .s)) (l .loop .i) (search needs) (search needs) (sym (c .before .before .before .lower .ensures) ∙ c .if2 .left ∙ c .before .lower2 .ensures)
 
 returns-3 : tie.Need-returns-3 Inv-loop μ-loop
 returns-3 c =

@@ -22,6 +22,13 @@ Inv-loop out₀ respelt at₀ k₀ out at k =
 abbrev μ-loop : tie.MeasureT-loop
 μ-loop out₀ respelt at₀ k₀ out at k = 36 - k
 
+-- The places of a turn: its start, and behind the keyword that is handed out.
+abbrev looped : tie.After-word Inv-loop μ-loop → tie.At-loop Inv-loop μ-loop
+looped w = w .before .before .before .before
+
+abbrev worded : tie.After-put-part Inv-loop μ-loop → tie.After-word Inv-loop μ-loop
+worded p = p .before
+
 returns : tie.Need-returns Inv-loop μ-loop
 returns c = relisted-none _ _ (c .if1 .taken)
 
@@ -36,7 +43,7 @@ slice-aggregate-put-part c = search needs
 
 put-part-requires : tie.Need-put-part-requires Inv-loop μ-loop
 put-part-requires c κs =
-    let l = c .before .before .before .before in
+    let l = looped c in
     (omega arith, omega (arith, ap length (c .before .before .listed .ensures), listed-six (l .loop .k) (search needs)), keyword-room (l .loop .k) (l .loop .at) (l .loop .out) (search needs) (l .loop .inv .1))
 
 line-behind-requires : tie.Need-line-behind-requires Inv-loop μ-loop
@@ -52,9 +59,10 @@ loop-less c = search needs
 
 loop-again : tie.Need-loop-again Inv-loop μ-loop
 loop-again c =
-    let l = c .before .before .before .before .before .before .before .before .before in
-    let word = c .before .before .before .before .before .before .before .listed .ensures in
-    let put = c .before .before .before .before .put-part .ensures in
+    let p = c .before .before .before .before in
+    let l = looped (worded p) in
+    let word = worded p .before .before .listed .ensures in
+    let put = p .put-part .ensures in
     let next = c .line-behind .ensures in (
       search needs,
       lie-more (l .loop .k) (l .loop .at) (l .loop .out) (search needs) (l .loop .inv .1) word put next,
