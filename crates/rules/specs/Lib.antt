@@ -8,10 +8,12 @@ pub mod Judging
 pub mod Writing
 pub mod Reading
 pub mod Answers
+pub mod Mending
 pub mod Given
 pub mod Striking
 pub mod Desk
 pub mod Demands
+pub mod MendingDemands
 pub mod Cases
 pub mod TableArguments
 pub mod TableFields

@@ -62,6 +62,16 @@ pub enum Next {
     Stops { number: u32, field: u32 },
 }
 
+// Where a line of a chewed log lies, as far as one can tell from the lines in front of it.
+pub enum Region {
+    // In front of `[Remarks]`, or that line itself.
+    Head,
+    // Behind it, up to the count line.
+    Remarks,
+    // Behind the count line.
+    Records,
+}
+
 // # The limits
 
 // Each limit stands here once, and once in the base rules; its function says that the two are one, and whoever asks it knows the limit by the
