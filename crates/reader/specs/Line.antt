@@ -1,7 +1,7 @@
 -- A line of a log: where it ends, and how many semicolons it has.
 -- Assumes nothing.
 use Prim.Native.Nat.{ℕ, _+_}
-use mathlib.Core.Bool.{cond}
+use mathlib.Core.Bool.{Bool, cond, not}
 use mathlib.Core.List.{[], _∷_}
 use lib.Dec.{eqb}
 use lib.ListN.{length, drop}
@@ -19,6 +19,10 @@ lineFrom at noLine = LineRead.Missing
 unfoldable pub lineAt : Rules → Text → ℕ → LineRead
 unfolding lineFrom firstLine
 lineAt R s at = lineFrom at (firstLine R (drop at s))
+
+-- A character is another than this one.
+abbrev pub otherThan : ℕ → ℕ → Bool
+otherThan b c = not (eqb c b)
 
 -- How many semicolons a text has: one less than it has parts.
 unfoldable pub semicolonsIn : Text → ℕ

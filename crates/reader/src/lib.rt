@@ -13,7 +13,7 @@ ghost use Rattle.rules.specs.Reading.{countRule, recordsDue, step, whole};
 ghost use Rattle.header.specs.Header.{argumentOf};
 ghost use Rattle.fields.specs.Field.{inField, textAt};
 ghost use Rattle.figures.specs.Figure.{numberAt};
-ghost use Rattle.reader.specs.Line.{lineAt, semicolonsIn};
+ghost use Rattle.reader.specs.Line.{lineAt, otherThan, semicolonsIn};
 ghost use Rattle.reader.specs.Contact.{fieldStart, lastEnd};
 ghost use Rattle.reader.specs.Record.{brokenAt, brokenFrom, datedAt, parsedAt, recordAt, recordOn, scoreRule};
 ghost use Rattle.reader.specs.Read.{afterArgument, claimsBy, countedBy, early, headOf, readOf, recordsTold, stepOf};
@@ -120,18 +120,25 @@ pub fn line_end(s: &[u8], at: usize) -> LineRead
     LineRead::Missing
 }
 
-// The place behind the field that begins here: a semicolon stands there, or the line ends.
-pub fn field_end(s: &[u8], at: usize) -> usize
-    ensures { λ r. ⌜ r ≡ at + span inField (drop at (now (s .entry))) ⌝ }
+// The first place from here on where this byte stands, or the end of the text.
+pub fn run_to(s: &[u8], at: usize, b: u8) -> usize
+    ensures { λ r. ⌜ r ≡ at + span (otherThan b) (drop at (now (s .entry))) ⌝ }
 {
     let mut i = at;
     while i < s.len() {
-        if s[i] == 59 {
+        if s[i] == b {
             return i;
         }
         i += 1;
     }
     i
+}
+
+// The place behind the field that begins here: a semicolon stands there, or the line ends.
+pub fn field_end(s: &[u8], at: usize) -> usize
+    ensures { λ r. ⌜ r ≡ at + span inField (drop at (now (s .entry))) ⌝ }
+{
+    run_to(s, at, 59)
 }
 
 // How many semicolons a line has.

@@ -1,5 +1,6 @@
 -- The laws of the writer, from a text laid over a list to a log as a whole, and what is shown.
 pub mod WrittenLaws
+pub mod TextLaid
 pub mod TextsLaws
 pub mod NumberLaws
 pub mod RecordWritten

@@ -1,8 +1,10 @@
 -- Texts put together one behind the other, and laid over what a lent slice holds.
 -- Assumes nothing.
 use Prim.Native.Nat.{ℕ, zero, suc, _+_, _≤_}
+use mathlib.Core.Bool.{Bool}
 use mathlib.Core.List.{List, [], _∷_, _++_}
 use mathlib.Core.Path.{_≡_}
+use lib.Dec.{leb}
 use lib.ListN.{length, take, drop, getD}
 use Rattle.rules.specs.Text.{Text}
 
@@ -23,6 +25,10 @@ startOf gap first ends (suc i) = getD ends i 0 + gap
 -- The list with the text laid over it from a place on; all else of it stays.
 unfoldable pub written : List ℕ → ℕ → Text → List ℕ
 written d at t = take at d ++ t ++ drop (at + length t) d
+
+-- The list has room for a text from a place on.
+abbrev pub hasRoom : List ℕ → ℕ → Text → Bool
+hasRoom d at t = leb (at + length t) (length d)
 
 -- A text that fits was laid over the list from a place on: what the list is now, and the place behind the text.
 pub record Puts (d : List ℕ) (at : ℕ) (t : Text) (e : List ℕ) (r : ℕ) : Type 0 where

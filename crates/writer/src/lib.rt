@@ -12,7 +12,7 @@ ghost use Rattle.rules.specs.Answers.{over};
 ghost use Rattle.rules.specs.Arguments.{entries};
 ghost use Rattle.rules.specs.Desk.{shownTotals, shownRefusal, desk};
 ghost use Rattle.rules.specs.Fields.{newMark, duplicateMark};
-ghost use Rattle.rules.specs.Log.{crlf};
+ghost use Rattle.rules.specs.Log.{countLine, crlf};
 ghost use Rattle.rules.specs.Rules.{base};
 ghost use Rattle.rules.specs.Text.{digits};
 ghost use Rattle.writer.specs.ClaimsText.{claimNumbers, lineBehind, claimStarts, claimEnds, claimsText};
@@ -20,7 +20,7 @@ ghost use Rattle.writer.specs.Respelling.{KeywordsLie, relisted};
 ghost use Rattle.writer.specs.Given.{ClaimsBegin, ClaimsLie, RecordLies, RecordsLie, Writable};
 ghost use Rattle.writer.specs.LogText.{wroteOf, writtenAfterwards};
 ghost use Rattle.writer.specs.RecordText.{saysDuplicate, markText, marksText, zeroText, recordText, recordsText};
-ghost use Rattle.writer.specs.Written.{Puts};
+ghost use Rattle.writer.specs.Written.{Puts, hasRoom, written};
 use judge::Judged;
 use judge::Weighed;
 use reader::Heading;
@@ -524,4 +524,31 @@ pub fn show(log: &[u8], out: &mut [u8; SHOWN]) -> usize
         Judged::Totals(t) => show_totals(t, out),
         Judged::Refused(r) => show_refusal(r, out),
     }
+}
+
+// # For those who lay other texts over a slice
+
+// A text is laid over the slice from a place on, where there is room for all of it, and otherwise nothing is. Tells the place behind what was laid.
+pub fn put_text(out: &mut [u8], at: usize, text: &[u8]) -> usize
+    ensures answer { λ r. ⌜ r ≡ cond (hasRoom (now (out .entry)) at (now (text .entry))) (at + length (now (text .entry))) at ⌝ }
+    ensures slice { λ r. ⌜ now (out .exit) ≡ cond (hasRoom (now (out .entry)) at (now (text .entry))) (written (now (out .entry)) at (now (text .entry))) (now (out .entry)) ⌝ }
+{
+    if out.len() < at {
+        return at;
+    }
+    if out.len() - at < text.len() {
+        return at;
+    }
+    put_part(out, at, text, 0, text.len())
+}
+
+// Room for a count line: its word of twelve bytes, a number of twenty digits at most, and `]`.
+pub const COUNT_LINE: usize = 33;
+
+// The count line of so many records is laid over the front of the slice. Tells how long it is.
+pub fn count_line(out: &mut [u8; COUNT_LINE], n: u64) -> usize
+    ensures answer { λ r. ⌜ r ≡ length (countLine n) ⌝ }
+    ensures slice { λ r. ⌜ now (out .exit) ≡ over (countLine n) (now (out .entry)) ⌝ }
+{
+    put_word(out, 0, b"[QSORecords;", n, 93)
 }
