@@ -173,23 +173,24 @@ fn lay(s: &[u8], at: usize, region: Region, follow: usize) -> Laid
     ensures { λ l. ⌜ Lays region (now (s .entry)) at follow l ⌝ }
 {
     let c = cut_at(s, at);
+    let end = c.end;
     match region {
         Region::Head => {
-            if header::same_text(&s[at..c.end], b"[Remarks]") {
-                return laid_as(c, c.end, 0, Region::Remarks);
+            if header::same_text(&s[at..end], b"[Remarks]") {
+                return laid_as(c, end, 0, Region::Remarks);
             }
-            laid_as(c, c.end, 0, Region::Head)
+            laid_as(c, end, 0, Region::Head)
         }
         Region::Remarks => {
-            if header::begins_with(b"[QSORecords;", &s[at..c.end]) {
-                return laid_as(c, c.end, count_done(&s[at..c.end], follow), Region::Records);
+            if header::begins_with(b"[QSORecords;", &s[at..end]) {
+                return laid_as(c, end, count_done(&s[at..end], follow), Region::Records);
             }
-            laid_as(c, c.end, 0, Region::Remarks)
+            laid_as(c, end, 0, Region::Remarks)
         }
         Region::Records => {
-            let end = trimmed_end(s, at, c.end);
-            if end < c.end {
-                return laid_as(c, end, 3, Region::Records);
+            let last = trimmed_end(s, at, end);
+            if last < end {
+                return laid_as(c, last, 3, Region::Records);
             }
             laid_as(c, end, 0, Region::Records)
         }
@@ -305,7 +306,8 @@ fn laid_next(due: Due, s: &[u8], at: usize, l: Laid, follow: usize) -> Next
     if rules::longest_line() < l.end - at {
         return no_line_due(due);
     }
-    let stepped = reader::step(due, &s[at..l.end]);
+    let end = l.end;
+    let stepped = reader::step(due, &s[at..end]);
     stepped.next
 }
 
@@ -406,7 +408,8 @@ fn put_laid(out: &mut [u8], to: usize, s: &[u8], at: usize, l: Laid, follow: usi
     if l.second == 4 {
         return put_count(out, to, follow);
     }
-    writer::put_text(out, to, &s[at..l.end])
+    let end = l.end;
+    writer::put_text(out, to, &s[at..end])
 }
 
 // The line with its CR LF.

@@ -1,0 +1,3 @@
+-- Laws of the mender's functions.
+pub mod KindLaws
+pub mod CountLaws
