@@ -35,4 +35,5 @@ pub mod WritingAnswer
 pub mod WritingSets
 pub mod TotalLaws
 pub mod OneAnswer
+pub mod MendingLaws
 pub mod AllProved
