@@ -36,4 +36,5 @@ pub mod WritingSets
 pub mod TotalLaws
 pub mod OneAnswer
 pub mod MendingLaws
+pub mod MendingGiven
 pub mod AllProved
