@@ -37,4 +37,5 @@ pub mod TotalLaws
 pub mod OneAnswer
 pub mod MendingLaws
 pub mod MendingGiven
+pub mod MendingStays
 pub mod AllProved
