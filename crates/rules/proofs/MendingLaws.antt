@@ -1,12 +1,12 @@
 -- Laws of the lines of a chewed text and of what is done to one line: lines that were ended are found again, no line holds LF, and what was done to
 -- a line once is done.
 -- Assumes nothing.
-use Prim.Native.Nat.{ℕ, _≤_}
-use mathlib.Core.Path.{_≡_, refl, sym, ap, _∙_}
+use Prim.Native.Nat.{ℕ, suc, _≤_}
+use mathlib.Core.Path.{_≡_, refl, sym, ap, ap₂, _∙_}
 use mathlib.Core.Bool.{Bool, true, false, cond, not, _&&_, and-false}
-use mathlib.Core.List.{List, [], _∷_, _++_, map, append-assoc}
+use mathlib.Core.List.{List, [], _∷_, _++_, map, map-map, append-assoc}
 use lib.Dec.{leb, eqb}
-use lib.ListN.{length, drop}
+use lib.ListN.{length, drop, length-map}
 use lib.Seq.{drop-append-seam}
 use native.Mathlib.Omega.{arith}
 use borrow.Author.Tests.{not-true, leb-true, le-leb, ne-eqb}
@@ -15,7 +15,7 @@ use Rattle.rules.specs.declared.Region.the-variants.{Head, Remarks, Reco
 use Rattle.rules.specs.Text.{Text, bytes, allowed, digit, empty, all, span, begins, number, digits}
 use Rattle.rules.specs.Arguments.{every}
 use Rattle.rules.specs.Log.{countStart, countLine, crlf, ended}
-use Rattle.rules.specs.Mending.{ChewedLine, inFront, chewedLines, endsInCr, withoutCr, MendedLine, endDone, endMended, trimmed, digitsThenEnd, hasCount, countSet, changedTo, regionAfter, lineMended}
+use Rattle.rules.specs.Mending.{ChewedLine, inFront, chewedLines, endsInCr, withoutCr, MendedLine, endDone, endMended, trimmed, digitsThenEnd, hasCount, countSet, changedTo, regionAfter, lineMended, linesMended, mendedLines, textsOf, mendedText}
 use Rattle.rules.specs.MendingDemands.{lineTexts}
 use Rattle.rules.proofs.Tests.{never, and-l, and-r, and-i, not-false}
 use Rattle.rules.proofs.TextLaws.{all-append, all-weaker, span-run, same-refl, begins-front}
@@ -83,6 +83,14 @@ ends-kept (l ∷ ls) = rw (end-kept l, ends-kept ls)
 
 pub ended-kept : (ls : List Text) → every (all noLf) ls ≡ true → map endMended (chewedLines (ended ls)) ≡ map untouched ls
 ended-kept ls e = ap (map endMended) (ended-lines ls e) ∙ ends-kept ls
+
+pub line-texts-ended : (ls : List Text) → every (all noLf) ls ≡ true → lineTexts (ended ls) ≡ ls
+unfolding lineTexts
+line-texts-ended ls e = ap (map (λ (l : ChewedLine). withoutCr (l .text))) (ended-lines ls e) ∙ without-ends ls
+  where
+    without-ends : (ls : List Text) → map (λ (l : ChewedLine). withoutCr (l .text)) (map endedLine ls) ≡ ls
+    without-ends [] = refl
+    without-ends (l ∷ ls) = rw (without-behind l, without-ends ls)
 
 -- No line holds LF.
 abbrev pub chewedTexts : List ChewedLine → List Text
@@ -261,3 +269,50 @@ unfolding setTo
 set-clean Head n t e = e
 set-clean Remarks n t e = set-cases n t (λ u. all noLf u ≡ true) e (λ h. count-clean n)
 set-clean Records n t e = trimmed-clean noLf t e
+
+-- # All lines
+
+pub mended-more : (region : Region) (l : MendedLine) (ls : List MendedLine) → linesMended region (l ∷ ls) ≡ lineMended region (length ls) l ∷ linesMended (regionAfter region (l .text)) ls
+unfolding linesMended
+mended-more region l ls = refl
+
+-- What the texts of lines become, the first of which lies here.
+unfoldable pub setLines : Region → List Text → List Text
+setLines region [] = []
+setLines region (l ∷ ls) = setTo region (length ls) l ∷ setLines (regionAfter region l) ls
+
+pub length-set : (region : Region) (ls : List Text) → length (setLines region ls) ≡ length ls
+unfolding setLines
+length-set region [] = refl
+length-set region (l ∷ ls) = ap suc (length-set (regionAfter region l) ls)
+
+lines-set-clean : (region : Region) (ls : List Text) → every (all noLf) ls ≡ true → every (all noLf) (setLines region ls) ≡ true
+unfolding setLines every
+lines-set-clean region [] e = refl
+lines-set-clean region (l ∷ ls) e =
+    let others = every (all noLf) ls in
+    and-i (set-clean region (length ls) l (and-l (all noLf l) others e)) (lines-set-clean (regionAfter region l) ls (and-r (all noLf l) others e))
+
+texts-set : (region : Region) (ls : List MendedLine) → textsOf (linesMended region ls) ≡ setLines region (textsOf ls)
+unfolding textsOf setLines
+texts-set region [] = unfold linesMended in refl
+texts-set region (l ∷ ls) =
+    let first : (lineMended region (length ls) l) .text ≡ setTo region (length (textsOf ls)) (l .text) = rw (length-map ls (λ l. l .text)) (mended-text region (length ls) l) in
+    ap textsOf (mended-more region l ls)
+    ∙ ap₂ {C = List Text} (λ t ts. t ∷ ts) first (texts-set (regionAfter region (l .text)) ls)
+
+-- The texts of the lines of a mended text: those of the lines as they came, each set.
+pub texts-of-lines : (s : Text) → textsOf (map endMended (chewedLines s)) ≡ lineTexts s
+unfolding textsOf lineTexts endMended
+texts-of-lines s = map-map (λ (l : MendedLine). l .text) endMended (chewedLines s)
+
+pub texts-mended : (s : Text) → textsOf (mendedLines s) ≡ setLines Head (lineTexts s)
+unfolding mendedLines
+texts-mended s = texts-set Head (map endMended (chewedLines s)) ∙ ap (setLines Head) (texts-of-lines s)
+
+pub mended-is : (s : Text) → mendedText s ≡ ended (setLines Head (lineTexts s))
+unfolding mendedText
+mended-is s = ap ended (texts-mended s)
+
+pub mended-clean : (s : Text) → every (all noLf) (setLines Head (lineTexts s)) ≡ true
+mended-clean s = lines-set-clean Head (lineTexts s) (line-texts-clean s)

@@ -4,7 +4,7 @@
 use Prim.Native.Nat.{ℕ, _+_, _≤_}
 use mathlib.Core.Path.{_≡_, refl, sym, ap, ap₂, _∙_}
 use mathlib.Core.Logic.{inl, inr}
-use mathlib.Core.Bool.{Bool, true, false, not}
+use mathlib.Core.Bool.{Bool, true, false, cond, not}
 use mathlib.Core.List.{List, [], _∷_, _++_, map}
 use lib.Dec.{leb, eqb}
 use lib.ListN.{length, drop, length-map}
@@ -12,19 +12,19 @@ use native.Mathlib.Omega.{arith}
 use borrow.Author.Tests.{not-true, eqb-true, eq-eqb, ne-eqb}
 use Rattle.rules.specs.declared.Region.{Region}
 use Rattle.rules.specs.declared.Region.the-variants.{Head, Remarks, Records}
-use Rattle.rules.specs.Text.{Text, allowed, all, lower, same, sameButCase, begins, semicolon, joined}
+use Rattle.rules.specs.Text.{Text, bytes, allowed, all, lower, same, sameButCase, begins, semicolon, joined}
 use Rattle.rules.specs.Rules.{Rules}
 use Rattle.rules.specs.Fields.{Qso, emptyOr, duplicateMark, fieldRules, fieldsOf}
 use Rattle.rules.specs.Arguments.{Entry, entries, every}
 use Rattle.rules.specs.Log.{Log, identifier, remarksLine, countStart, countLine, keywordStart, keywordLines, keywordsOf, recordLine, linesOf, ended, lineRule, keywordRules, remarkRule, conjunction, recordRules, valid, FollowsTheFormat}
-use Rattle.rules.specs.Mending.{chewedLines, MendedLine, endMended, trimmed, regionAfter, lineMended, linesMended, mendedLines, textsOf, mendedText, changesFrom, changesIn, changes, Rooms, mended, mend}
-use Rattle.rules.specs.MendingDemands.{AcceptedComesOutUnchanged, ListIsTooLong}
+use Rattle.rules.specs.Mending.{chewedLines, MendedLine, endMended, trimmed, hasCount, regionAfter, lineMended, linesMended, mendedLines, textsOf, mendedText, changesFrom, changesIn, changes, Rooms, mended, mend}
+use Rattle.rules.specs.MendingDemands.{AcceptedComesOutUnchanged, MendedOnceIsMended, bareLine, bareLines, lineTexts, bare, NothingElseChanges, ListIsTooLong}
 use Rattle.rules.proofs.Tests.{so, holds, never, clash, and-l, and-r, and-i}
 use Rattle.rules.proofs.TextLaws.{same-eq}
 use Rattle.rules.proofs.LogLaws.{behindKeywords, lines-opened}
 use Rattle.rules.proofs.Format.{Rightly, of-valid, render-law, accepted-when-written}
 use Rattle.rules.proofs.ValidLogs.{rule-at}
-use Rattle.rules.proofs.MendingLaws.{noLf, allowed-no-lf, untouched, ended-kept, trimmed-behind, count-begins, set-of-count, set-of-none, setTo, mended-untouched}
+use Rattle.rules.proofs.MendingLaws.{noLf, allowed-no-lf, untouched, ended-kept, trimmed-behind, count-begins, set-of-count, set-of-none, setTo, mended-untouched, mended-more, line-texts-ended, set-twice, region-kept, setLines, length-set, mended-is, mended-clean, count-has, trimmed-twice, set-cases}
 use Rattle.rules.proofs.MendingGiven.{mend-all}
 
 -- # Lines that stay
@@ -33,10 +33,6 @@ use Rattle.rules.proofs.MendingGiven.{mend-all}
 abbrev pub Settled : Region → List Text → Type 0
 Settled region [] = Unit {0}
 Settled region (l ∷ ls) = (setTo region (length ls) l ≡ l) × Settled (regionAfter region l) ls
-
-pub mended-more : (region : Region) (l : MendedLine) (ls : List MendedLine) → linesMended region (l ∷ ls) ≡ lineMended region (length ls) l ∷ linesMended (regionAfter region (l .text)) ls
-unfolding linesMended
-mended-more region l ls = refl
 
 settled-lines : (region : Region) (ls : List Text) → Settled region ls → linesMended region (map untouched ls) ≡ map untouched ls
 settled-lines region [] k = unfold linesMended in refl
@@ -198,3 +194,41 @@ accepted-stays R s log e =
         let format : FollowsTheFormat R (mendedText s) = rw text (log, accepted-when-written R s log .0 e) in
         let fits : ListIsTooLong rooms s → ⊥ = rw list (elim [ inl x ↦ omega arith | inr x ↦ omega arith ]) in
         mend-all R rooms s short format fits (rw text h) ∙ ap₂ mended text list
+
+-- # A mended text
+
+-- Lines that were set stay.
+set-settled : (region : Region) (ls : List Text) → Settled region (setLines region ls)
+unfolding setLines
+set-settled region [] = tt
+set-settled region (l ∷ ls) = (
+  rw (length-set (regionAfter region l) ls) (set-twice region (length ls) l),
+  rw (region-kept region (length ls) l) (set-settled (regionAfter region l) ls),
+)
+
+pub mended-once : MendedOnceIsMended
+mended-once s =
+    let stays : Stays (mendedText s) = rw (mended-is s) (settled-stays (setLines Head (lineTexts s)) (mended-clean s) (set-settled Head (lineTexts s))) in
+    (stays .text, stays .list)
+
+-- Without what is set, a line is what it was.
+bare-set : (region : Region) (n : ℕ) (l : Text) → bareLine region (setTo region n l) ≡ bareLine region l
+unfolding bareLine setTo
+bare-set Head n l = refl
+bare-set Remarks n l =
+    set-cases n l (λ t. cond (hasCount t) (countStart ++ bytes "]") t ≡ cond (hasCount l) (countStart ++ bytes "]") l) refl
+    (λ e. rw (count-has n, e))
+bare-set Records n l = trimmed-twice l
+
+bare-lines-set : (region : Region) (ls : List Text) → bareLines region (setLines region ls) ≡ bareLines region ls
+unfolding bareLines setLines
+bare-lines-set region [] = refl
+bare-lines-set region (l ∷ ls) =
+    ap₂ {C = List Text} (λ t ts. t ∷ ts) (bare-set region (length ls) l)
+    (ap (λ (r : Region). bareLines r (setLines (regionAfter region l) ls)) (region-kept region (length ls) l) ∙ bare-lines-set (regionAfter region l) ls)
+
+pub nothing-else : NothingElseChanges
+unfolding bare
+nothing-else s =
+    ap (bareLines Head) (ap lineTexts (mended-is s) ∙ line-texts-ended (setLines Head (lineTexts s)) (mended-clean s))
+    ∙ bare-lines-set Head (lineTexts s)
