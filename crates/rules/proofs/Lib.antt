@@ -38,4 +38,5 @@ pub mod OneAnswer
 pub mod MendingLaws
 pub mod MendingGiven
 pub mod MendingStays
+pub mod MendingEnds
 pub mod AllProved
