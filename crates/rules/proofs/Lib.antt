@@ -39,4 +39,7 @@ pub mod MendingLaws
 pub mod MendingGiven
 pub mod MendingStays
 pub mod MendingEnds
+pub mod MendingPlaces
+pub mod MendingDone
+pub mod MendingTold
 pub mod AllProved

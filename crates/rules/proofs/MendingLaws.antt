@@ -200,18 +200,23 @@ pub set-of-count : (n : ℕ) → countSet n (countLine n) ≡ countLine n
 unfolding countSet
 set-of-count n = rw (count-has n)
 
-pub set-of-none : (n : ℕ) (t : Text) → begins countStart t ≡ false → countSet n t ≡ t
-unfolding countSet hasCount
+pub set-of-none : (n : ℕ) (t : Text) → hasCount t ≡ false → countSet n t ≡ t
+unfolding countSet
 set-of-none n t e = rw e
 
--- What holds of every text and of the count line holds of a line whose count is set.
-pub set-cases : (n : ℕ) (t : Text) (P : Text → Type 0) → P t → (hasCount t ≡ true → P (countLine n)) → P (countSet n t)
+-- No other line has one.
+pub none-begun : (t : Text) → begins countStart t ≡ false → hasCount t ≡ false
+unfolding hasCount
+none-begun t e = rw e
+
+-- A line whose count is set is the count line, or what it was.
+pub set-cases : (n : ℕ) (t : Text) (P : Text → Type 0) → (hasCount t ≡ false → P t) → (hasCount t ≡ true → P (countLine n)) → P (countSet n t)
 unfolding countSet
-set-cases n t P one other = by (hasCount t) refl
+set-cases n t P kept set = by (hasCount t) refl
   where
     by : (b : Bool) → hasCount t ≡ b → P (cond b (countLine n) t)
-    by true e = other e
-    by false e = one
+    by true e = set e
+    by false e = kept e
 
 count-clean : (n : ℕ) → all noLf (countLine n) ≡ true
 unfolding countLine
@@ -247,27 +252,23 @@ mended-untouched Records n t e = none-changed 3 (trimmed t) t e
 
 -- A line that was set is set, lies where it lay, and holds no LF if it held none.
 pub set-twice : (region : Region) (n : ℕ) (t : Text) → setTo region n (setTo region n t) ≡ setTo region n t
-unfolding setTo countSet
+unfolding setTo
 set-twice Head n t = refl
-set-twice Remarks n t = by (hasCount t) refl
-  where
-    by : (b : Bool) → hasCount t ≡ b → countSet n (cond b (countLine n) t) ≡ cond b (countLine n) t
-    by true e = set-of-count n
-    by false e = rw e
+set-twice Remarks n t = set-cases n t (λ u. countSet n u ≡ u) (set-of-none n t) (λ e. set-of-count n)
 set-twice Records n t = trimmed-twice t
 
 pub region-kept : (region : Region) (n : ℕ) (t : Text) → regionAfter region (setTo region n t) ≡ regionAfter region t
 unfolding setTo regionAfter
 region-kept Head n t = refl
 region-kept Remarks n t =
-    set-cases n t (λ u. cond (begins countStart u) Records Remarks ≡ cond (begins countStart t) Records Remarks) refl
+    set-cases n t (λ u. cond (begins countStart u) Records Remarks ≡ cond (begins countStart t) Records Remarks) (λ e. refl)
     (λ e. rw (count-begins n, has-begins t e))
 region-kept Records n t = refl
 
 pub set-clean : (region : Region) (n : ℕ) (t : Text) → all noLf t ≡ true → all noLf (setTo region n t) ≡ true
 unfolding setTo
 set-clean Head n t e = e
-set-clean Remarks n t e = set-cases n t (λ u. all noLf u ≡ true) e (λ h. count-clean n)
+set-clean Remarks n t e = set-cases n t (λ u. all noLf u ≡ true) (λ h. e) (λ h. count-clean n)
 set-clean Records n t e = trimmed-clean noLf t e
 
 -- # All lines

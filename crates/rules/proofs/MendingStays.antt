@@ -24,7 +24,7 @@ use Rattle.rules.proofs.TextLaws.{same-eq}
 use Rattle.rules.proofs.LogLaws.{behindKeywords, lines-opened}
 use Rattle.rules.proofs.Format.{Rightly, of-valid, render-law, accepted-when-written}
 use Rattle.rules.proofs.ValidLogs.{rule-at}
-use Rattle.rules.proofs.MendingLaws.{noLf, allowed-no-lf, untouched, ended-kept, trimmed-behind, count-begins, set-of-count, set-of-none, setTo, mended-untouched, mended-more, line-texts-ended, set-twice, region-kept, setLines, length-set, mended-is, mended-clean, count-has, trimmed-twice, set-cases}
+use Rattle.rules.proofs.MendingLaws.{noLf, allowed-no-lf, untouched, ended-kept, trimmed-behind, count-begins, set-of-count, set-of-none, none-begun, setTo, mended-untouched, mended-more, line-texts-ended, set-twice, region-kept, setLines, length-set, mended-is, mended-clean, count-has, trimmed-twice, set-cases}
 use Rattle.rules.proofs.MendingGiven.{mend-all}
 
 -- # Lines that stay
@@ -116,7 +116,7 @@ unfolding every remarkRule setTo regionAfter
 remarks-settled [] rest e k = k
 remarks-settled (l ∷ ms) rest e k =
     let none : begins countStart l ≡ false = not-true (begins countStart l) (and-l (remarkRule l) (every remarkRule ms) e) in (
-      set-of-none (length (ms ++ rest)) l none,
+      set-of-none (length (ms ++ rest)) l (none-begun l none),
       rw none (remarks-settled ms rest (and-r (remarkRule l) (every remarkRule ms) e) k),
     )
 
@@ -216,7 +216,7 @@ bare-set : (region : Region) (n : ℕ) (l : Text) → bareLine region (setTo reg
 unfolding bareLine setTo
 bare-set Head n l = refl
 bare-set Remarks n l =
-    set-cases n l (λ t. cond (hasCount t) (countStart ++ bytes "]") t ≡ cond (hasCount l) (countStart ++ bytes "]") l) refl
+    set-cases n l (λ t. cond (hasCount t) (countStart ++ bytes "]") t ≡ cond (hasCount l) (countStart ++ bytes "]") l) (λ e. refl)
     (λ e. rw (count-has n, e))
 bare-set Records n l = trimmed-twice l
 
