@@ -42,4 +42,5 @@ pub mod MendingEnds
 pub mod MendingPlaces
 pub mod MendingDone
 pub mod MendingTold
+pub mod MenderKept
 pub mod AllProved
