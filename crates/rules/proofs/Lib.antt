@@ -1,4 +1,5 @@
--- The theorems about the definitions alone: laws of texts, lines and logs, then the three demands, and all of them joined.
+-- The theorems about the definitions alone: laws of texts, lines and logs, then the three demands, what is asked of the mender, and all of them
+-- joined.
 pub mod Tests
 pub mod TextLaws
 pub mod NumberLaws
