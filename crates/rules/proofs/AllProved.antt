@@ -1,5 +1,5 @@
 -- The three demands, all of them: what `specs/Demands.antt` states is proved, of any rules under which the claims that are recomputed have room
--- in their places, and so of the base rules.
+-- in their places, and so of the base rules; and with them what is asked of the mender.
 -- Assumes nothing.
 use Rattle.rules.specs.Rules.{Rules, base}
 use Rattle.rules.specs.Demands.{TheThreeDemands, TheBaseKeepsThem}
@@ -8,6 +8,7 @@ use Rattle.rules.proofs.Classes.{four-counts, calls-byte-for-byte, clas
 use Rattle.rules.proofs.Falls.{striking-rule}
 use Rattle.rules.proofs.Format.{accepted-when-written, accepted-format}
 use Rattle.rules.proofs.GivenCalls.{given-exactly-when, zero-when-accepted, line-and-field-told}
+use Rattle.rules.proofs.MenderKept.{the-mender}
 use Rattle.rules.proofs.PremiseNeeded.{premise-is-needed}
 use Rattle.rules.proofs.Refusals.{every-input, refused-with, refused-reading, refused-judging, refused-writing, refused-view}
 use Rattle.rules.proofs.Respelt.{either-case, spellings-counted}
@@ -54,4 +55,5 @@ the-three-demands =
       callsAreComparedByteForByte = calls-byte-for-byte;
       theMostTotal = the-most-total;
       premiseIsNeeded = premise-is-needed;
+      theMender = the-mender base;
     }

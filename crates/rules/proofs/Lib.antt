@@ -1,4 +1,5 @@
--- The theorems about the definitions alone: laws of texts, lines and logs, then the three demands, and all of them joined.
+-- The theorems about the definitions alone: laws of texts, lines and logs, then the three demands, what is asked of the mender, and all of them
+-- joined.
 pub mod Tests
 pub mod TextLaws
 pub mod NumberLaws
@@ -35,4 +36,12 @@ pub mod WritingAnswer
 pub mod WritingSets
 pub mod TotalLaws
 pub mod OneAnswer
+pub mod MendingLaws
+pub mod MendingGiven
+pub mod MendingStays
+pub mod MendingEnds
+pub mod MendingPlaces
+pub mod MendingDone
+pub mod MendingTold
+pub mod MenderKept
 pub mod AllProved

@@ -25,6 +25,7 @@ use Rattle.rules.specs.Reading.{accepted, refused, refusal, lines, read}
 use Rattle.rules.specs.Answers.{recordsOfReading, respeltOfReading, unseen, view, startOfView, viewed, listedOfView, unjudged, judge, totalsOfJudgement, numbersOfJudgement, written, unwritten, write, bytesOfWriting, over}
 use Rattle.rules.specs.Given.{GivenExactlyWhen, ZeroWhenAccepted, LineAndFieldToldRightly}
 use Rattle.rules.specs.Striking.{Places, strike, placeAfter, struckWorth}
+use Rattle.rules.specs.MendingDemands.{TheMender}
 
 -- # Demand 1
 
@@ -452,9 +453,11 @@ pub record TheThreeDemands (R : Rules) : Type 0 where
   pub struckIsAccepted : StruckIsAccepted R
   pub strikingRule : StrikingRule R
 
--- Of the base rules besides: "the same call, byte for byte", "It is at most 998,404,684,715,196", and that the premise is needed.
+-- Of the base rules besides: "the same call, byte for byte", "It is at most 998,404,684,715,196", that the premise is needed, and what W2 asks of
+-- the mender.
 pub record TheBaseKeepsThem : Type 0 where
   pub theThreeDemands : TheThreeDemands base
   pub callsAreComparedByteForByte : CallsAreComparedByteForByte
   pub theMostTotal : mostTotal base ≡ 998_404_684_715_196
   pub premiseIsNeeded : PremiseIsNeeded
+  pub theMender : TheMender base
