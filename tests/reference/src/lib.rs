@@ -9,12 +9,14 @@ pub mod faults;
 pub mod fields;
 pub mod generate;
 pub mod judging;
+pub mod mending;
 pub mod random;
 pub mod reading;
 pub mod values;
 pub mod writing;
 
 pub use judging::{judge, Totals};
+pub use mending::{mend, Change, Mended, Rooms};
 pub use reading::{read, view, Log, Refusal, View};
 pub use writing::write;
 
