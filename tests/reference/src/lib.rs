@@ -4,6 +4,7 @@
 //! with. It favours plain code over speed: what it answers should be evident
 //! from reading it beside the rules.
 
+pub mod chewing;
 pub mod draft;
 pub mod faults;
 pub mod fields;
