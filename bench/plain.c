@@ -20,6 +20,9 @@ enum { CQSOS = 26, CQSOP, CWWLS, CWWLB, CEXCS, CEXCB, CDXCS, CDXCB, CTOSC };
 enum { DATE, TIME, CALL, MODE, SENT_REPORT, SENT_NUMBER, GOT_REPORT, GOT_NUMBER, EXCHANGE, LOCATOR, POINTS, NEW_EXCHANGE, NEW_SQUARE, NEW_COUNTRY,
        DUPLICATE };
 
+/* Reading and mending share the rules of a line. Each has them in its own code, as it would if it were alone. */
+#define INLINE inline __attribute__((always_inline))
+
 /* A part of a log. */
 typedef struct {
     const uint8_t *at;
@@ -314,7 +317,7 @@ static bool same_but_for_case(const uint8_t *at, const char *name) {
 }
 
 /* What is wrong with a keyword's line, 0 if nothing is; and its argument, and whether the keyword is respelt. */
-static uint32_t keyword_fault(Text line, size_t keyword, Text *argument, bool *respelt) {
+static INLINE uint32_t keyword_fault(Text line, size_t keyword, Text *argument, bool *respelt) {
     if (line.length < KEYWORD_LENGTH + 1 || line.at[KEYWORD_LENGTH] != '=') return 3;
     const char *name = KEYWORD[keyword].name;
     *respelt = memcmp(line.at, name, KEYWORD_LENGTH) != 0;
@@ -368,7 +371,7 @@ static bool cut_record(Text line, Text *fields) {
 }
 
 /* The number of the first field that breaks its rule, from 1, or 0 if none does. */
-static uint32_t first_bad_field(const Text *fields, bool error, uint64_t *points) {
+static INLINE uint32_t first_bad_field(const Text *fields, bool error, uint64_t *points) {
     if (!is_short_date(fields[DATE]) && !(error && fields[DATE].length == 0)) return DATE + 1;
     if (!is_time(fields[TIME])) return TIME + 1;
     if (!is_call(fields[CALL])) return CALL + 1;
@@ -726,8 +729,8 @@ static SumpquinceRefusal record_fault(Text text, uint32_t number) {
     return bad == 0 ? ACCEPTED : refuse(5, number, bad);
 }
 
-/* Why the mended log is refused at this line, if it is, where the lines before it are fine. A count that is mended is left out: it may be too large, but
- * that is known only behind the last line. */
+/* Why the mended log is refused at this line, if it is, where the lines before it are fine. A count that is mended is left out: it may be too large,
+ * but that is known only behind the last line. */
 static SumpquinceRefusal line_fault(const Line *line, uint32_t number, Text digits) {
     if (line->counts && digits.length > 0) return ACCEPTED;
     if (!line->readable) return refuse(2, number, 0);
