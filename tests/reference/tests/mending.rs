@@ -13,10 +13,14 @@ const MARK_LINE: u32 = 38;
 const COUNT_LINE: u32 = 39;
 const LAST_LINE: u32 = 44;
 
+fn sample(name: &str) -> String {
+    let path = PathBuf::from(env!("CARGO_MANIFEST_DIR")).join("../../samples").join(name);
+    fs::read_to_string(path).unwrap()
+}
+
 /// A log with five records and no remarks.
 fn spring() -> String {
-    let path = PathBuf::from(env!("CARGO_MANIFEST_DIR")).join("../../samples/spring.edi");
-    fs::read_to_string(path).unwrap()
+    sample("spring.edi")
 }
 
 fn mended(log: &str) -> Result<Mended, Refusal> {
@@ -218,6 +222,14 @@ fn the_list_goes_by_line_and_then_by_kind() {
     // The count line as the last one.
     let text = "[Remarks]\n[QSORecords;00]";
     assert_eq!(changes_of(text), changes(&[(RETURN_PUT, 1), (LAST_LINE_ENDED, 2), (COUNT_SET, 2)]));
+}
+
+#[test]
+fn the_chewed_sample_is_mended() {
+    let mut wanted: Vec<(u8, u32)> = (1..=43).map(|line| (RETURN_PUT, line)).collect();
+    wanted.extend([(COUNT_SET, 39), (SPACES_DROPPED, 43), (LAST_LINE_ENDED, 44)]);
+    wanted.sort_by_key(|&(kind, line)| (line, kind));
+    restored(&sample("chewed.edi"), &wanted);
 }
 
 #[test]
