@@ -121,6 +121,6 @@ int main(void) {
     try_empty_log();
     try_empty_results(length);
     try_empty_lists(length);
-    printf("face: %d answers with null pointers, %d differences\n", tries, differences);
+    printf("face: %d tries of shapes and null pointers, %d differences\n", tries, differences);
     return differences == 0 ? 0 : 1;
 }

@@ -42,8 +42,12 @@ pub const CHEWED: &[(&str, usize, Maker)] = &[
     ("chewed/shrinks-from-the-limit", 1, shrinks_from_the_limit),
     ("chewed/longest-list", 1, longest_list),
     ("chewed/over-the-limit", 1, over_the_limit),
+    ("chewed/over-the-limit-and-broken", 1, over_the_limit_and_broken),
+    ("chewed/about-the-limit-no-digits", 1, about_the_limit_no_digits),
+    ("chewed/about-the-limit-no-mark", 1, about_the_limit_no_mark),
     ("chewed/too-long-but-for-spaces", 1, too_long_but_for_spaces),
     ("chewed/1000-lines", 1, a_thousand_lines),
+    ("chewed/1000-lines-and-broken", 1, a_thousand_lines_and_broken),
     ("chewed/return-behind", 1, return_behind),
     ("chewed/blank-lines-behind", 2, blank_lines_behind),
     ("chewed/no-digits", 2, no_digits),
@@ -344,20 +348,106 @@ fn over_the_limit(random: &mut Random) -> (Vec<u8>, Outcome) {
     chew(random, whole, chews)
 }
 
+fn over_the_limit_and_broken(random: &mut Random) -> (Vec<u8>, Outcome) {
+    let (mut log, outcome) = over_the_limit(random);
+    let at = random.below(log.len());
+    // The same length, and the same lines.
+    if !b"\r\n".contains(&log[at]) {
+        log[at] = *random.pick(b"\x00!~\xff");
+    }
+    (log, outcome)
+}
+
+/// Adds remarks, so that the log has this many bytes once each line ends in CR
+/// LF.
+fn fill(random: &mut Random, torn: &mut Torn, length: usize) {
+    let now: usize = torn.texts.iter().map(|text| text.len() + 2).sum();
+    let mut filling = Draft { keywords: Vec::new(), header: Vec::new(), remarks: Vec::new(), records: Vec::new() };
+    filling.pad(random, length - now);
+    let ends = vec![&b"\r\n"[..]; filling.remarks.len()];
+    torn.texts.splice(FIRST_REMARK..FIRST_REMARK, filling.remarks);
+    torn.ends.splice(FIRST_REMARK..FIRST_REMARK, ends);
+}
+
+fn about_the_limit(random: &mut Random) -> (usize, bool) {
+    let over = random.chance(50);
+    (LONGEST_LOG + usize::from(over), over)
+}
+
+/// Without a count that can be set spaces are dropped all the same, and that
+/// can bring the log within the limit.
+fn about_the_limit_no_digits(random: &mut Random) -> (Vec<u8>, Outcome) {
+    let made = draft::small_with_all_parts(random);
+    let mut torn = Torn::of(&made.bytes());
+    torn.texts[made.count_line()] = random.pick(&NO_DIGITS).as_bytes().to_vec();
+    let (length, over) = about_the_limit(random);
+    fill(random, &mut torn, length);
+    let count = torn.count_line().expect("there is a count line");
+    all_spaces(random, &mut torn);
+    all_line_feeds(random, &mut torn);
+    (torn.bytes(), if over { Outcome::Refused(Refusal::whole(1)) } else { refused(4, count) })
+}
+
+/// Without the mark spaces and count stay, and that can take the log over the
+/// limit.
+fn about_the_limit_no_mark(random: &mut Random) -> (Vec<u8>, Outcome) {
+    let mut made = draft::small_with_all_parts(random);
+    made.remarks.retain(|remark| remark != REMARKS_MARK);
+    let mut torn = Torn::of(&made.bytes());
+    all_spaces(random, &mut torn);
+    wrong_count(random, &mut torn);
+    torn.texts[REMARKS_LINE] = b"[remarks]".to_vec();
+    let (length, over) = about_the_limit(random);
+    fill(random, &mut torn, length);
+    all_line_feeds(random, &mut torn);
+    (torn.bytes(), if over { Outcome::Refused(Refusal::whole(1)) } else { refused(3, REMARKS_LINE) })
+}
+
 fn too_long_but_for_spaces(random: &mut Random) -> (Vec<u8>, Outcome) {
     let length = LONGEST_LOG + *random.pick(&[1, 1, 2, 100, 5_000]);
     filled_with_spaces(random, length)
 }
 
-fn a_thousand_lines(random: &mut Random) -> (Vec<u8>, Outcome) {
-    let made = full_draft(random);
-    let mut torn = Torn::of(&made.bytes());
+fn torn_of_a_thousand(random: &mut Random) -> Torn {
+    let mut torn = Torn::of(&full_draft(random).bytes());
     let more = torn.texts[torn.texts.len() - 1].clone();
     torn.texts.push(more);
     torn.ends.push(b"\r\n");
     one_line_feed(random, &mut torn);
     wrong_count(random, &mut torn);
-    (torn.bytes(), refused(4, made.count_line()))
+    torn
+}
+
+fn a_thousand_lines(random: &mut Random) -> (Vec<u8>, Outcome) {
+    let torn = torn_of_a_thousand(random);
+    let count = torn.count_line().expect("there is a count line");
+    (torn.bytes(), refused(4, count))
+}
+
+/// What is wrong in the head comes before the count, and what is wrong with a
+/// record behind it.
+fn a_thousand_lines_and_broken(random: &mut Random) -> (Vec<u8>, Outcome) {
+    let mut torn = torn_of_a_thousand(random);
+    let count = torn.count_line().expect("there is a count line");
+    let outcome = match random.below(3) {
+        0 => {
+            let place = random.between(1, REMARKS_LINE - 1);
+            torn.texts[place][0] = b'!';
+            refused(3, place)
+        }
+        1 => {
+            let place = random.between(count + 1, torn.texts.len() - 1);
+            torn.texts[place][0] = b'!';
+            refused(4, count)
+        }
+        // A blank line counts as any other.
+        _ => {
+            let last = torn.texts.len() - 1;
+            torn.texts[last].clear();
+            refused(4, count)
+        }
+    };
+    (torn.bytes(), outcome)
 }
 
 fn return_behind(random: &mut Random) -> (Vec<u8>, Outcome) {
