@@ -536,7 +536,7 @@ fn line_feed_inside(random: &mut Random) -> (Vec<u8>, Outcome) {
     let count = torn.count_line().expect("there is a count line");
     let place = if random.chance(75) { random.between(FIRST_REMARK, count - 1) } else { random.below(torn.texts.len()) };
     let at = random.below(torn.texts[place].len() + 1);
-    let end: &[u8] = *random.pick::<&[u8]>(&[b"\n", b"\n", b"\r\n", b"\n\r"]);
+    let end: &[u8] = random.pick::<&[u8]>(&[b"\n", b"\n", b"\r\n", b"\n\r"]);
     insert(&mut torn.texts[place], at, end);
     (torn.bytes(), Outcome::Open)
 }
