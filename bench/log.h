@@ -3,7 +3,7 @@
 #include <stdio.h>
 #include <stdlib.h>
 
-enum { LONGEST_LOG = 65535 };
+enum { LONGEST_LOG = 65535, MOST_CHANGES = 32767 };
 
 static uint8_t log_bytes[LONGEST_LOG + 1]; /* one byte more, to know a log that is too long */
 

@@ -20,6 +20,9 @@ enum { CQSOS = 26, CQSOP, CWWLS, CWWLB, CEXCS, CEXCB, CDXCS, CDXCB, CTOSC };
 enum { DATE, TIME, CALL, MODE, SENT_REPORT, SENT_NUMBER, GOT_REPORT, GOT_NUMBER, EXCHANGE, LOCATOR, POINTS, NEW_EXCHANGE, NEW_SQUARE, NEW_COUNTRY,
        DUPLICATE };
 
+/* Reading and mending share the rules of a line. Each has them in its own code, as it would if it were alone. */
+#define INLINE inline __attribute__((always_inline))
+
 /* A part of a log. */
 typedef struct {
     const uint8_t *at;
@@ -52,6 +55,10 @@ typedef struct {
 } Reader;
 
 static const SumpquinceRefusal ACCEPTED = {0, 0, 0};
+static const char IDENTIFIER[] = "[REG1TEST;1]";
+static const char REMARKS_MARK[] = "[Remarks]";
+static const char COUNT_START[] = "[QSORecords;";
+enum { COUNT_START_LENGTH = sizeof COUNT_START - 1 };
 
 static SumpquinceRefusal refuse(uint32_t number, uint32_t line, uint32_t field) {
     SumpquinceRefusal refusal = {number, line, field};
@@ -309,29 +316,36 @@ static bool same_but_for_case(const uint8_t *at, const char *name) {
     return true;
 }
 
-static SumpquinceRefusal read_keyword(Reader *reader, size_t keyword, Log *out) {
-    Text line;
-    if (!next_line(reader, &line)) return refuse_line(reader, 2);
-    if (line.length < KEYWORD_LENGTH + 1 || line.at[KEYWORD_LENGTH] != '=') return refuse_line(reader, 3);
+/* What is wrong with a keyword's line, 0 if nothing is; and its argument, and whether the keyword is respelt. */
+static INLINE uint32_t keyword_fault(Text line, size_t keyword, Text *argument, bool *respelt) {
+    if (line.length < KEYWORD_LENGTH + 1 || line.at[KEYWORD_LENGTH] != '=') return 3;
     const char *name = KEYWORD[keyword].name;
-    out->respelt[keyword] = memcmp(line.at, name, KEYWORD_LENGTH) != 0;
-    if (out->respelt[keyword] && !same_but_for_case(line.at, name)) return refuse_line(reader, 3);
-    Text argument = {line.at + KEYWORD_LENGTH + 1, line.length - KEYWORD_LENGTH - 1};
-    if (!KEYWORD[keyword].holds(argument)) return refuse_line(reader, 4);
+    *respelt = memcmp(line.at, name, KEYWORD_LENGTH) != 0;
+    if (*respelt && !same_but_for_case(line.at, name)) return 3;
+    argument->at = line.at + KEYWORD_LENGTH + 1;
+    argument->length = line.length - KEYWORD_LENGTH - 1;
+    return KEYWORD[keyword].holds(*argument) ? 0 : 4;
+}
+
+static SumpquinceRefusal read_keyword(Reader *reader, size_t keyword, Log *out) {
+    Text line, argument;
+    if (!next_line(reader, &line)) return refuse_line(reader, 2);
+    uint32_t fault = keyword_fault(line, keyword, &argument, &out->respelt[keyword]);
+    if (fault != 0) return refuse_line(reader, fault);
     out->argument[keyword] = (uint16_t)(argument.at - reader->log);
     out->argument_length[keyword] = (uint16_t)argument.length;
     return ACCEPTED;
 }
 
+static bool is_count_line(Text line) { return line.length >= COUNT_START_LENGTH && memcmp(line.at, COUNT_START, COUNT_START_LENGTH) == 0; }
+
 /* Passes over the remarks, and reads the number of the count line that ends them. */
 static SumpquinceRefusal read_count(Reader *reader, size_t *count) {
-    static const char start[] = "[QSORecords;";
-    const size_t start_length = sizeof start - 1;
     Text line;
     do {
         if (!next_line(reader, &line)) return refuse_line(reader, 2);
-    } while (line.length < start_length || memcmp(line.at, start, start_length) != 0);
-    Text rest = {line.at + start_length, line.length - start_length};
+    } while (!is_count_line(line));
+    Text rest = {line.at + COUNT_START_LENGTH, line.length - COUNT_START_LENGTH};
     if (rest.length == 0 || rest.at[rest.length - 1] != ']') return refuse_line(reader, 4);
     rest.length--;
     uint64_t number;
@@ -357,7 +371,7 @@ static bool cut_record(Text line, Text *fields) {
 }
 
 /* The number of the first field that breaks its rule, from 1, or 0 if none does. */
-static uint32_t first_bad_field(const Text *fields, bool error, uint64_t *points) {
+static INLINE uint32_t first_bad_field(const Text *fields, bool error, uint64_t *points) {
     if (!is_short_date(fields[DATE]) && !(error && fields[DATE].length == 0)) return DATE + 1;
     if (!is_time(fields[TIME])) return TIME + 1;
     if (!is_call(fields[CALL])) return CALL + 1;
@@ -401,9 +415,9 @@ static SumpquinceRefusal read_record(Reader *reader, Record *record) {
 static SumpquinceRefusal read_log(const uint8_t *bytes, size_t length, Log *out) {
     if (length > LONGEST_LOG) return refuse(1, 0, 0);
     Reader reader = {bytes, length, 0, 0};
-    SumpquinceRefusal refusal = read_exact_line(&reader, "[REG1TEST;1]");
+    SumpquinceRefusal refusal = read_exact_line(&reader, IDENTIFIER);
     for (size_t k = 0; k < KEYWORDS && refusal.number == 0; k++) refusal = read_keyword(&reader, k, out);
-    if (refusal.number == 0) refusal = read_exact_line(&reader, "[Remarks]");
+    if (refusal.number == 0) refusal = read_exact_line(&reader, REMARKS_MARK);
     if (refusal.number == 0) refusal = read_count(&reader, &out->count);
     if (refusal.number != 0) return refusal;
     for (size_t i = 0; i < out->count; i++) {
@@ -620,6 +634,177 @@ static void write_log(const uint8_t *bytes, size_t length, const Log *log, const
     put_bytes(to, bytes + copied, length - copied);
 }
 
+/* ---- Mending ---- */
+
+/* Where a line lies: in front of the remarks, their mark included; among them, the count line included; or behind that. */
+typedef enum { HEAD, REMARKS, RECORDS } Region;
+
+/* How far a walk over the lines of a chewed log has come. */
+typedef struct {
+    const uint8_t *log;
+    size_t length, at;
+    uint32_t line;
+    Region region; /* of the line due next */
+} Walk;
+
+/* A line of a chewed log. Its text is as it will be, but for the number on the count line: without an end and, in a record, without spaces there. */
+typedef struct {
+    Text text;
+    Region region;
+    bool counts;   /* it is the count line */
+    bool readable; /* its text has at most 75 characters, of code 32 to 127 */
+    bool trimmed;  /* spaces are dropped */
+    uint8_t end;   /* what is done to its end, 0 if nothing is */
+} Line;
+
+/* What one walk over a chewed log tells. */
+typedef struct {
+    SumpquinceRefusal refusal;
+    size_t length, changes; /* of the mended log, and of the list */
+    size_t follow;          /* how many lines are behind the count line */
+    uint32_t count_line;    /* the number of that line */
+    Text digits;            /* its count as it comes; none if it has not digits alone */
+    bool count_set;         /* that count is wrong */
+} Survey;
+
+static void place(Walk *walk, Line *line) {
+    line->region = walk->region;
+    line->counts = line->region == REMARKS && is_count_line(line->text);
+    if (line->counts) walk->region = RECORDS;
+    if (line->region == HEAD && is_text(line->text, REMARKS_MARK, sizeof REMARKS_MARK - 1)) walk->region = REMARKS;
+}
+
+static void trim(Line *line) {
+    size_t length = line->text.length;
+    while (length > 0 && line->text.at[length - 1] == ' ') length--;
+    line->trimmed = length < line->text.length;
+    line->text.length = length;
+}
+
+/* Cuts out the line due, if there is one. */
+static bool next_chewed(Walk *walk, Line *line) {
+    const uint8_t *start = walk->log + walk->at;
+    size_t left = walk->length - walk->at;
+    if (left == 0) return false;
+    size_t i = 0;
+    while (i < left && is_between(start[i], 32, 127)) i++;
+    size_t characters = i; /* an end is due behind them */
+    while (i < left && start[i] != '\n') i++;
+    bool has_feed = i < left, has_return = i > 0 && start[i - 1] == '\r';
+    line->end = !has_feed ? SUMPQUINCE_LAST_LINE_ENDED : has_return ? 0 : SUMPQUINCE_RETURN_PUT;
+    line->text.at = start;
+    line->text.length = i - has_return;
+    line->readable = characters == line->text.length;
+    line->trimmed = false;
+    place(walk, line);
+    if (line->region == RECORDS) trim(line);
+    line->readable &= line->text.length <= LONGEST_LINE;
+    walk->at += i + has_feed;
+    walk->line++;
+    return true;
+}
+
+/* The digits of a count line, none if anything else stands between its start and the `]` at its end. */
+static Text digits_in(Text line) {
+    Text digits = {line.at + COUNT_START_LENGTH, 0};
+    if (line.length < COUNT_START_LENGTH + 1 || line.at[line.length - 1] != ']') return digits;
+    digits.length = line.length - COUNT_START_LENGTH - 1;
+    if (!all_digits(digits)) digits.length = 0;
+    return digits;
+}
+
+static uint32_t head_fault(Text text, uint32_t number) {
+    Text argument;
+    bool respelt;
+    if (number == 1) return is_text(text, IDENTIFIER, sizeof IDENTIFIER - 1) ? 0 : 3;
+    if (number == KEYWORDS + 2) return is_text(text, REMARKS_MARK, sizeof REMARKS_MARK - 1) ? 0 : 3;
+    return keyword_fault(text, number - 2, &argument, &respelt);
+}
+
+static SumpquinceRefusal record_fault(Text text, uint32_t number) {
+    Text fields[FIELDS];
+    uint64_t points;
+    if (!cut_record(text, fields)) return refuse(5, number, 0);
+    uint32_t bad = first_bad_field(fields, is_error_call(fields[CALL]), &points);
+    return bad == 0 ? ACCEPTED : refuse(5, number, bad);
+}
+
+/* Why the mended log is refused at this line, if it is, where the lines before it are fine. A count that is mended is left out: it may be too large,
+ * but that is known only behind the last line. */
+static SumpquinceRefusal line_fault(const Line *line, uint32_t number, Text digits) {
+    if (line->counts && digits.length > 0) return ACCEPTED;
+    if (!line->readable) return refuse(2, number, 0);
+    if (line->region == RECORDS) return record_fault(line->text, number);
+    uint32_t fault = line->region == HEAD ? head_fault(line->text, number) : line->counts ? 4 : 0;
+    return fault == 0 ? ACCEPTED : refuse(fault, number, 0);
+}
+
+/* Adds what is done to the count, and refuses a count of too many records, which comes before what is wrong in them. */
+static void survey_count(Survey *survey) {
+    uint64_t count;
+    if (survey->digits.length == 0) return;
+    survey->count_set = !is_number(survey->digits, 5, &count) || count != survey->follow;
+    survey->changes += survey->count_set;
+    survey->length = survey->length - survey->digits.length + digits_of(survey->follow);
+    bool first = survey->refusal.number == 0 || survey->refusal.line > survey->count_line;
+    if (survey->follow > MOST_RECORDS && first) survey->refusal = refuse(4, survey->count_line, 0);
+}
+
+/* Reads and measures the mended log, line by line, where the chewed one lies. */
+static Survey survey_log(const uint8_t *log, size_t length) {
+    Survey survey = {ACCEPTED, 0, 0, 0, 0, {log, 0}, false};
+    Walk walk = {log, length, 0, 0, HEAD};
+    Line line;
+    while (next_chewed(&walk, &line)) {
+        survey.length += line.text.length + 2;
+        survey.changes += (size_t)(line.end != 0) + line.trimmed;
+        survey.follow += line.region == RECORDS;
+        if (line.counts) {
+            survey.count_line = walk.line;
+            survey.digits = digits_in(line.text);
+        }
+        if (survey.refusal.number == 0) survey.refusal = line_fault(&line, walk.line, survey.digits);
+    }
+    if (survey.refusal.number == 0 && walk.region != RECORDS) survey.refusal = refuse(2, walk.line + 1, 0);
+    survey_count(&survey);
+    if (survey.length > LONGEST_LOG) survey.refusal = refuse(1, 0, 0);
+    return survey;
+}
+
+/* The list of changes. */
+typedef struct {
+    uint8_t *kinds;
+    uint32_t *lines;
+    size_t count;
+} List;
+
+static void note(List *list, uint8_t kind, uint32_t line) {
+    list->kinds[list->count] = kind;
+    list->lines[list->count] = line;
+    list->count++;
+}
+
+static uint8_t *put_count_line(uint8_t *to, size_t count) {
+    to = put_bytes(to, (const uint8_t *)COUNT_START, COUNT_START_LENGTH);
+    to = put_number(to, count);
+    *to++ = ']';
+    return to;
+}
+
+static void write_mended(const uint8_t *log, size_t length, const Survey *survey, uint8_t *to, List list) {
+    Walk walk = {log, length, 0, 0, HEAD};
+    Line line;
+    while (next_chewed(&walk, &line)) {
+        bool count_set = line.counts && survey->count_set;
+        to = count_set ? put_count_line(to, survey->follow) : put_bytes(to, line.text.at, line.text.length);
+        *to++ = '\r';
+        *to++ = '\n';
+        if (line.end != 0) note(&list, line.end, walk.line);
+        if (line.trimmed) note(&list, SUMPQUINCE_SPACES_DROPPED, walk.line);
+        if (count_set) note(&list, SUMPQUINCE_COUNT_SET, walk.line);
+    }
+}
+
 /* ---- The face ---- */
 
 SumpquinceReading sumpquince_read(const uint8_t *log, size_t log_len) {
@@ -674,5 +859,28 @@ SumpquinceWritten sumpquince_write(const uint8_t *log, size_t log_len, uint8_t *
     }
     write_log(log, log_len, &parts, verdicts, claims, out);
     answer.length = length;
+    return answer;
+}
+
+SumpquinceMended sumpquince_mend(const uint8_t *log, size_t log_len, uint8_t *out, size_t out_len, uint8_t *kinds, size_t kinds_len,
+                                 uint32_t *lines, size_t lines_len) {
+    SumpquinceMended answer = {ACCEPTED, 0, 0};
+    if (log_len > LONGEST_LOG) {
+        answer.refusal = refuse(1, 0, 0);
+        return answer;
+    }
+    Survey survey = survey_log(log, log_len);
+    answer.refusal = survey.refusal;
+    if (answer.refusal.number == 0 && (kinds_len < survey.changes || lines_len < survey.changes)) answer.refusal = refuse(10, 0, 0);
+    if (answer.refusal.number == 0 && out_len < survey.length) answer.refusal = refuse(8, 0, 0);
+    if (answer.refusal.number != 0) return answer;
+    if (survey.changes == 0) {
+        memcpy(out, log, log_len);
+    } else {
+        List list = {kinds, lines, 0};
+        write_mended(log, log_len, &survey, out, list);
+    }
+    answer.length = survey.length;
+    answer.changes = survey.changes;
     return answer;
 }

@@ -1,12 +1,13 @@
-/* Sumpquince: a reader, judge and writer of REG1TEST version 1 contest logs.
+/* Sumpquince: a reader, judge, writer and mender of REG1TEST version 1 contest logs.
  *
  * A log is a run of bytes: the line "[REG1TEST;1]", 36 keyword lines, "[Remarks]", any remark lines, "[QSORecords;N]" and N records, each line
- * ended by CR LF. Four functions take such a log where it lies in memory:
+ * ended by CR LF. Five functions take such a log where it lies in memory:
  *
  *     sumpquince_read    does it follow the format, and how many records has it?
  *     sumpquince_view    where in the log does the argument of one keyword lie?
  *     sumpquince_judge   a verdict for each record, and the totals
  *     sumpquince_write   the log again, with the right claims and marks in it, and each keyword in the listed spelling
+ *     sumpquince_mend    a log that was spoilt on its way, with its line ends and its count put right, and a list of what was done
  *
  * Each either accepts or refuses. A refusal says why by a number, a line and a field; all other numbers of the answer are then 0, and no byte
  * of the memory that was lent for results has been changed. Every input gets an answer: there is nothing to check before a call, but for what
@@ -15,12 +16,12 @@
  * Keywords: a keyword is read with each of its letters in either case, so that "SAnth" and "santh" are both SAntH. Its listed spelling is the one in
  * the list at sumpquince_view. All else stands as it is given here, letter for letter.
  *
- * Sizes: a log has at most 65,535 bytes and at most 999 records, and a log that is written has at most 65,535 bytes. A longer log may be handed
- * over; it is refused with number 1.
+ * Sizes: a log has at most 65,535 bytes and at most 999 records, and a log that is written or mended has at most 65,535 bytes. A longer log may be
+ * handed over; it is refused with number 1.
  *
  * Pointers: a pointer must be valid for its length. Where the length is 0 it may be NULL, since nothing is then read or written through it. Bytes
- * need no alignment. The log and the slice that is lent for results must not overlap. The functions read the `log_len` bytes at `log` and no others,
- * never write to them, and write nowhere but in the lent slice.
+ * need no alignment; `lines` of sumpquince_mend is aligned as uint32_t is. The log and the slices that are lent for results must not overlap. The
+ * functions read the `log_len` bytes at `log` and no others, never write to them, and write nowhere but in the lent slices.
  *
  * State: the functions allocate nothing, keep nothing between calls, and have no variables outside the stack. So they may be called from several
  * threads at once and from a signal handler, as long as no slice that one of them writes is used by another call or thread at the time.
@@ -65,17 +66,20 @@ extern "C" {
  *     6        the log ends where a record is due                                            the line that is missing      0
  *     6        the log goes on after the last record                                         the first line too many       0
  *     7        judging: the verdict slice is shorter than the number of records              0                             0
- *     8        writing: the result exceeds 65,535 bytes, or the output slice                 0                             0
+ *     8        writing: the result exceeds 65,535 bytes, or the output slice
+ *              mending: the result exceeds the output slice                                  0                             0
  *     9        viewing: the keyword number is not 1 to 36                                    0                             0
+ *     10       mending: one of the two list slices is shorter than the list                  0                             0
  *
  * Lines are counted from 1, the identifier's. In 5 the field is the first of the record that breaks its rule: 1 date, 2 time, 3 call, 4 mode, 5 sent
  * report, 6 sent number, 7 received report, 8 received number, 9 received exchange, 10 received locator, 11 points, 12 new exchange, 13 new square,
  * 14 new country, 15 duplicate; or 0 where the record has not exactly 14 semicolons. README.md has the rule of each field in words.
  *
- * The first thing wrong is the one reported: 9, then 1, then the lines from the first to the last, and 7 or 8 only of a log that follows the
- * format. Of an empty log that is number 2 in line 1. */
+ * The first thing wrong is the one reported: 9, then 1, then the lines from the first to the last, and 7, 10 or 8 only of a log that follows the
+ * format, 10 before 8. Of an empty log that is number 2 in line 1. In mending, 2 to 6 are about the mended log, whose lines are those of the log that
+ * was handed over, and 1 is about either of the two. */
 typedef struct {
-    uint32_t number; /* 0 for accepted, or 1 to 9 */
+    uint32_t number; /* 0 for accepted, or 1 to 10 */
     uint32_t line;   /* as in the table above */
     uint32_t field;  /* as in the table above */
 } SumpquinceRefusal; /* 12 bytes */
@@ -131,6 +135,15 @@ typedef struct {
     uint64_t length;
 } SumpquinceWritten; /* 24 bytes */
 
+/* The answer of sumpquince_mend. */
+typedef struct {
+    SumpquinceRefusal refusal;
+    /* How many bytes the mended log has, from out[0] on. 0 on refusal. */
+    uint64_t length;
+    /* How many entries the list has, from kinds[0] and lines[0] on: 0 where the log was accepted as it is. 0 on refusal too. */
+    uint64_t changes;
+} SumpquinceMended; /* 32 bytes */
+
 /* A verdict is one byte: one of the four classes, and on a credited record the marks that it earns, added. So 96 is a credited record with a new
  * square and a new country. (verdict & SUMPQUINCE_CLASS) is the class. */
 #define SUMPQUINCE_CREDITED 0
@@ -141,6 +154,12 @@ typedef struct {
 #define SUMPQUINCE_NEW_EXCHANGE 16
 #define SUMPQUINCE_NEW_SQUARE 32
 #define SUMPQUINCE_NEW_COUNTRY 64
+
+/* What sumpquince_mend did to a line. */
+#define SUMPQUINCE_RETURN_PUT 1      /* CR was put before its LF */
+#define SUMPQUINCE_LAST_LINE_ENDED 2 /* it is the last line, and got the LF or CR LF that it lacked */
+#define SUMPQUINCE_SPACES_DROPPED 3  /* it is a record, and lost the spaces at its end */
+#define SUMPQUINCE_COUNT_SET 4       /* it is the line "[QSORecords;N]", and N was not the number of lines behind it */
 
 /* Reads the log of `log_len` bytes at `log`, and says whether it follows the format, how many records it has, and how many of its keywords are not
  * in the listed spelling. Claims need not be true. Refusals: 1 to 6. */
@@ -169,6 +188,30 @@ SumpquinceJudgement sumpquince_judge(const uint8_t *log, size_t log_len, uint8_t
  * `out_len` is the length of the slice at `out`: 65,535 is enough for every log that can be written. The bytes of the slice behind the result are
  * as they were. Refusals: 1 to 6, then 8; no byte of the slice is then changed. */
 SumpquinceWritten sumpquince_write(const uint8_t *log, size_t log_len, uint8_t *out, size_t out_len);
+
+/* Mends a log whose line ends, spaces or count of records were spoilt on its way, as by a mail program, and lists what it did. A line here goes up to
+ * its LF, and the last one up to the end of the log. These things are done, in this order, and nothing else:
+ *
+ *     1   an LF that has no CR right before it gets one
+ *     2   a last line that has no LF gets it, and CR before it unless its last byte is CR
+ *     3   a record line, which is any line behind the line "[QSORecords;N]", loses the spaces at its end
+ *     4   where that line is "[QSORecords;", one or more digits, and "]", the digits become the number of lines behind it, with no zero in front
+ *
+ * 3 and 4 are done only where there is a line "[Remarks]", and the line "[QSORecords;N]" is then the first behind it that begins so. What comes of it
+ * is handed over only if sumpquince_read accepts it. A log that is accepted as it is comes out unchanged, with an empty list.
+ *
+ * On acceptance the mended log is at `out`. The kind of entry i of the list, counted from 0, is kinds[i], one of the four, and its line is lines[i],
+ * counted from 1. A line has one entry for each thing that changed it. Entries are in the order of the lines, and of one line in the order of the
+ * kinds. What the three slices have behind all this is as it was.
+ *
+ * `out_len`, `kinds_len` and `lines_len` are the lengths of the slices, that of `lines` in numbers, not in bytes. 65,535 for `out` and 32,767 for
+ * each of the other two are enough for every log: of an accepted log only a remark line can be empty, it has one entry at most, and every other line
+ * two; so no line has more entries than half the bytes that it has with its CR LF. A log with r remark lines and n records has at most 40 + r + 2 n
+ * entries.
+ *
+ * Refusals: 1 for the log as it is handed over; 1 to 6 for the mended one; then 10, then 8. Nothing in the three slices is then changed. */
+SumpquinceMended sumpquince_mend(const uint8_t *log, size_t log_len, uint8_t *out, size_t out_len, uint8_t *kinds, size_t kinds_len,
+                                 uint32_t *lines, size_t lines_len);
 
 #ifdef __cplusplus
 }

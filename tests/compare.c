@@ -1,6 +1,6 @@
 /* Compares the functions of sumpquince.h with the reference: reads the reference's stream of trials (tests/reference/src/main.rs says how it is
- * laid out) from standard input, calls the four functions on each log, and holds every answer, every byte written, and every byte that must stay
- * as it was to what the reference says.
+ * laid out) from standard input, calls the five functions on each log, and holds every answer, every byte written, and every byte that must stay
+ * as it was to what the reference says. Besides, a mended log is mended once more, which must change nothing.
  *
  *     compare [FOLDER] < TRIALS
  *
@@ -28,12 +28,13 @@ typedef struct {
     uint32_t index;
     Bytes tag, log;
     uint64_t keyword;
-    uint32_t verdicts_len, output_len;
-    SumpquinceRefusal read, view, judge, write;
+    uint32_t verdicts_len, output_len, mended_len, kinds_len, lines_len;
+    SumpquinceRefusal read, view, judge, write, mend;
     uint32_t records, respelt, view_start, view_length, view_listed;
     uint64_t listed; /* a bit for each keyword, the first as bit 0 */
     uint64_t totals[TOTALS];
-    Bytes verdicts, result;
+    Bytes verdicts, result, mended, kinds;
+    Bytes lines; /* as the numbers lie in memory, 4 bytes each */
 } Trial;
 
 /* A slice to lend, with fences around it that no function may touch. */
@@ -84,6 +85,17 @@ static Bytes take_bytes(void) {
     return bytes;
 }
 
+static Bytes take_numbers(uint32_t count) {
+    Bytes bytes;
+    bytes.length = count * (uint32_t)sizeof(uint32_t);
+    bytes.at = allocate(bytes.length);
+    for (uint32_t i = 0; i < count; i++) {
+        uint32_t number = take_u32();
+        memcpy(bytes.at + i * sizeof number, &number, sizeof number);
+    }
+    return bytes;
+}
+
 static SumpquinceRefusal take_answer(void) {
     SumpquinceRefusal refusal;
     refusal.number = take_u32();
@@ -99,6 +111,9 @@ static void take_trial(Trial *trial) {
     trial->keyword = take_u64();
     trial->verdicts_len = take_u32();
     trial->output_len = take_u32();
+    trial->mended_len = take_u32();
+    trial->kinds_len = take_u32();
+    trial->lines_len = take_u32();
     trial->read = take_answer();
     trial->records = take_u32();
     trial->respelt = take_u32();
@@ -112,6 +127,10 @@ static void take_trial(Trial *trial) {
     trial->verdicts = take_bytes();
     trial->write = take_answer();
     trial->result = take_bytes();
+    trial->mend = take_answer();
+    trial->mended = take_bytes();
+    trial->kinds = take_bytes();
+    trial->lines = take_numbers(trial->kinds.length);
 }
 
 static void free_trial(Trial *trial) {
@@ -119,6 +138,9 @@ static void free_trial(Trial *trial) {
     free(trial->log.at);
     free(trial->verdicts.at);
     free(trial->result.at);
+    free(trial->mended.at);
+    free(trial->kinds.at);
+    free(trial->lines.at);
 }
 
 /* ---- Differences ---- */
@@ -161,6 +183,9 @@ static Lent lend(size_t length) {
 
 static uint8_t *slice_of(Lent lent) { return lent.block + FENCE; }
 
+/* The block is aligned for every type, and so is what lies a fence behind its start. */
+static uint32_t *numbers_of(Lent lent) { return (uint32_t *)(void *)slice_of(lent); }
+
 /* Holds the slice to begin with what should have been written and to be untouched behind it, and the fences to be untouched. One line tells of the
  * first wrong byte: the others mostly follow from it. */
 static void hold_slice(const Trial *trial, const char *function, Lent lent, Bytes written) {
@@ -180,7 +205,7 @@ static void hold_slice(const Trial *trial, const char *function, Lent lent, Byte
     }
 }
 
-/* ---- The four functions ---- */
+/* ---- The five functions ---- */
 
 static void try_read(const Trial *trial) {
     SumpquinceReading got = sumpquince_read(trial->log.at, trial->log.length);
@@ -232,6 +257,33 @@ static void try_write(const Trial *trial) {
     free(lent.block);
 }
 
+static void try_mend(const Trial *trial) {
+    Lent out = lend(trial->mended_len), kinds = lend(trial->kinds_len), lines = lend(trial->lines_len * sizeof(uint32_t));
+    SumpquinceMended got = sumpquince_mend(trial->log.at, trial->log.length, slice_of(out), out.length, slice_of(kinds), kinds.length,
+                                           numbers_of(lines), trial->lines_len);
+    hold_refusal(trial, "mend", got.refusal, trial->mend);
+    hold(trial, "mend", "length", got.length, trial->mended.length);
+    hold(trial, "mend", "changes", got.changes, trial->kinds.length);
+    hold_slice(trial, "mend, log", out, trial->mended);
+    hold_slice(trial, "mend, kinds", kinds, trial->kinds);
+    hold_slice(trial, "mend, lines", lines, trial->lines);
+    free(out.block);
+    free(kinds.block);
+    free(lines.block);
+}
+
+/* A mended log is mended into a slice of its own length, and needs no list: it comes out as it is. */
+static void try_mend_again(const Trial *trial) {
+    if (trial->mend.number != 0) return;
+    Lent out = lend(trial->mended.length);
+    SumpquinceMended got = sumpquince_mend(trial->mended.at, trial->mended.length, slice_of(out), out.length, NULL, 0, NULL, 0);
+    hold_refusal(trial, "mend again", got.refusal, trial->mend);
+    hold(trial, "mend again", "length", got.length, trial->mended.length);
+    hold(trial, "mend again", "changes", got.changes, 0);
+    hold_slice(trial, "mend again", out, trial->mended);
+    free(out.block);
+}
+
 static void try_trial(const Trial *trial) {
     unsigned long long before = run.differences;
     uint8_t *copy = allocate(trial->log.length);
@@ -241,6 +293,8 @@ static void try_trial(const Trial *trial) {
     try_spellings(trial);
     try_judge(trial);
     try_write(trial);
+    try_mend(trial);
+    try_mend_again(trial);
     hold(trial, "all", "whether the log itself was changed", memcmp(copy, trial->log.at, trial->log.length) != 0, 0);
     free(copy);
     if (run.differences != before && before < MOST_LINES) save_log(trial);
@@ -250,7 +304,7 @@ int main(int count, char **words) {
     uint8_t name[8];
     run.folder = count > 1 ? words[1] : NULL;
     take(name, sizeof name);
-    if (memcmp(name, "SQTRIAL2", sizeof name) != 0) stop("standard input is no stream of trials");
+    if (memcmp(name, "SQTRIAL3", sizeof name) != 0) stop("standard input is no stream of trials");
     take_u64(); /* the seed, which whoever asked for the trials knows */
     for (uint32_t left = take_u32(); left > 0; left--) {
         Trial trial;

@@ -15,10 +15,12 @@ _Static_assert(sizeof(SumpquinceReading) == 32 && _Alignof(SumpquinceReading) ==
 _Static_assert(sizeof(SumpquinceView) == 40 && _Alignof(SumpquinceView) == 8, "a view");
 _Static_assert(sizeof(SumpquinceJudgement) == 112 && _Alignof(SumpquinceJudgement) == 8, "a judgement");
 _Static_assert(sizeof(SumpquinceWritten) == 24 && _Alignof(SumpquinceWritten) == 8, "a log written back");
+_Static_assert(sizeof(SumpquinceMended) == 32 && _Alignof(SumpquinceMended) == 8, "a log that was mended");
 
-enum { LONGEST_LOG = 65535, MOST_RECORDS = 999 };
+enum { LONGEST_LOG = 65535, MOST_RECORDS = 999, MOST_CHANGES = 32767 };
 
-static uint8_t log[LONGEST_LOG], none[LONGEST_LOG], verdicts[MOST_RECORDS], out[LONGEST_LOG];
+static uint8_t log[LONGEST_LOG], none[LONGEST_LOG], verdicts[MOST_RECORDS], out[LONGEST_LOG], kinds[MOST_CHANGES];
+static uint32_t lines[MOST_CHANGES];
 static int tries, differences;
 
 static void hold(const char *what, uint64_t got, uint64_t wanted) {
@@ -28,7 +30,7 @@ static void hold(const char *what, uint64_t got, uint64_t wanted) {
     printf("face: %s is %llu and should be %llu\n", what, (unsigned long long)got, (unsigned long long)wanted);
 }
 
-/* A refusal as one number: 210 is number 2, line 1, field 0. */
+/* A refusal as one number: 210 is number 2, line 1, field 0, and 1000 is number 10. */
 static uint64_t digits(SumpquinceRefusal refusal) { return refusal.number * 100 + refusal.line * 10 + refusal.field; }
 
 /* The log with no records: up to its count line, and `[QSORecords;0]`. */
@@ -41,6 +43,27 @@ static size_t without_records(size_t length) {
     return start + 16;
 }
 
+/* Where the parts of the mender's answer lie in it. */
+static void try_shape(void) {
+    SumpquinceMended mended;
+    const uint8_t *start = (const uint8_t *)&mended;
+    hold("the place of a mended log's refusal", (uint64_t)((const uint8_t *)&mended.refusal - start), 0);
+    hold("the place of its length", (uint64_t)((const uint8_t *)&mended.length - start), 16);
+    hold("the place of its changes", (uint64_t)((const uint8_t *)&mended.changes - start), 24);
+}
+
+/* The log with its line ends, its count and its last line wrong: it has a change of each kind. */
+static size_t chewed(size_t length, uint8_t *to) {
+    size_t made = 0;
+    for (size_t i = 0; i < length; i++) {
+        if (log[i] == '\r') continue;
+        to[made++] = log[i];
+        if (log[i] == ';' && made >= 12 && memcmp(to + made - 12, "[QSORecords;", 12) == 0) to[made++] = '0';
+    }
+    to[made - 1] = ' ';
+    return made;
+}
+
 static void try_empty_log(void) {
     hold("the refusal of reading no log", digits(sumpquince_read(NULL, 0).refusal), 210);
     hold("the refusal of viewing no log", digits(sumpquince_view(NULL, 0, 1).refusal), 210);
@@ -49,6 +72,9 @@ static void try_empty_log(void) {
     hold("the refusal of judging no log into nothing", digits(sumpquince_judge(NULL, 0, NULL, 0).refusal), 210);
     hold("the refusal of writing no log", digits(sumpquince_write(NULL, 0, out, sizeof out).refusal), 210);
     hold("the refusal of writing no log into nothing", digits(sumpquince_write(NULL, 0, NULL, 0).refusal), 210);
+    hold("the refusal of mending no log",
+         digits(sumpquince_mend(NULL, 0, out, sizeof out, kinds, MOST_CHANGES, lines, MOST_CHANGES).refusal), 210);
+    hold("the refusal of mending no log into nothing", digits(sumpquince_mend(NULL, 0, NULL, 0, NULL, 0, NULL, 0).refusal), 210);
 }
 
 static void try_empty_results(size_t length) {
@@ -60,6 +86,30 @@ static void try_empty_results(size_t length) {
     hold("the refusal of a log written into nothing", digits(sumpquince_write(log, length, NULL, 0).refusal), 800);
 }
 
+/* Of a log with nothing to mend the list is empty, and a slice for it may be missing; of another it may not. */
+static void try_empty_lists(size_t length) {
+    static uint8_t spoilt[LONGEST_LOG];
+    size_t spoilt_length = chewed(length, spoilt);
+    SumpquinceMended mended = sumpquince_mend(log, length, out, sizeof out, NULL, 0, NULL, 0);
+    hold("the refusal of an accepted log, mended without lists", digits(mended.refusal), 0);
+    hold("its length", mended.length, length);
+    hold("the number of its changes", mended.changes, 0);
+    hold("whether it is another log", memcmp(out, log, length) != 0, 0);
+    hold("the refusal of an accepted log, mended into nothing", digits(sumpquince_mend(log, length, NULL, 0, NULL, 0, NULL, 0).refusal), 800);
+    hold("the refusal of a chewed log, mended into nothing",
+         digits(sumpquince_mend(spoilt, spoilt_length, NULL, 0, NULL, 0, NULL, 0).refusal), 1000);
+    hold("the refusal of a chewed log, mended without kinds",
+         digits(sumpquince_mend(spoilt, spoilt_length, out, sizeof out, NULL, 0, lines, MOST_CHANGES).refusal), 1000);
+    hold("the refusal of a chewed log, mended without lines",
+         digits(sumpquince_mend(spoilt, spoilt_length, out, sizeof out, kinds, MOST_CHANGES, NULL, 0).refusal), 1000);
+    hold("the refusal of a chewed log, mended without a slice for it",
+         digits(sumpquince_mend(spoilt, spoilt_length, NULL, 0, kinds, MOST_CHANGES, lines, MOST_CHANGES).refusal), 800);
+    mended = sumpquince_mend(spoilt, spoilt_length, out, sizeof out, kinds, MOST_CHANGES, lines, MOST_CHANGES);
+    hold("the refusal of a chewed log", digits(mended.refusal), 0);
+    hold("the length of a chewed log once it is mended", mended.length, length);
+    hold("whether a chewed log becomes another", memcmp(out, log, length) != 0, 0);
+}
+
 int main(void) {
     size_t length = fread(log, 1, sizeof log, stdin);
     SumpquinceReading reading = sumpquince_read(log, length);
@@ -67,8 +117,10 @@ int main(void) {
         fputs("face: the log is refused, or has no records\n", stderr);
         return 2;
     }
+    try_shape();
     try_empty_log();
     try_empty_results(length);
-    printf("face: %d answers with null pointers, %d differences\n", tries, differences);
+    try_empty_lists(length);
+    printf("face: %d tries of shapes and null pointers, %d differences\n", tries, differences);
     return differences == 0 ? 0 : 1;
 }

@@ -342,6 +342,12 @@ pub fn all() -> Vec<Fault> {
     faults
 }
 
+/// A log with any of them.
+pub fn some_fault(random: &mut Random) -> Vec<u8> {
+    let faults = all();
+    random.pick(&faults).make(random).0
+}
+
 impl Fault {
     /// A log with this fault alone.
     pub fn make(&self, random: &mut Random) -> (Vec<u8>, Expectation) {

@@ -1,8 +1,10 @@
 //! Trials: a log, the sizes of what a caller lends, and a tag that names what
 //! the log is about. Trial `index` of `seed` is the same on every machine.
 
+use crate::chewing::{Outcome, CHEWED};
 use crate::draft::{self, Draft, Wish};
 use crate::faults::{self, Expectation, Fault};
+use crate::mending::{mend_text, Rooms};
 use crate::random::Random;
 use crate::reading::{read, LONGEST_LOG};
 use crate::values;
@@ -11,14 +13,22 @@ use crate::writing::write_log;
 pub struct Trial {
     pub tag: String,
     pub log: Vec<u8>,
+    /// What its maker knows of it as it is, and of it after mending.
     pub expectation: Expectation,
+    pub outcome: Outcome,
     /// The keyword number asked of the view.
     pub keyword: u64,
     /// How many verdicts the lent slice holds.
     pub verdicts_len: usize,
     /// How many bytes the lent output slice holds.
     pub output_len: usize,
+    /// What is lent for mending.
+    pub rooms: Rooms,
 }
+
+/// As many changes as there can be in a log that is accepted once it is mended:
+/// each of its lines has two bytes for each of them.
+pub const MOST_CHANGES: usize = LONGEST_LOG / 2;
 
 pub struct Generator {
     seed: u64,
@@ -96,52 +106,81 @@ impl Generator {
         tags.extend(self.faults.iter().map(|fault| fault.tag.clone()));
         tags.extend(DAMAGES.iter().map(|kind| kind.0.to_string()));
         tags.extend(OPEN.iter().map(|kind| kind.0.to_string()));
+        tags.extend(CHEWED.iter().map(|kind| kind.0.to_string()));
         tags
     }
 
-    /// Of four trials one is valid, two have a fault, and one is damaged.
+    /// Of five trials one is valid, two have a fault, one is damaged, and one is
+    /// chewed.
     pub fn trial(&self, index: u64) -> Trial {
         let mut random = Random::new(self.seed, index);
-        let round = index / 4;
-        let (tag, log, expectation) = match index % 4 {
+        let round = index / 5;
+        let made = match index % 5 {
             0 => valid(&mut random, round),
             1 => self.fault(&mut random, round * 2),
             2 => self.fault(&mut random, round * 2 + 1),
-            _ => damaged(&mut random, round),
+            3 => damaged(&mut random, round),
+            _ => chewed(&mut random, round),
         };
-        lend(&mut random, tag, log, expectation)
+        lend(&mut random, made)
     }
 
     /// Faults are taken in turn, so that none is left to luck.
-    fn fault(&self, random: &mut Random, turn: u64) -> (String, Vec<u8>, Expectation) {
+    fn fault(&self, random: &mut Random, turn: u64) -> Made {
         let fault = &self.faults[(turn % self.faults.len() as u64) as usize];
         let (log, expectation) = fault.make(random);
-        (fault.tag.clone(), log, expectation)
+        Made { tag: fault.tag.clone(), log, expectation, outcome: Outcome::Open }
     }
 }
 
-fn valid(random: &mut Random, round: u64) -> (String, Vec<u8>, Expectation) {
-    let (tag, make) = by_share(VALID, round % shares(VALID));
-    (tag.to_string(), make(random), Expectation::Accepted)
+/// A log, and what its maker knows of it.
+struct Made {
+    tag: String,
+    log: Vec<u8>,
+    expectation: Expectation,
+    outcome: Outcome,
 }
 
-fn damaged(random: &mut Random, round: u64) -> (String, Vec<u8>, Expectation) {
+/// A log of which its maker knows nothing.
+fn open(tag: &str, log: Vec<u8>) -> Made {
+    Made { tag: tag.to_string(), log, expectation: Expectation::Open, outcome: Outcome::Open }
+}
+
+fn valid(random: &mut Random, round: u64) -> Made {
+    let (tag, make) = by_share(VALID, round % shares(VALID));
+    let log = make(random);
+    Made { expectation: Expectation::Accepted, outcome: Outcome::Restored(log.clone()), ..open(tag, log) }
+}
+
+fn damaged(random: &mut Random, round: u64) -> Made {
     let turn = round % (DAMAGES.len() as u64 + shares(OPEN));
     if let Some(&(tag, damage)) = DAMAGES.get(turn as usize) {
         let mut log = small(random);
         damage(random, &mut log);
-        return (tag.to_string(), log, Expectation::Open);
+        return open(tag, log);
     }
     let (tag, make) = by_share(OPEN, turn - DAMAGES.len() as u64);
-    (tag.to_string(), make(random), Expectation::Open)
+    open(tag, make(random))
 }
 
-fn shares(kinds: &[(&str, usize, Maker)]) -> u64 {
+fn chewed(random: &mut Random, round: u64) -> Made {
+    let (tag, make) = by_share(CHEWED, round % shares(CHEWED));
+    let (log, outcome) = make(random);
+    Made { outcome, ..open(tag, log) }
+}
+
+/// Any of the damages; the log must not be empty.
+pub fn damage(random: &mut Random, log: &mut Vec<u8>) {
+    let (_, damage) = *random.pick(DAMAGES);
+    damage(random, log);
+}
+
+fn shares<M>(kinds: &[(&str, usize, M)]) -> u64 {
     kinds.iter().map(|kind| kind.1 as u64).sum()
 }
 
 /// The kind whose share `turn` falls into; it must be below the sum of shares.
-fn by_share(kinds: &[(&'static str, usize, Maker)], mut turn: u64) -> (&'static str, Maker) {
+fn by_share<M: Copy>(kinds: &[(&'static str, usize, M)], mut turn: u64) -> (&'static str, M) {
     for &(tag, share, make) in kinds {
         if turn < share as u64 {
             return (tag, make);
@@ -152,11 +191,11 @@ fn by_share(kinds: &[(&'static str, usize, Maker)], mut turn: u64) -> (&'static 
 }
 
 /// Adds the sizes lent and the keyword asked for, near their bounds.
-fn lend(random: &mut Random, tag: String, log: Vec<u8>, expectation: Expectation) -> Trial {
-    let (records, written) = match read(&log) {
+fn lend(random: &mut Random, made: Made) -> Trial {
+    let (records, written) = match read(&made.log) {
         Ok(log) => (log.records.len(), write_log(&log).len()),
         // Nothing bounds the sizes of a refused log; these are as good as any.
-        Err(_) => (random.below(12), log.len().min(LONGEST_LOG + 9)),
+        Err(_) => (random.below(12), made.log.len().min(LONGEST_LOG + 9)),
     };
     let verdicts_len = match random.below(12) {
         0 | 1 => records.saturating_sub(1),
@@ -182,7 +221,41 @@ fn lend(random: &mut Random, tag: String, log: Vec<u8>, expectation: Expectation
         3 => *random.pick(&[1, 36]),
         _ => random.between(1, 36) as u64,
     };
-    Trial { tag, log, expectation, keyword, verdicts_len, output_len }
+    let rooms = rooms(random, &made.log);
+    let Made { tag, log, expectation, outcome } = made;
+    Trial { tag, log, expectation, outcome, keyword, verdicts_len, output_len, rooms }
+}
+
+/// What is lent for mending: mostly enough, and else too short in each of the
+/// three slices or in several.
+fn rooms(random: &mut Random, log: &[u8]) -> Rooms {
+    let mended = mend_text(log);
+    let (length, changes) = (mended.text.len(), mended.changes.len());
+    let out = match random.below(16) {
+        0 => length.saturating_sub(1),
+        1 => 0,
+        2 => random.below(length + 1),
+        3 => LONGEST_LOG,
+        4 => LONGEST_LOG + 1,
+        5..=10 => length,
+        _ => length + 5,
+    };
+    let short = changes.saturating_sub(1);
+    let (kinds, lines) = match random.below(24) {
+        0 => (short, changes),
+        1 => (changes, short),
+        2 => (short, short),
+        3 => (0, changes + 1),
+        4 => (changes + 1, 0),
+        5 => (0, 0),
+        6 => (random.below(changes + 1), random.below(changes + 1)),
+        7 => (MOST_CHANGES, MOST_CHANGES),
+        8 => (changes, changes + 1_000),
+        9 => (changes + 1_000, changes),
+        10..=14 => (changes + 2, changes + 5),
+        _ => (changes, changes),
+    };
+    Rooms { out, kinds, lines }
 }
 
 fn small(random: &mut Random) -> Vec<u8> {

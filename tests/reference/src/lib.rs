@@ -4,17 +4,20 @@
 //! with. It favours plain code over speed: what it answers should be evident
 //! from reading it beside the rules.
 
+pub mod chewing;
 pub mod draft;
 pub mod faults;
 pub mod fields;
 pub mod generate;
 pub mod judging;
+pub mod mending;
 pub mod random;
 pub mod reading;
 pub mod values;
 pub mod writing;
 
 pub use judging::{judge, Totals};
+pub use mending::{mend, Change, Mended, Rooms};
 pub use reading::{read, view, Log, Refusal, View};
 pub use writing::write;
 

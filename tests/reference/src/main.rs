@@ -11,18 +11,22 @@
 //! between the parts and nothing after the last trial:
 //!
 //! ```text
-//! stream   8 bytes "SQTRIAL2", u64 seed, u32 number of trials, the trials
+//! stream   8 bytes "SQTRIAL3", u64 seed, u32 number of trials, the trials
 //! trial    u32 index
 //!          bytes tag              (ASCII, for messages)
 //!          bytes log
 //!          u64 keyword            the number asked of the view
 //!          u32 verdict slice      its length in bytes
 //!          u32 output slice       its length in bytes
+//!          u32 mended slice       its length in bytes
+//!          u32 kind slice         its length in bytes
+//!          u32 line slice         its length in numbers of 4 bytes
 //!          read:  answer, u32 records, u32 respelt
 //!          view:  answer, u32 start, u32 length, u32 listed
 //!          u64 listed             of keyword k bit k - 1: whether it is listed
 //!          judge: answer, 12 x u64 totals, bytes verdicts
 //!          write: answer, bytes result
+//!          mend:  answer, bytes result, bytes kinds, and a u32 line for each
 //! bytes    u32 length, then that many bytes
 //! answer   u32 number, u32 line, u32 field: three zeros for acceptance
 //! ```
@@ -37,7 +41,7 @@
 
 use reference::generate::{Generator, Trial};
 use reference::reading::{KEYWORDS, LONGEST_LOG};
-use reference::{desk, judge, read, view, write, Refusal, Totals};
+use reference::{desk, judge, mend, read, view, write, Mended, Refusal, Totals};
 use std::io::{self, BufWriter, Read, Write};
 use std::process::ExitCode;
 
@@ -94,7 +98,7 @@ fn show_tags() -> io::Result<()> {
 
 fn write_trials(seed: u64, count: u32) -> io::Result<()> {
     let mut out = BufWriter::with_capacity(1 << 16, io::stdout().lock());
-    out.write_all(b"SQTRIAL2")?;
+    out.write_all(b"SQTRIAL3")?;
     put_u64(&mut out, seed)?;
     put_u32(&mut out, count)?;
     let generator = Generator::new(seed);
@@ -111,6 +115,9 @@ fn put_trial(out: &mut impl Write, index: u32, trial: &Trial) -> io::Result<()> 
     put_u64(out, trial.keyword)?;
     put_size(out, trial.verdicts_len)?;
     put_size(out, trial.output_len)?;
+    put_size(out, trial.rooms.out)?;
+    put_size(out, trial.rooms.kinds)?;
+    put_size(out, trial.rooms.lines)?;
 
     let answer = read(&trial.log).map(|log| (log.records.len(), log.respelt()));
     put_answer(out, &answer)?;
@@ -138,7 +145,18 @@ fn put_trial(out: &mut impl Write, index: u32, trial: &Trial) -> io::Result<()> 
 
     let answer = write(&trial.log, trial.output_len);
     put_answer(out, &answer)?;
-    put_bytes(out, &answer.unwrap_or_default())
+    put_bytes(out, &answer.unwrap_or_default())?;
+
+    let answer = mend(&trial.log, trial.rooms);
+    put_answer(out, &answer)?;
+    put_mended(out, &answer.unwrap_or(Mended { text: Vec::new(), changes: Vec::new() }))
+}
+
+fn put_mended(out: &mut impl Write, mended: &Mended) -> io::Result<()> {
+    put_bytes(out, &mended.text)?;
+    let kinds: Vec<u8> = mended.changes.iter().map(|change| change.kind).collect();
+    put_bytes(out, &kinds)?;
+    mended.changes.iter().try_for_each(|change| put_u32(out, change.line))
 }
 
 /// Which keywords of a log stand in the listed spelling, the first as bit 0.

@@ -35,7 +35,7 @@ pub struct Refusal {
 }
 
 impl Refusal {
-    /// A refusal that points at no line: 1, 7, 8 and 9.
+    /// A refusal that points at no line: 1, and 7 to 10.
     pub fn whole(number: u32) -> Refusal {
         Refusal { number, line: 0, field: 0 }
     }

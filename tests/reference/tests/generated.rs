@@ -1,12 +1,14 @@
 //! What the trials cover, and what holds of every one of them.
 
+use reference::chewing::Outcome;
 use reference::faults::Expectation;
-use reference::generate::{Generator, Trial};
+use reference::generate::{Generator, Trial, MOST_CHANGES};
 use reference::judging::{class, CREDITED, DUPLICATE};
+use reference::mending::{mend_text, COUNT_SET, RETURN_PUT};
 use reference::reading::{KEYWORDS, LONGEST_LOG};
 use reference::writing::write_log;
-use reference::{judge, read, view, write, Refusal};
-use std::collections::BTreeSet;
+use reference::{judge, mend, read, view, write, Mended, Refusal, Rooms};
+use std::collections::{BTreeMap, BTreeSet};
 
 const SEED: u64 = 20240302;
 const TRIALS: u64 = 3_000;
@@ -57,8 +59,9 @@ fn every_refusal_number_comes_up() {
         seen.extend(view(&trial.log, trial.keyword as usize).err().map(|refusal| refusal.number));
         seen.extend(judge(&trial.log, trial.verdicts_len).err().map(|refusal| refusal.number));
         seen.extend(write(&trial.log, trial.output_len).err().map(|refusal| refusal.number));
+        seen.extend(mend(&trial.log, trial.rooms).err().map(|refusal| refusal.number));
     }
-    assert_eq!(seen, (1..=9).collect());
+    assert_eq!(seen, (1..=10).collect());
 }
 
 #[test]
@@ -234,4 +237,141 @@ fn striking_promotes_exactly_the_freed_repeats() {
             assert_eq!(now_credited, wanted, "{} record {at}", trial.tag);
         }
     }
+}
+
+const PLENTY: Rooms = Rooms { out: LONGEST_LOG, kinds: MOST_CHANGES, lines: MOST_CHANGES };
+
+#[test]
+fn mending_comes_out_as_the_makers_expect() {
+    for seed in [SEED, 1, 2, 3, u64::MAX] {
+        let generator = Generator::new(seed);
+        for index in 0..TRIALS {
+            let trial = generator.trial(index);
+            let answer = mend(&trial.log, PLENTY).map(|mended| mended.text);
+            let place = format!("seed {seed} index {index} {}", trial.tag);
+            match trial.outcome {
+                Outcome::Restored(log) => assert!(answer == Ok(log), "{place}"),
+                Outcome::Refused(refusal) => assert_eq!(answer.err(), Some(refusal), "{place}"),
+                Outcome::Open => {}
+            }
+        }
+    }
+}
+
+fn chewed(count: u64) -> impl Iterator<Item = Trial> {
+    trials(count).filter(|trial| trial.tag.starts_with("chewed/"))
+}
+
+#[test]
+fn most_chewed_logs_can_be_mended_and_every_kind_is_common() {
+    let answers: Vec<_> = chewed(TRIALS).map(|trial| mend(&trial.log, PLENTY)).collect();
+    let mended: Vec<&Mended> = answers.iter().flatten().collect();
+    assert!(mended.len() * 2 > answers.len(), "{} of {}", mended.len(), answers.len());
+    assert!(mended.len() * 10 < answers.len() * 9, "{} of {}", mended.len(), answers.len());
+    let mut logs_with = BTreeMap::new();
+    for log in &mended {
+        let kinds: BTreeSet<u8> = log.changes.iter().map(|change| change.kind).collect();
+        kinds.into_iter().for_each(|kind| *logs_with.entry(kind).or_insert(0) += 1);
+    }
+    assert!((RETURN_PUT..=COUNT_SET).all(|kind| logs_with[&kind] * 4 > mended.len()), "{logs_with:?} of {}", mended.len());
+}
+
+#[test]
+fn every_two_kinds_that_can_meet_on_a_line_do() {
+    let mut seen = BTreeSet::new();
+    for trial in trials(TRIALS) {
+        let changes = mend(&trial.log, PLENTY).map(|mended| mended.changes).unwrap_or_default();
+        let meeting = changes.windows(2).filter(|pair| pair[0].line == pair[1].line);
+        seen.extend(meeting.map(|pair| (pair[0].kind, pair[1].kind)));
+    }
+    assert_eq!(seen, [(1, 3), (1, 4), (2, 3), (2, 4)].into_iter().collect());
+}
+
+#[test]
+fn open_chewed_logs_go_both_ways() {
+    let open = chewed(TRIALS).filter(|trial| trial.outcome == Outcome::Open);
+    let (good, bad): (Vec<_>, Vec<_>) = open.map(|trial| mend(&trial.log, PLENTY)).partition(Result::is_ok);
+    assert!(good.len() * 6 > bad.len(), "{} and {}", good.len(), bad.len());
+}
+
+/// All but 6: once the count is set no record is missing and none too many.
+#[test]
+fn mended_logs_are_refused_by_every_number_that_there_can_be() {
+    let numbers: BTreeSet<u32> = trials(TRIALS).filter_map(|trial| mend(&trial.log, PLENTY).err()).map(|refusal| refusal.number).collect();
+    assert_eq!(numbers, (1..=5).collect());
+}
+
+#[test]
+fn the_sizes_lent_for_mending_are_short_in_every_way() {
+    let mut seen = BTreeMap::new();
+    for trial in chewed(TRIALS) {
+        let Ok(mended) = mend(&trial.log, PLENTY) else { continue };
+        let (length, changes) = (mended.text.len(), mended.changes.len());
+        let short = (trial.rooms.kinds < changes, trial.rooms.lines < changes, trial.rooms.out < length);
+        *seen.entry(short).or_insert(0) += 1;
+        let wanted = match short {
+            (true, _, _) | (_, true, _) => Some(Refusal { number: 10, line: 0, field: 0 }),
+            (_, _, true) => Some(Refusal { number: 8, line: 0, field: 0 }),
+            _ => None,
+        };
+        assert_eq!(mend(&trial.log, trial.rooms).err(), wanted);
+    }
+    assert_eq!(seen.len(), 8, "{seen:?}");
+    assert!(seen[&(false, false, false)] * 2 > seen.values().sum::<usize>(), "{seen:?}");
+}
+
+#[test]
+fn an_accepted_log_is_mended_by_doing_nothing() {
+    for trial in accepted(TRIALS) {
+        let none = Rooms { out: trial.log.len(), kinds: 0, lines: 0 };
+        let wanted = Mended { text: trial.log.clone(), changes: Vec::new() };
+        assert!(mend(&trial.log, none) == Ok(wanted), "{}", trial.tag);
+    }
+}
+
+#[test]
+fn mending_twice_does_no_more() {
+    for trial in trials(TRIALS) {
+        let mended = mend_text(&trial.log);
+        assert!(mend_text(&mended.text) == Mended { text: mended.text, changes: Vec::new() }, "{}", trial.tag);
+    }
+}
+
+#[test]
+fn lists_are_in_order_and_within_their_bounds() {
+    let line_feeds = |text: &[u8]| text.iter().filter(|&&b| b == b'\n').count();
+    let mut longest = 0;
+    for trial in trials(TRIALS) {
+        let mended = mend_text(&trial.log);
+        let open = trial.log.last().is_some_and(|&b| b != b'\n');
+        let lines = line_feeds(&mended.text);
+        assert_eq!(lines, line_feeds(&trial.log) + usize::from(open), "{}", trial.tag);
+        let list: Vec<(u32, u8)> = mended.changes.iter().map(|change| (change.line, change.kind)).collect();
+        assert!(list.windows(2).all(|pair| pair[0] < pair[1]), "{}", trial.tag);
+        assert!(mended.changes.iter().all(|change| (1..=lines as u32).contains(&change.line)), "{}", trial.tag);
+        if let Ok(log) = read(&mended.text) {
+            let records = log.records.len();
+            let remarks = lines - records - 39;
+            assert!(list.len() <= 40 + remarks + 2 * records && list.len() <= MOST_CHANGES, "{}", trial.tag);
+            longest = longest.max(list.len());
+        }
+    }
+    assert!(longest > 31_000, "{longest}");
+}
+
+#[test]
+fn mending_meets_the_limit_from_both_sides() {
+    let mut seen = BTreeSet::new();
+    for trial in chewed(TRIALS) {
+        let length = mend_text(&trial.log).text.len();
+        for limit in [LONGEST_LOG, LONGEST_LOG + 1] {
+            if length == limit && trial.log.len() < limit {
+                seen.insert(("grows to", limit));
+            }
+            if trial.log.len() == limit && length < limit {
+                seen.insert(("shrinks from", limit));
+            }
+        }
+    }
+    assert_eq!(seen.len(), 4, "{seen:?}");
 }
