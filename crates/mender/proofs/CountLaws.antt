@@ -55,20 +55,21 @@ module _ (t : Text) {n : ℕ} (run : n ≡ 0 + span digit (drop 0 t)) where
       ∙ ap (λ (u : Text). same u (93 ∷ [])) (take-all (length t - n) (drop n t) (omega (arith, length-drop n t)))
       ∙ sym (digits-by ∙ ap (λ (b : Bool). b && same (drop n t) (93 ∷ [])) (le-leb 1 n (omega arith)))
 
--- What has to be done to a line that begins as the count line does.
-module _ (follow : ℕ) (l : Text) where
-  abbrev digitsEnd : Bool
-  digitsEnd = digitsThenEnd (drop 12 l)
+-- What has to be done to a line that begins as the count line does, by what stands behind its word.
+module _ (follow : ℕ) (l : Text) {b : Bool} (behind : b ≡ digitsThenEnd (take (length l - 12) (drop 12 l))) where
+  digits-told : digitsThenEnd (drop 12 l) ≡ b
+  digits-told = sym (behind ∙ ap digitsThenEnd (take-all (length l - 12) (drop 12 l) (omega (arith, length-drop 12 l))))
 
-  kind-by : (b c : Bool) → digitsEnd ≡ b → same (countLine follow) l ≡ c → countKind follow l ≡ cond b (cond c 0 4) 0
+  kind-by : (c : Bool) → same (countLine follow) l ≡ c → countKind follow l ≡ cond b (cond c 0 4) 0
   unfolding countKind countStart
-  kind-by b c p q = rw (p, q)
+  kind-by c q = rw (digits-told, q)
 
-  pub count-none : not digitsEnd ≡ true → 0 ≡ countKind follow l
-  count-none e = sym (kind-by false (same (countLine follow) l) (not-true digitsEnd e) refl)
+  pub count-none : not b ≡ true → 0 ≡ countKind follow l
+  count-none e = sym (kind-by (same (countLine follow) l) refl ∙ rw (not-true b e))
 
-  pub count-right : not digitsEnd ≡ false → same (countLine follow) l ≡ true → 0 ≡ countKind follow l
-  count-right e g = sym (kind-by true true (not-false digitsEnd e) g)
+  module _ (e : not b ≡ false) {c : Bool} (told : c ≡ same (countLine follow) l) where
+    pub count-right : c ≡ true → 0 ≡ countKind follow l
+    count-right t = sym (kind-by c (sym told) ∙ rw (not-false b e, t))
 
-  pub count-wrong : not digitsEnd ≡ false → same (countLine follow) l ≡ false → 4 ≡ countKind follow l
-  count-wrong e g = sym (kind-by true false (not-false digitsEnd e) g)
+    pub count-wrong : c ≡ false → 4 ≡ countKind follow l
+    count-wrong t = sym (kind-by c (sym told) ∙ rw (not-false b e, t))

@@ -1,3 +1,7 @@
 -- Laws of the mender's functions.
 pub mod KindLaws
 pub mod CountLaws
+pub mod CutLaws
+pub mod LayLaws
+pub mod NextLaws
+pub mod PutLaws

@@ -4,12 +4,12 @@ use Prim.Native.Nat.{ℕ, zero, suc, _+_, _≤_, _<_}
 use mathlib.Core.Path.{_≡_}
 use mathlib.Core.Bool.{Bool, cond}
 use mathlib.Core.List.{List, [], _∷_, _++_, map}
-use lib.Dec.{eqb}
+use lib.Dec.{eqb, ltb}
 use lib.ListN.{length, drop}
 use Rattle.rules.specs.declared.Region.{Region}
 use Rattle.rules.specs.Text.{Text, all, allowed, same}
 use Rattle.rules.specs.Log.{countStart, countLine}
-use Rattle.rules.specs.Mending.{MendedLine, chewedLines, endMended, digitsThenEnd, regionAfter, lineMended, linesMended}
+use Rattle.rules.specs.Mending.{MendedLine, chewedLines, endsInCr, withoutCr, endMended, trimmed, digitsThenEnd, regionAfter, lineMended, linesMended}
 use Rattle.reader.specs.Contact.{between}
 use Rattle.mender.specs.declared.Cut.{Cut}
 use Rattle.mender.specs.declared.Laid.{Laid}
@@ -34,7 +34,20 @@ pub record Spans (s : Text) (at end next : ℕ) : Type 0 where
   pub behind : end < next
   pub near : next ≤ length s + 1
 
--- What `cut` tells of the line at a place: its text without its end, what has to be done to that, and where the next line begins.
+-- What is told of the end of a line that goes on up to a place.
+pub record EndsAt (s : Text) (at feed end : ℕ) : Type 0 where
+  pub text : between s at end ≡ withoutCr (between s at feed)
+  pub forth : at ≤ end
+  pub within : end ≤ feed
+  pub cr : endsInCr (between s at feed) ≡ ltb end feed
+
+-- Where a text ends without the spaces at its end.
+pub record Trims (s : Text) (at end last : ℕ) : Type 0 where
+  pub text : between s at last ≡ trimmed (between s at end)
+  pub forth : at ≤ last
+  pub within : last ≤ end
+
+-- What `cut_at` tells of the line at a place: its text without its end, what has to be done to that, and where the next line begins.
 pub record Cuts (s : Text) (at : ℕ) (c : Cut) : Type 0 where
   pub lines :
       linesAt s at

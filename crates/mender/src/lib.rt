@@ -11,12 +11,12 @@ ghost use lib.Dec.{ltb};
 ghost use Rattle.reader.specs.Contact.{between};
 ghost use Rattle.rules.specs.Answers.{over};
 ghost use Rattle.rules.specs.Log.{countLine, crlf, countStart};
-ghost use Rattle.rules.specs.Mending.{digitsThenEnd, endsInCr, withoutCr, trimmed, mendedText, changesIn, changes, mend, bytesOfMending, kindsOfMending, linesOfMending};
+ghost use Rattle.rules.specs.Mending.{digitsThenEnd, mendedText, changesIn, changes, mend, bytesOfMending, kindsOfMending, linesOfMending};
 ghost use Rattle.rules.specs.Reading.{refusal};
 ghost use Rattle.rules.specs.Rules.{base};
 ghost use Rattle.rules.specs.Text.{all, allowed, same};
 ghost use Rattle.writer.specs.Written.{Puts};
-ghost use Rattle.mender.specs.Lines.{Spans, Cuts, Lays, kindsOf, linesAt, textLaid, countKind};
+ghost use Rattle.mender.specs.Lines.{Spans, EndsAt, Trims, Cuts, Lays, kindsOf, linesAt, textLaid, countKind};
 ghost use Rattle.mender.specs.Checking.{noLineDue, lineNext, restTold, checkedOf};
 ghost use Rattle.mender.specs.Answer.{roomsOf, mendedBy, keptAs, keptIn, Mends};
 use reader::ReadAnswer;
@@ -39,7 +39,7 @@ pub struct Cut {
 // Where the text of a line ends that goes on up to this place: in front of a CR.
 fn text_end(s: &[u8], at: usize, feed: usize) -> usize
     requires { ⌜ (at ≤ feed) × (feed ≤ length (now s)) ⌝ }
-    ensures { λ r. ⌜ (between (now (s .entry)) at r ≡ withoutCr (between (now (s .entry)) at feed)) × (at ≤ r) × (r ≤ feed) × (endsInCr (between (now (s .entry)) at feed) ≡ ltb r feed) ⌝ }
+    ensures { λ r. ⌜ EndsAt (now (s .entry)) at feed r ⌝ }
 {
     if feed <= at {
         return feed;
@@ -97,7 +97,7 @@ fn line_count(s: &[u8]) -> usize
 // Where the text between two places ends without the spaces at its end.
 fn trimmed_end(s: &[u8], at: usize, end: usize) -> usize
     requires { ⌜ (at ≤ end) × (end ≤ length (now s)) ⌝ }
-    ensures { λ r. ⌜ (between (now (s .entry)) at r ≡ trimmed (between (now (s .entry)) at end)) × (at ≤ r) × (r ≤ end) ⌝ }
+    ensures { λ r. ⌜ Trims (now (s .entry)) at end r ⌝ }
 {
     let mut i = end;
     while at < i {

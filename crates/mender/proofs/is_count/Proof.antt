@@ -27,7 +27,7 @@ same-text-requires c κs = search needs
 returns : tie.Need-returns
 returns c =
     let b = c .before .before .before .before .before in
-    let w = c .before .before .before in
+    let w = c .before .before in
     c .same-text .ensures ∙ ap (λ (t : Text). same t (now (b .args .line))) (word-is _ (replicate 33 0) (w .count-line .ensures .0) (w .count-line .ensures .1))
 
 pub is-count-spec : {M : Type 1} → statement M
