@@ -256,3 +256,11 @@ module _ (s : Text) (at : ℕ) (some : at < length s) {run feed : ℕ} (ran : ru
 pub no-lines : (s : Text) (at : ℕ) → length s ≤ at → linesAt s at ≡ []
 unfolding linesAt chewedLines
 no-lines s at h = rw (drop-of-length-le s h)
+
+pub some-lines : (s : Text) (at : ℕ) → at < length s → 1 ≤ length (linesAt s at)
+unfolding linesAt
+some-lines s at h =
+    let n = span noLf (drop at s) in
+    let line : ChewedLine = record { text = take n (drop at s); ends = ltb n (length (drop at s)) } in
+    let more = ap (λ (ls : List ChewedLine). length (map endMended ls)) (first-of (drop at s) (omega (arith, length-drop at s))) in
+    omega (arith, more)

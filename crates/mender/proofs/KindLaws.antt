@@ -45,12 +45,14 @@ module _ (kinds lines : List ℕ) (i line k : ℕ) where
 
   pub noted-none : k ≡ 0 → i + length (kindsOf k) ≤ length kinds → i + length (kindsOf k) ≤ length lines → Puts kinds i kindsTold kinds i × Puts lines i linesTold lines i
   unfolding changesIn
-  noted-none e h g =
-      (puts-nothing (ap (λ (ks : List ℕ). map (λ c. c .kind) (changesIn line ks)) (none-done k e)) (omega arith),
-      puts-nothing (ap (λ (ks : List ℕ). map (λ c. c .line) (changesIn line ks)) (none-done k e)) (omega arith))
+  noted-none e h g = (
+    puts-nothing (ap (λ (ks : List ℕ). map (λ c. c .kind) (changesIn line ks)) (none-done k e)) (omega arith),
+    puts-nothing (ap (λ (ks : List ℕ). map (λ c. c .line) (changesIn line ks)) (none-done k e)) (omega arith),
+  )
 
   pub noted-one : (k ≡ 0 → ⊥) → i < length kinds → i < length lines → Puts kinds i kindsTold (set kinds i k) (i + 1) × Puts lines i linesTold (set lines i line) (i + 1)
   unfolding changesIn
-  noted-one e h g =
-      (puts-as (record { fits = omega arith; list = written-byte kinds i k h; place = refl }) (sym (ap (λ (ks : List ℕ). map (λ c. c .kind) (changesIn line ks)) (one-done k e))),
-      puts-as (record { fits = omega arith; list = written-byte lines i line g; place = refl }) (sym (ap (λ (ks : List ℕ). map (λ c. c .line) (changesIn line ks)) (one-done k e))))
+  noted-one e h g = (
+    puts-as (record { fits = omega arith; list = written-byte kinds i k h; place = refl }) (sym (ap (λ (ks : List ℕ). map (λ c. c .kind) (changesIn line ks)) (one-done k e))),
+    puts-as (record { fits = omega arith; list = written-byte lines i line g; place = refl }) (sym (ap (λ (ks : List ℕ). map (λ c. c .line) (changesIn line ks)) (one-done k e))),
+  )

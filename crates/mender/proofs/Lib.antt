@@ -5,3 +5,6 @@ pub mod CutLaws
 pub mod LayLaws
 pub mod NextLaws
 pub mod PutLaws
+pub mod TurnLaws
+pub mod ReadLaws
+pub mod AnswerLaws

@@ -16,9 +16,10 @@ run-to-requires c κs = search needs
 
 text-end-requires : tie.Need-text-end-requires
 text-end-requires c κs =
-    let b = c .before .before .before in
-    (feed-forth (now (b .args .s)) (b .args .at) (b .pre) (c .before .allowed-run .ensures) (c .run-to .ensures),
-    feed-within (now (b .args .s)) (b .args .at) (b .pre) (c .before .allowed-run .ensures) (c .run-to .ensures))
+    let b = c .before .before .before in (
+      feed-forth (now (b .args .s)) (b .args .at) (b .pre) (c .before .allowed-run .ensures) (c .run-to .ensures),
+      feed-within (now (b .args .s)) (b .args .at) (b .pre) (c .before .allowed-run .ensures) (c .run-to .ensures),
+    )
 
 add-t6 : tie.Need-add-t6
 add-t6 c =
