@@ -18,4 +18,5 @@ pub mod Cases
 pub mod TableArguments
 pub mod TableFields
 pub mod TableLogs
+pub mod TableMending
 pub mod Table
