@@ -229,6 +229,16 @@ module _ (R : Rules) (rooms : Rooms) (s : Text) where
       by (textTooLong short format fits h g) e = absurd (omega (arith, told g))
       by (handed short format fits h g) e = (short, format, fits, h)
 
+  what-is-handed : (t : Text) (cs : List Change) → mend R rooms s ≡ mended t cs → (t ≡ mendedText s) × (cs ≡ changes s)
+  what-is-handed t cs e = by outcome
+    where
+      by : Outcome → (t ≡ mendedText s) × (cs ≡ changes s)
+      by (tooLong h g) = no-text (sym g ∙ e)
+      by (unread r short h g) = no-text (sym g ∙ e)
+      by (listTooLong short format h g) = no-text (sym g ∙ e)
+      by (textTooLong short format fits h g) = no-text (sym g ∙ e)
+      by (handed short format fits h g) = (cc, cc)
+
   rightly-placed : LineAndField (refusalOfMending (mend R rooms s))
   unfolding refusalOfMending noRefusal
   rightly-placed = by outcome
@@ -250,6 +260,7 @@ given-by-mending R s rooms =
       ten = ten-when R rooms s;
       eight = eight-when R rooms s;
       zero = zero-when R rooms s;
+      handed = what-is-handed R rooms s;
       lineAndField = rightly-placed R rooms s;
     }
 

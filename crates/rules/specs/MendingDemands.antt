@@ -183,6 +183,8 @@ pub record GivenByMending (R : Rules) (s : Text) (rooms : Rooms) : Type 0 where
       × FollowsTheFormat R (mendedText s)
       × (ListIsTooLong rooms s → ⊥)
       × (length (mendedText s) ≤ rooms .out))
+  -- What is handed over is the mended log and the list of it.
+  pub handed : (t : Text) (cs : List Change) → mend R rooms s ≡ mended t cs → (t ≡ mendedText s) × (cs ≡ changes s)
   pub lineAndField : LineAndField (refusalOfMending (mend R rooms s))
 
 -- "A refusal gives .. length 0, and no byte of a lent slice is changed": nothing is handed out, and each slice holds what it held.
