@@ -21,7 +21,7 @@ use Rattle.rules.specs.Mending.{mendedText, Change, changes, Rooms, Mend
 use Rattle.rules.specs.MendingDemands.{HandedOverIsAccepted, ListIsTooLong, GivenByMending, RefusedMendingChangesNothing}
 use Rattle.rules.proofs.Tests.{and-i}
 use Rattle.rules.proofs.Format.{accepted-when-written}
-use Rattle.rules.proofs.GivenRefusals.{no-place, numbered, placed}
+use Rattle.rules.proofs.GivenRefusals.{no-place, numbered, placed, given-by-reading}
 
 -- A refusal hands nothing over.
 no-text : {A : Type 0} {r : Refusal} {t : Text} {cs : List Change} → unmended r ≡ mended t cs → A
@@ -176,6 +176,24 @@ module _ (R : Rules) (rooms : Rooms) (s : Text) where
       let q = same-told g e in
       (ap (λ (r : Refusal). r .line) q, ap (λ (r : Refusal). r .field) q)
 
+  one-when : (n f : ℕ) → (mend R rooms s ≡ unmended (refusal 1 n f)) ↔ ((n ≡ 0) × (f ≡ 0) × ((R .longestLog < length s) ⊎ (R .longestLog < length (mendedText s))))
+  one-when n f = (λ e. by outcome e, λ p. let (k, z, h) = p in over-limit h (decLt (R .longestLog) (length s)) ∙ cc)
+    where
+      over-limit : (R .longestLog < length s) ⊎ (R .longestLog < length (mendedText s)) → Dec (R .longestLog < length s) → mend R rooms s ≡ unmended (refusal 1 0 0)
+      over-limit h (yes k) = mend-long k
+      over-limit (inl h) (no k) = mend-long h
+      over-limit (inr h) (no k) =
+          mend-refused (omega arith) (refusal 1 0 0) ((given-by-reading R) .one (mendedText s) 0 0 .1 (refl, refl, h))
+
+      by : Outcome → mend R rooms s ≡ unmended (refusal 1 n f) → (n ≡ 0) × (f ≡ 0) × ((R .longestLog < length s) ⊎ (R .longestLog < length (mendedText s)))
+      by (tooLong h g) e = let p = no-places g e in (p .0, p .1, inl h)
+      by (unread r short h g) e =
+          let (k, z, over) = (given-by-reading R) .one (mendedText s) n f .0 (h ∙ ap refused (same-told g e)) in
+          (k, z, inr over)
+      by (listTooLong short format h g) e = absurd (omega (arith, same-number g e))
+      by (textTooLong short format fits h g) e = absurd (omega (arith, same-number g e))
+      by (handed short format fits h g) e = not-refused g e
+
   ten-when : (n f : ℕ) → (mend R rooms s ≡ unmended (refusal 10 n f)) ↔ ((n ≡ 0) × (f ≡ 0) × (length s ≤ R .longestLog) × FollowsTheFormat R (mendedText s) × ListIsTooLong rooms s)
   ten-when n f = (λ e. by outcome e, λ p. let (k, z, short, format, h) = p in mend-ten short format h ∙ cc)
     where
@@ -211,6 +229,16 @@ module _ (R : Rules) (rooms : Rooms) (s : Text) where
       by (textTooLong short format fits h g) e = absurd (omega (arith, told g))
       by (handed short format fits h g) e = (short, format, fits, h)
 
+  what-is-handed : (t : Text) (cs : List Change) → mend R rooms s ≡ mended t cs → (t ≡ mendedText s) × (cs ≡ changes s)
+  what-is-handed t cs e = by outcome
+    where
+      by : Outcome → (t ≡ mendedText s) × (cs ≡ changes s)
+      by (tooLong h g) = no-text (sym g ∙ e)
+      by (unread r short h g) = no-text (sym g ∙ e)
+      by (listTooLong short format h g) = no-text (sym g ∙ e)
+      by (textTooLong short format fits h g) = no-text (sym g ∙ e)
+      by (handed short format fits h g) = (cc, cc)
+
   rightly-placed : LineAndField (refusalOfMending (mend R rooms s))
   unfolding refusalOfMending noRefusal
   rightly-placed = by outcome
@@ -227,11 +255,12 @@ module _ (R : Rules) (rooms : Rooms) (s : Text) where
 pub given-by-mending : (R : Rules) (s : Text) (rooms : Rooms) → GivenByMending R s rooms
 given-by-mending R s rooms =
     record {
-      overTheLimit = mend-long R rooms s;
+      one = one-when R rooms s;
       reading = λ r short e. mend-refused R rooms s short r e;
       ten = ten-when R rooms s;
       eight = eight-when R rooms s;
       zero = zero-when R rooms s;
+      handed = what-is-handed R rooms s;
       lineAndField = rightly-placed R rooms s;
     }
 
@@ -247,6 +276,14 @@ handed-is-accepted R s t rooms cs e = by (outcome R rooms s)
         let is : mendedText s ≡ t = cc in
         subst (λ (u : Text). FollowsTheFormat R u) is format
 
-pub refused-mending : (R : Rules) (s : Text) (rooms : Rooms) (r : Refusal) → mend R rooms s ≡ unmended r → RefusedMendingChangesNothing R s rooms r
+pub refused-mending : (R : Rules) (s : Text) (rooms : Rooms) (r : Refusal) → mend R rooms s ≡ unmended r → RefusedMendingChangesNothing R s rooms
 unfolding bytesOfMending kindsOfMending linesOfMending over
-refused-mending R s rooms r e = record { out = λ slice. rw e; kinds = λ slice. rw e; lines = λ slice. rw e }
+refused-mending R s rooms r e =
+    record {
+      noByte = rw e;
+      noKind = rw e;
+      noLine = rw e;
+      out = λ slice. rw e;
+      kinds = λ slice. rw e;
+      lines = λ slice. rw e;
+    }

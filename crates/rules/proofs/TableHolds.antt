@@ -9,6 +9,7 @@ use Rattle.rules.specs.Cases.{Case, answer}
 use Rattle.rules.specs.TableArguments.{lineCases, argumentCases, argumentCharacterCases, bandCases, keywordCases, dueCases, spellingCases}
 use Rattle.rules.specs.TableFields.{fieldCases, fieldCharacterCases, calendarCases}
 use Rattle.rules.specs.TableLogs.{case12Cases, readingCases, lendingCases, oldSpellingCases, squareCases, wrongTurnCases, wideCases, samenessCases, valueCases, limitCases}
+use Rattle.rules.specs.TableMending.{lineEndCases, spaceCases, countCases, placeCases, mendedCases, mendingRefusedCases, mendingRoomCases, mendingLimitCases}
 use Rattle.rules.specs.Table.{table}
 
 -- Each case of the list is answered as it says.
@@ -111,6 +112,38 @@ limitCases-hold : answers limitCases ≡ says limitCases
 unfolding answer limitCases
 limitCases-hold = refl
 
+lineEndCases-hold : answers lineEndCases ≡ says lineEndCases
+unfolding answer lineEndCases
+lineEndCases-hold = refl
+
+spaceCases-hold : answers spaceCases ≡ says spaceCases
+unfolding answer spaceCases
+spaceCases-hold = refl
+
+countCases-hold : answers countCases ≡ says countCases
+unfolding answer countCases
+countCases-hold = refl
+
+placeCases-hold : answers placeCases ≡ says placeCases
+unfolding answer placeCases
+placeCases-hold = refl
+
+mendedCases-hold : answers mendedCases ≡ says mendedCases
+unfolding answer mendedCases
+mendedCases-hold = refl
+
+mendingRefusedCases-hold : answers mendingRefusedCases ≡ says mendingRefusedCases
+unfolding answer mendingRefusedCases
+mendingRefusedCases-hold = refl
+
+mendingRoomCases-hold : answers mendingRoomCases ≡ says mendingRoomCases
+unfolding answer mendingRoomCases
+mendingRoomCases-hold = refl
+
+mendingLimitCases-hold : answers mendingLimitCases ≡ says mendingLimitCases
+unfolding answer mendingLimitCases
+mendingLimitCases-hold = refl
+
 pub table-holds : Holds table
 unfolding table
 table-holds =
@@ -134,3 +167,11 @@ table-holds =
     also computed samenessCases samenessCases-hold
     also computed valueCases valueCases-hold
     also computed limitCases limitCases-hold
+    also computed lineEndCases lineEndCases-hold
+    also computed spaceCases spaceCases-hold
+    also computed countCases countCases-hold
+    also computed placeCases placeCases-hold
+    also computed mendedCases mendedCases-hold
+    also computed mendingRefusedCases mendingRefusedCases-hold
+    also computed mendingRoomCases mendingRoomCases-hold
+    also computed mendingLimitCases mendingLimitCases-hold

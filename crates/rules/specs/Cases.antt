@@ -19,6 +19,7 @@ use Rattle.rules.specs.Judging.{declared, verdictNumber, verdictsOfLog, 
 use Rattle.rules.specs.Writing.{writtenBack, unclaimed}
 use Rattle.rules.specs.Reading.{FirstLine, aLine, noLine, firstLine, RecordRule, keeps, breaks, recordRule, Reading, accepted, refused, read, step}
 use Rattle.rules.specs.Answers.{view, refusalOfView, startOfView, viewed, listedOfView, judge, refusalOfJudgement, totalsOfJudgement, numbersOfJudgement, write, refusalOfWriting, bytesOfWriting, refusalOfReading, recordsOfReading, respeltOfReading, over}
+use Rattle.rules.specs.Mending.{mendedText, Change, changes, Rooms, mend, refusalOfMending, bytesOfMending, kindsOfMending, linesOfMending}
 use Rattle.rules.specs.Striking.{Places, strike, placeAfter, struckWorth}
 use Rattle.rules.specs.Desk.{desk}
 
@@ -67,6 +68,13 @@ pub data Question : Type 0 where
   isWorth : Places → Text → Question
   -- of struck places and a place: the place that the record there has afterwards
   comesToStand : Places → ℕ → Question
+  -- of a text: what it is mended to, whatever the reader says of it; the kind and the line of each thing that was changed
+  mendsTo : Text → Question
+  mendsIn : Text → Question
+  -- of a text and slices so long for the mended log, the kinds and the lines: number, line, field, the kind and the line of each change, the bytes
+  isMended : ℕ → ℕ → ℕ → Text → Question
+  -- of a text and slices that hold this: what the three hold after mending, one behind the other
+  leavesMending : List ℕ → List ℕ → List ℕ → Text → Question
 
 abbrev truth : Bool → List ℕ
 truth true = 1 ∷ []
@@ -103,6 +111,19 @@ abbrev recordIn : RecordRule → List ℕ
 recordIn keeps = 0 ∷ []
 recordIn (breaks field) = 5 ∷ field ∷ []
 
+abbrev changesInNumbers : List Change → List ℕ
+changesInNumbers [] = []
+changesInNumbers (c ∷ cs) = c .kind ∷ c .line ∷ changesInNumbers cs
+
+-- The kinds and the lines of a list, each kind in front of its line. Of two lists that are not as long as each other, the rest stands behind.
+unfoldable pub paired : List ℕ → List ℕ → List ℕ
+paired [] ls = ls
+paired (k ∷ ks) [] = k ∷ ks
+paired (k ∷ ks) (l ∷ ls) = k ∷ l ∷ paired ks ls
+
+abbrev roomsFor : ℕ → ℕ → ℕ → Rooms
+roomsFor out kinds lines = record { out = out; kinds = kinds; lines = lines }
+
 -- What is asked of a log that has to be accepted; a refused one answers with its refusal.
 abbrev ofLog : (Log → List ℕ) → Reading → List ℕ
 ofLog f (accepted log) = f log
@@ -117,7 +138,7 @@ unfolding read base render strike totalsOfLog verdictsOfLog verdictNumber
 afterStrike struck log = ofLog judgedIn (read base (render (strike struck log)))
 
 unfoldable pub answer : Question → List ℕ
-unfolding firstLine step dayExists fullYear sameButCase meets recordRule read refusalOfReading recordsOfReading respeltOfReading valid render judge refusalOfJudgement numbersOfJudgement totalsOfJudgement desk write refusalOfWriting bytesOfWriting over unclaimed view refusalOfView startOfView viewed listedOfView afterStrike writtenBack strike struckWorth declared verdictsOfLog placeAfter base
+unfolding firstLine step dayExists fullYear sameButCase meets recordRule read refusalOfReading recordsOfReading respeltOfReading valid render judge refusalOfJudgement numbersOfJudgement totalsOfJudgement desk write refusalOfWriting bytesOfWriting over unclaimed view refusalOfView startOfView viewed listedOfView afterStrike writtenBack strike struckWorth declared verdictsOfLog placeAfter mendedText changes mend refusalOfMending bytesOfMending kindsOfMending linesOfMending paired base
 answer (hasLine s) = lineIn (firstLine base s)
 answer (leads due l) = nextIn (step base due l)
 answer (isYear yy) = fullYear yy ∷ []
@@ -144,6 +165,14 @@ answer (isStruckTo struck s) = ofLog (λ log. render (strike struck log)) (read 
 answer (isWorth struck s) =
     ofLog (λ log. struckWorth (declared log) struck (log .records) (verdictsOfLog base log) ∷ []) (read base s)
 answer (comesToStand struck n) = placeAfter struck n ∷ []
+answer (mendsTo s) = mendedText s
+answer (mendsIn s) = changesInNumbers (changes s)
+answer (isMended out kinds lines s) =
+    let m = mend base (roomsFor out kinds lines) s in
+    paper (refusalOfMending m) ++ paired (kindsOfMending m) (linesOfMending m) ++ bytesOfMending m
+answer (leavesMending out kinds lines s) =
+    let m = mend base (roomsFor (length out) (length kinds) (length lines)) s in
+    over (bytesOfMending m) out ++ over (kindsOfMending m) kinds ++ over (linesOfMending m) lines
 
 -- A question and what is to be answered.
 pub record Case : Type 0 where

@@ -12,10 +12,11 @@ pub mod Mending
 pub mod Given
 pub mod Striking
 pub mod Desk
-pub mod Demands
 pub mod MendingDemands
+pub mod Demands
 pub mod Cases
 pub mod TableArguments
 pub mod TableFields
 pub mod TableLogs
+pub mod TableMending
 pub mod Table

@@ -153,7 +153,11 @@ abbrev pub ListIsTooLong : Rooms → Text → Type 0
 ListIsTooLong rooms s = (rooms .kinds < length (changes s)) ⊎ (rooms .lines < length (changes s))
 
 pub record GivenByMending (R : Rules) (s : Text) (rooms : Rooms) : Type 0 where
-  pub overTheLimit : R .longestLog < length s → mend R rooms s ≡ unmended (refusal 1 0 0)
+  -- 1 is also the reader's number for a mended log that is over the limit.
+  pub one :
+      (n f : ℕ) →
+      (mend R rooms s ≡ unmended (refusal 1 n f))
+      ↔ ((n ≡ 0) × (f ≡ 0) × ((R .longestLog < length s) ⊎ (R .longestLog < length (mendedText s))))
   pub reading :
       (r : Refusal) → length s ≤ R .longestLog → read R (mendedText s) ≡ refused r → mend R rooms s ≡ unmended r
   pub ten :
@@ -179,10 +183,15 @@ pub record GivenByMending (R : Rules) (s : Text) (rooms : Rooms) : Type 0 where
       × FollowsTheFormat R (mendedText s)
       × (ListIsTooLong rooms s → ⊥)
       × (length (mendedText s) ≤ rooms .out))
+  -- What is handed over is the mended log and the list of it.
+  pub handed : (t : Text) (cs : List Change) → mend R rooms s ≡ mended t cs → (t ≡ mendedText s) × (cs ≡ changes s)
   pub lineAndField : LineAndField (refusalOfMending (mend R rooms s))
 
--- "and no byte of a lent slice is changed"
-pub record RefusedMendingChangesNothing (R : Rules) (s : Text) (rooms : Rooms) (r : Refusal) : Type 0 where
+-- "A refusal gives .. length 0, and no byte of a lent slice is changed": nothing is handed out, and each slice holds what it held.
+pub record RefusedMendingChangesNothing (R : Rules) (s : Text) (rooms : Rooms) : Type 0 where
+  pub noByte : bytesOfMending (mend R rooms s) ≡ []
+  pub noKind : kindsOfMending (mend R rooms s) ≡ []
+  pub noLine : linesOfMending (mend R rooms s) ≡ []
   pub out : (slice : List ℕ) → over (bytesOfMending (mend R rooms s)) slice ≡ slice
   pub kinds : (slice : List ℕ) → over (kindsOfMending (mend R rooms s)) slice ≡ slice
   pub lines : (slice : List ℕ) → over (linesOfMending (mend R rooms s)) slice ≡ slice
@@ -202,4 +211,4 @@ pub record TheMender (R : Rules) : Type 0 where
   pub aRefusalChangesNothing :
       (s : Text) (rooms : Rooms) (r : Refusal) →
       mend R rooms s ≡ unmended r →
-      RefusedMendingChangesNothing R s rooms r
+      RefusedMendingChangesNothing R s rooms

@@ -1,10 +1,11 @@
--- The table of cases: those of document 01 that it stars, with its numbers, and our own beside them.
+-- The table of cases: those of document 01 that it stars, with its numbers, and our own beside them; last those of the mender.
 -- Assumes nothing.
 use mathlib.Core.List.{List, _++_}
 use Rattle.rules.specs.Cases.{Case}
 use Rattle.rules.specs.TableArguments.{lineCases, argumentCases, argumentCharacterCases, bandCases, keywordCases, dueCases, spellingCases}
 use Rattle.rules.specs.TableFields.{fieldCases, fieldCharacterCases, calendarCases}
 use Rattle.rules.specs.TableLogs.{case12Cases, readingCases, lendingCases, oldSpellingCases, squareCases, wrongTurnCases, wideCases, samenessCases, valueCases, limitCases}
+use Rattle.rules.specs.TableMending.{lineEndCases, spaceCases, countCases, placeCases, mendedCases, mendingRefusedCases, mendingRoomCases, mendingLimitCases}
 
 unfoldable pub table : List Case
 table =
@@ -28,3 +29,11 @@ table =
     ++ samenessCases
     ++ valueCases
     ++ limitCases
+    ++ lineEndCases
+    ++ spaceCases
+    ++ countCases
+    ++ placeCases
+    ++ mendedCases
+    ++ mendingRefusedCases
+    ++ mendingRoomCases
+    ++ mendingLimitCases
