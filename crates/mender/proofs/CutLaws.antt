@@ -12,8 +12,7 @@ use lib.Seq.{drop-drop}
 use borrow.Author.Tests.{eq-eqb, ne-eqb, le-ltb, lt-ltb, le-leb, lt-leb, leb-true, leb-false, ltb-true, ltb-false, not-true}
 use Rattle.rules.specs.Text.{Text, all, allowed, span}
 use Rattle.rules.specs.Mending.{ChewedLine, MendedLine, inFront, chewedLines, endsInCr, withoutCr, endDone, endMended, trimmed}
-use Rattle.rules.proofs.MendingLaws.{noLf, ends-behind, without-behind, trimmed-behind}
-use Rattle.rules.proofs.Tests.{and-l, not-false}
+use Rattle.rules.proofs.MendingLaws.{noLf, allowed-is-no-lf, ends-behind, without-behind, trimmed-behind}
 use Rattle.rules.proofs.TextLaws.{span-short}
 use Rattle.reader.specs.Contact.{between}
 use Rattle.writer.proofs.WrittenLaws.{part-more}
@@ -118,11 +117,6 @@ first-line c (d ∷ u) = by (eqb c 10) (first-line d u)
     by false h = ap (inFront c) h ∙ ap (λ (b : Bool). record { text = c ∷ take (span noLf (d ∷ u)) (d ∷ u); ends = b } ∷ chewedLines (drop (suc (span noLf (d ∷ u))) (d ∷ u))) (sym (less-suc (span noLf (d ∷ u)) (suc (length u))))
 
 -- # Runs
-
-allowed-is-no-lf : (c : ℕ) → allowed c ≡ true → noLf c ≡ true
-allowed-is-no-lf c e =
-    let low : 32 ≤ c = leb-true 32 c (and-l (leb 32 c) (leb c 127) e) in
-    not-false (ne-eqb c 10 (λ z. omega arith))
 
 -- A run within a longer one: what is left of the longer one is counted from its end on.
 pub run-through : (f g : ℕ → Bool) → ((c : ℕ) → f c ≡ true → g c ≡ true) → (u : Text) → span g u ≡ span f u + span g (drop (span f u) u)

@@ -28,10 +28,13 @@ use Rattle.rules.proofs.LogLaws.{digits-allowed}
 abbrev pub noLf : ℕ → Bool
 noLf c = not (eqb c 10)
 
+pub allowed-is-no-lf : (c : ℕ) → allowed c ≡ true → noLf c ≡ true
+allowed-is-no-lf c e =
+    let low : 32 ≤ c = leb-true 32 c (and-l (leb 32 c) (leb c 127) e) in
+    not-false (ne-eqb c 10 (λ z. omega arith))
+
 pub allowed-no-lf : (t : Text) → all allowed t ≡ true → all noLf t ≡ true
-allowed-no-lf =
-    all-weaker allowed noLf
-    (λ c e. let low : 32 ≤ c = leb-true 32 c (and-l (leb 32 c) (leb c 127) e) in not-false (ne-eqb c 10 (λ z. omega arith)))
+allowed-no-lf = all-weaker allowed noLf allowed-is-no-lf
 
 -- # Lines
 
