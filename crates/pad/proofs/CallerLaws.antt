@@ -1,11 +1,14 @@
 -- What a caller in C may rely on: the refusal of each answer is the one of the definition, so what is proved of all calls holds of it.
 -- Assumes nothing.
-use Prim.Native.Nat.{ℕ, _≤_}
+use Prim.Native.Nat.{ℕ, _≤_, _<_}
 use native.Mathlib.Omega.{arith}
 use mathlib.Core.Bool.{Bool, true, false}
+use mathlib.Core.Logic.{_⊎_, _↔_, inl, inr, ⊎-elim}
 use mathlib.Core.Path.{_≡_, refl}
-use mathlib.Core.List.{List}
-use lib.ListN.{length}
+use mathlib.Core.List.{List, map}
+use lib.Dec.{leb}
+use lib.ListN.{length, length-map}
+use borrow.Author.Tests.{leb-true, leb-false}
 use Rattle.rules.specs.Text.{Text}
 use Rattle.rules.specs.Rules.{base}
 use Rattle.rules.specs.Judging.{zeroTotals}
@@ -15,8 +18,12 @@ use Rattle.rules.proofs.Format.{accepted-when-written}
 use Rattle.rules.proofs.Refusals.{refused-reading}
 use Rattle.rules.proofs.Respelt.{spellings-counted}
 use Rattle.rules.proofs.GivenCalls.{zero-when-accepted, line-and-field-told}
-use Rattle.pad.specs.Face.{oneIf, readingFace, viewFace, totalsFace, judgementFace, writtenFace}
-use Rattle.pad.specs.Caller.{Accepts, ToldByRead, ToldByView, ToldByJudge, ToldByWrite, ForTheCaller}
+use Rattle.rules.specs.Mending.{Mending, mended, unmended, mendedText, changes, mend, bytesOfMending, kindsOfMending, linesOfMending}
+use Rattle.rules.specs.MendingDemands.{ListIsTooLong}
+use Rattle.rules.proofs.MendingGiven.{given-by-mending, mend-all}
+use Rattle.mender.specs.Answer.{roomsOf}
+use Rattle.pad.specs.Face.{oneIf, readingFace, viewFace, totalsFace, judgementFace, writtenFace, mendedFace}
+use Rattle.pad.specs.Caller.{Accepts, ToldByRead, ToldByView, ToldByJudge, ToldByWrite, ListFits, ToldByMend, ForTheCaller}
 
 -- # What a refused call leaves
 
@@ -48,6 +55,11 @@ no-writing : (w : Writing) (slice : List ℕ) → (Accepts ((writtenFace w) .ref
 unfolding writtenFace bytesOfWriting over
 no-writing (written t) slice h = absurd (h refl)
 no-writing (unwritten r) slice h = (refl, refl)
+
+no-mending : (m : Mending) (out kinds lines : List ℕ) → (Accepts ((mendedFace m) .refusal) → ⊥) → ((mendedFace m) .length ≡ 0) × ((mendedFace m) .changes ≡ 0) × (over (bytesOfMending m) out ≡ out) × (over (kindsOfMending m) kinds ≡ kinds) × (over (linesOfMending m) lines ≡ lines)
+unfolding mendedFace bytesOfMending kindsOfMending linesOfMending over
+no-mending (mended t cs) out kinds lines h = absurd (h refl)
+no-mending (unmended r) out kinds lines h = (refl, refl, refl, refl, refl)
 
 -- # Each call
 
@@ -90,6 +102,38 @@ told-by-write s slice =
       refused = no-writing (write base (length slice) s) slice;
     }
 
+at-most : (a b : ℕ) → (b < a → ⊥) → a ≤ b
+at-most a b h = by (leb a b) refl
+  where
+    by : (t : Bool) → leb a b ≡ t → a ≤ b
+    by true e = leb-true a b e
+    by false e = absurd (h (leb-false a b e))
+
+-- A list fits where it is not too long for either slice.
+not-too-long : (s : Text) (out kinds lines : List ℕ) → (ListIsTooLong (roomsOf out kinds lines) s → ⊥) ↔ ListFits s kinds lines
+not-too-long s out kinds lines = (
+  λ h. (at-most (length (changes s)) (length kinds) (λ k. h (inl k)), at-most (length (changes s)) (length lines) (λ k. h (inr k))),
+  λ f k. ⊎-elim (λ (x : length kinds < length (changes s)). omega (arith, f .0)) (λ (x : length lines < length (changes s)). omega (arith, f .1)) k,
+)
+
+-- What is handed over.
+handed-to : (m : Mending) (s : Text) (out kinds lines : List ℕ) → m ≡ mended (mendedText s) (changes s) → ((mendedFace m) .length ≡ length (mendedText s)) × ((mendedFace m) .changes ≡ length (changes s)) × (over (bytesOfMending m) out ≡ over (mendedText s) out) × (over (kindsOfMending m) kinds ≡ over (map (λ c. c .kind) (changes s)) kinds) × (over (linesOfMending m) lines ≡ over (map (λ c. c .line) (changes s)) lines)
+unfolding mendedFace bytesOfMending kindsOfMending linesOfMending
+handed-to m s out kinds lines e = rw e (refl, length-map (changes s) (λ c. c .kind), refl, refl, refl)
+
+told-by-mend : (s : Text) (out kinds lines : List ℕ) → ToldByMend s out kinds lines (mendedFace (mend base (roomsOf out kinds lines) s)) (over (bytesOfMending (mend base (roomsOf out kinds lines) s)) out) (over (kindsOfMending (mend base (roomsOf out kinds lines) s)) kinds) (over (linesOfMending (mend base (roomsOf out kinds lines) s)) lines)
+unfolding mendedFace
+told-by-mend s out kinds lines =
+    let rooms = roomsOf out kinds lines in
+    let g = given-by-mending base s rooms in
+    let fit = not-too-long s out kinds lines in
+    record {
+      accepted = (λ a. let z = g .zero .0 a in (z .0, z .1, fit .0 (z .2), z .3), λ b. g .zero .1 (b .0, b .1, fit .1 (b .2), b .3));
+      place = g .lineAndField;
+      handed = λ a. let z = g .zero .0 a in handed-to (mend base rooms s) s out kinds lines (mend-all base rooms s (z .0) (z .1) (z .2) (z .3));
+      refused = no-mending (mend base rooms s) out kinds lines;
+    }
+
 pub for-the-caller : ForTheCaller
 for-the-caller =
-    record { reading = told-by-read; viewing = told-by-view; judging = told-by-judge; writing = told-by-write }
+    record { reading = told-by-read; viewing = told-by-view; judging = told-by-judge; writing = told-by-write; mending = told-by-mend }

@@ -2,8 +2,8 @@
 -- Assumes nothing.
 use Prim.Native.Nat.{ℕ}
 use mathlib.Core.Bool.{Bool}
-use mathlib.Core.Path.{_≡_, refl, ap, ap₂, _∙_}
-use lib.ListN.{length}
+use mathlib.Core.Path.{_≡_, refl, sym, ap, ap₂, _∙_}
+use lib.ListN.{length, length-map}
 use Rattle.rules.specs.declared.Refusal.{Refusal}
 use Rattle.rules.specs.declared.Totals.{Totals}
 use Rattle.rules.specs.Text.{Text}
@@ -11,6 +11,7 @@ use Rattle.rules.specs.Rules.{base}
 use Rattle.rules.specs.Judging.{zeroTotals}
 use Rattle.rules.specs.Reading.{Reading, accepted, refused, read}
 use Rattle.rules.specs.Answers.{Viewing, seen, unseen, view, Judgement, judged, unjudged, judge, Writing, written, unwritten, write, noRefusal}
+use Rattle.rules.specs.Mending.{Mending, mended, unmended}
 use Rattle.reader.specs.declared.Heading.{Heading}
 use Rattle.reader.specs.declared.ReadAnswer.{ReadAnswer}
 use Rattle.reader.specs.declared.ReadAnswer.the-variants as ReadAnswer
@@ -24,12 +25,16 @@ use Rattle.judge.specs.Judge.{judgedBy, judgedOf}
 use Rattle.writer.specs.declared.Wrote.{Wrote}
 use Rattle.writer.specs.declared.Wrote.the-variants as Wrote
 use Rattle.writer.specs.LogText.{wroteBy, wroteOf}
+use Rattle.mender.specs.declared.MendAnswer.{MendAnswer}
+use Rattle.mender.specs.declared.MendAnswer.the-variants as MendAnswer
+use Rattle.mender.specs.Answer.{mendedBy}
 use Rattle.pad.specs.declared.SumpquinceRefusal.{SumpquinceRefusal}
 use Rattle.pad.specs.declared.SumpquinceReading.{SumpquinceReading}
 use Rattle.pad.specs.declared.SumpquinceView.{SumpquinceView}
 use Rattle.pad.specs.declared.SumpquinceJudgement.{SumpquinceJudgement}
 use Rattle.pad.specs.declared.SumpquinceWritten.{SumpquinceWritten}
-use Rattle.pad.specs.Face.{refusalFace, oneIf, readingFace, viewFace, totalsFace, judgementFace, writtenFace}
+use Rattle.pad.specs.declared.SumpquinceMended.{SumpquinceMended}
+use Rattle.pad.specs.Face.{refusalFace, oneIf, readingFace, viewFace, totalsFace, judgementFace, writtenFace, mendedFace}
 
 -- # Reading
 
@@ -123,3 +128,24 @@ module _ (room : ℕ) (s : Text) where
 
   pub unwritten-shown : {f : SumpquinceRefusal} {r : Refusal} → f ≡ refusalFace r → Wrote.Refused r ≡ wroteOf base room s → aWritten 0 f ≡ writtenFace (write base room s)
   unwritten-shown e a = ap (aWritten 0) e ∙ ap writtenShown a ∙ written-shown
+
+-- # Mending
+
+abbrev aMended : ℕ → ℕ → SumpquinceRefusal → SumpquinceMended
+aMended n changes f = record { refusal = f; length = n; changes = changes }
+
+abbrev mendedShown : MendAnswer → SumpquinceMended
+mendedShown (MendAnswer.Mended n changes) = aMended n changes (refusalFace noRefusal)
+mendedShown (MendAnswer.Refused r) = aMended 0 0 (refusalFace r)
+
+mended-shown : (m : Mending) → mendedShown (mendedBy m) ≡ mendedFace m
+unfolding mendedBy mendedFace
+mended-shown (mended t cs) = ap (λ (n : ℕ). aMended (length t) n (refusalFace noRefusal)) (sym (length-map cs (λ c. c .kind)))
+mended-shown (unmended r) = refl
+
+module _ (m : Mending) where
+  pub changes-shown : {f : SumpquinceRefusal} {n changes : ℕ} → f ≡ refusalFace noRefusal → MendAnswer.Mended n changes ≡ mendedBy m → aMended n changes f ≡ mendedFace m
+  changes-shown {n = n} {changes = changes} e a = ap (aMended n changes) e ∙ ap mendedShown a ∙ mended-shown m
+
+  pub unmended-shown : {f : SumpquinceRefusal} {r : Refusal} → f ≡ refusalFace r → MendAnswer.Refused r ≡ mendedBy m → aMended 0 0 f ≡ mendedFace m
+  unmended-shown e a = ap (aMended 0 0) e ∙ ap mendedShown a ∙ mended-shown m

@@ -3,7 +3,7 @@
 use Prim.Native.Nat.{ℕ, _≤_}
 use mathlib.Core.Path.{_≡_}
 use mathlib.Core.Logic.{_↔_}
-use mathlib.Core.List.{List}
+use mathlib.Core.List.{List, map}
 use lib.ListN.{length}
 use Rattle.rules.specs.declared.Refusal.{Refusal}
 use Rattle.rules.specs.Text.{Text}
@@ -14,13 +14,16 @@ use Rattle.rules.specs.Judging.{zeroTotals}
 use Rattle.rules.specs.Writing.{writtenBack}
 use Rattle.rules.specs.Reading.{refusal, read}
 use Rattle.rules.specs.Answers.{view, judge, numbersOfJudgement, write, bytesOfWriting, over}
+use Rattle.rules.specs.Mending.{mendedText, changes, mend, bytesOfMending, kindsOfMending, linesOfMending}
 use Rattle.rules.specs.Given.{LineAndField}
+use Rattle.mender.specs.Answer.{roomsOf}
 use Rattle.pad.specs.declared.SumpquinceRefusal.{SumpquinceRefusal}
 use Rattle.pad.specs.declared.SumpquinceReading.{SumpquinceReading}
 use Rattle.pad.specs.declared.SumpquinceView.{SumpquinceView}
 use Rattle.pad.specs.declared.SumpquinceJudgement.{SumpquinceJudgement}
 use Rattle.pad.specs.declared.SumpquinceWritten.{SumpquinceWritten}
-use Rattle.pad.specs.Face.{readingFace, viewFace, totalsFace, judgementFace, writtenFace}
+use Rattle.pad.specs.declared.SumpquinceMended.{SumpquinceMended}
+use Rattle.pad.specs.Face.{readingFace, viewFace, totalsFace, judgementFace, writtenFace, mendedFace}
 
 -- The struct of a refusal, as document 01 has it.
 abbrev pub refusalIn : SumpquinceRefusal → Refusal
@@ -67,6 +70,30 @@ pub record ToldByWrite (s : Text) (slice : List ℕ) (w : SumpquinceWritten) (af
   pub place : LineAndField (refusalIn (w .refusal))
   pub refused : (Accepts (w .refusal) → ⊥) → (w .length ≡ 0) × (afterwards ≡ slice)
 
+-- sumpquince_mend: an input no longer than a log may be, whose mended log follows the format, and slices that have room for that and for its list,
+-- which are handed over; on a refusal each slice holds what it held.
+abbrev pub ListFits : Text → List ℕ → List ℕ → Type 0
+ListFits s kinds lines = (length (changes s) ≤ length kinds) × (length (changes s) ≤ length lines)
+
+pub record ToldByMend (s : Text) (out kinds lines : List ℕ) (m : SumpquinceMended) (out' kinds' lines' : List ℕ) : Type 0 where
+  pub accepted :
+      Accepts (m .refusal)
+      ↔ ((length s ≤ base .longestLog)
+      × FollowsTheFormat base (mendedText s)
+      × ListFits s kinds lines
+      × (length (mendedText s) ≤ length out))
+  pub place : LineAndField (refusalIn (m .refusal))
+  pub handed :
+      Accepts (m .refusal) →
+      (m .length ≡ length (mendedText s))
+      × (m .changes ≡ length (changes s))
+      × (out' ≡ over (mendedText s) out)
+      × (kinds' ≡ over (map (λ c. c .kind) (changes s)) kinds)
+      × (lines' ≡ over (map (λ c. c .line) (changes s)) lines)
+  pub refused :
+      (Accepts (m .refusal) → ⊥) →
+      (m .length ≡ 0) × (m .changes ≡ 0) × (out' ≡ out) × (kinds' ≡ kinds) × (lines' ≡ lines)
+
 -- The answers and the slices are those of the contracts of src/lib.rt.
 pub record ForTheCaller : Type 0 where
   pub reading : (s : Text) → ToldByRead s (readingFace (read base s))
@@ -81,3 +108,10 @@ pub record ForTheCaller : Type 0 where
       ToldByWrite s slice
       (writtenFace (write base (length slice) s))
       (over (bytesOfWriting (write base (length slice) s)) slice)
+  pub mending :
+      (s : Text) (out kinds lines : List ℕ) →
+      ToldByMend s out kinds lines
+      (mendedFace (mend base (roomsOf out kinds lines) s))
+      (over (bytesOfMending (mend base (roomsOf out kinds lines) s)) out)
+      (over (kindsOfMending (mend base (roomsOf out kinds lines) s)) kinds)
+      (over (linesOfMending (mend base (roomsOf out kinds lines) s)) lines)

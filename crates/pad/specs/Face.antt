@@ -12,7 +12,9 @@ use Rattle.pad.specs.declared.SumpquinceRefusal.{SumpquinceRefusal}
 use Rattle.pad.specs.declared.SumpquinceReading.{SumpquinceReading}
 use Rattle.pad.specs.declared.SumpquinceView.{SumpquinceView}
 use Rattle.pad.specs.declared.SumpquinceJudgement.{SumpquinceJudgement}
+use Rattle.rules.specs.Mending.{Mending, refusalOfMending, bytesOfMending, kindsOfMending}
 use Rattle.pad.specs.declared.SumpquinceWritten.{SumpquinceWritten}
+use Rattle.pad.specs.declared.SumpquinceMended.{SumpquinceMended}
 
 unfoldable pub refusalFace : Refusal → SumpquinceRefusal
 refusalFace r = record { number = r .number; line = r .line; field = r .field }
@@ -62,3 +64,13 @@ judgementFace j = totalsFace (refusalFace (refusalOfJudgement j)) (totalsOfJudge
 unfoldable pub writtenFace : Writing → SumpquinceWritten
 unfolding refusalFace refusalOfWriting bytesOfWriting
 writtenFace w = record { refusal = refusalFace (refusalOfWriting w); length = length (bytesOfWriting w) }
+
+-- How long the mended log is, and its list.
+unfoldable pub mendedFace : Mending → SumpquinceMended
+unfolding refusalFace refusalOfMending bytesOfMending kindsOfMending
+mendedFace m =
+    record {
+      refusal = refusalFace (refusalOfMending m);
+      length = length (bytesOfMending m);
+      changes = length (kindsOfMending m);
+    }

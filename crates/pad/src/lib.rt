@@ -6,8 +6,11 @@ ghost use lib.ListN.{length};
 ghost use Rattle.rules.specs.Rules.{base};
 ghost use Rattle.rules.specs.Reading.{read};
 ghost use Rattle.rules.specs.Answers.{noRefusal, view, judge, numbersOfJudgement, write, bytesOfWriting, over};
-ghost use Rattle.pad.specs.Face.{refusalFace, oneIf, readingFace, viewFace, totalsFace, judgementFace, writtenFace};
+ghost use Rattle.rules.specs.Mending.{mend, bytesOfMending, kindsOfMending, linesOfMending};
+ghost use Rattle.mender.specs.Answer.{roomsOf};
+ghost use Rattle.pad.specs.Face.{refusalFace, oneIf, readingFace, viewFace, totalsFace, judgementFace, writtenFace, mendedFace};
 use judge::Judged;
+use mender::MendAnswer;
 use places::ViewRead;
 use reader::ReadAnswer;
 use rules::Refusal;
@@ -57,6 +60,13 @@ pub struct SumpquinceJudgement {
 pub struct SumpquinceWritten {
     pub refusal: SumpquinceRefusal,
     pub length: u64,
+}
+
+#[repr(C)]
+pub struct SumpquinceMended {
+    pub refusal: SumpquinceRefusal,
+    pub length: u64,
+    pub changes: u64,
 }
 
 // Nothing is refused.
@@ -180,6 +190,32 @@ pub extern "C" fn sumpquince_write(log: &[u8], out: &mut [u8]) -> SumpquinceWrit
         Wrote::Refused(r) => SumpquinceWritten {
             refusal: refusal_face(r),
             length: 0,
+        },
+    }
+}
+
+#[no_mangle]
+pub extern "C" fn sumpquince_mend(
+    log: &[u8],
+    out: &mut [u8],
+    kinds: &mut [u8],
+    lines: &mut [u32],
+) -> SumpquinceMended
+    ensures answer { λ r. ⌜ r ≡ mendedFace (mend base (roomsOf (now (out .entry)) (now (kinds .entry)) (now (lines .entry))) (now (log .entry))) ⌝ }
+    ensures text { λ r. ⌜ now (out .exit) ≡ over (bytesOfMending (mend base (roomsOf (now (out .entry)) (now (kinds .entry)) (now (lines .entry))) (now (log .entry)))) (now (out .entry)) ⌝ }
+    ensures kinds { λ r. ⌜ now (kinds .exit) ≡ over (kindsOfMending (mend base (roomsOf (now (out .entry)) (now (kinds .entry)) (now (lines .entry))) (now (log .entry)))) (now (kinds .entry)) ⌝ }
+    ensures lines { λ r. ⌜ now (lines .exit) ≡ over (linesOfMending (mend base (roomsOf (now (out .entry)) (now (kinds .entry)) (now (lines .entry))) (now (log .entry)))) (now (lines .entry)) ⌝ }
+{
+    match mender::mend(log, out, kinds, lines) {
+        MendAnswer::Mended { length, changes } => SumpquinceMended {
+            refusal: no_refusal(),
+            length: length as u64,
+            changes: changes as u64,
+        },
+        MendAnswer::Refused(r) => SumpquinceMended {
+            refusal: refusal_face(r),
+            length: 0,
+            changes: 0,
         },
     }
 }
