@@ -1,10 +1,13 @@
-// Runs the library on the logs of data/ and prints what it answers: the fourteen cases of document 01, and the samples of its sources. What has
-// to come out stands in the file stdout. The comments in `main` say where each answer comes from; tests/reference holds every one of them to the
-// second judge (tests/trials.rs there).
+// Runs the library on the logs of data/ and prints what it answers: the fourteen cases of document 01, the samples of its sources, and chewed logs.
+// What has to come out stands in the file stdout. The comments below say where each answer comes from; tests/reference holds every one of them to
+// the second judge (tests/trials.rs there).
 
+ghost use Prim.Native.Nat.{_≤_};
+ghost use lib.ListN.{length};
 ghost use Rattle.io.specs.Counts.{Counts};
 use judge::Judged;
 use libc::STDOUT_FILENO;
+use mender::MendAnswer;
 use places::ViewRead;
 use reader::ReadAnswer;
 use rules::Refusal;
@@ -100,6 +103,56 @@ fn show_judged(log: &[u8], records: usize) {
     }
 }
 
+fn show_change(kind: u8, line: u32) {
+    show(b" ", kind as u64);
+    show(b":", line as u64);
+}
+
+// The changes from a place of the list up to another.
+fn show_part(kinds: &[u8], lines: &[u32], from: usize, to: usize)
+    requires { ⌜ (to ≤ length (now kinds)) × (to ≤ length (now lines)) ⌝ }
+{
+    let mut i = from;
+    while i < to {
+        show_change(kinds[i], lines[i]);
+        i += 1;
+    }
+}
+
+// The n changes, each as kind:line, or of many the first six and the last six.
+fn show_changes(kinds: &[u8], lines: &[u32], n: usize) {
+    show(b" changes ", n as u64);
+    if kinds.len() < n {
+        return;
+    }
+    if lines.len() < n {
+        return;
+    }
+    if n <= 12 {
+        show_part(kinds, lines, 0, n);
+    } else {
+        show_part(kinds, lines, 0, 6);
+        say(b" ..");
+        show_part(kinds, lines, n - 6, n);
+    }
+    say(b"\n");
+}
+
+fn show_mended(log: &[u8]) {
+    let mut mended = io::large_buffer();
+    let mut kinds = [0u8; rules::LONGEST_LOG / 2];
+    let mut lines = [0u32; rules::LONGEST_LOG / 2];
+    let answer = mender::mend(log, &mut mended, &mut kinds, &mut lines);
+    say(b"  mended:");
+    match answer {
+        MendAnswer::Mended { length, changes } => {
+            show(b" length ", length as u64);
+            show_changes(&kinds, &lines, changes);
+        }
+        MendAnswer::Refused(r) => show_refusal(r),
+    }
+}
+
 // Reads the file of this name, and answers how many bytes it put at the start of log.
 fn load(name: &[u8], log: &mut [u8]) -> usize
     ensures { λ r. ⌜ Counts r (now (log .exit)) ⌝ }
@@ -120,13 +173,14 @@ fn show_name(name: &[u8]) {
     say(b"\n");
 }
 
-// What is answered of a log: by reading and by judging.
+// What is answered of a log: by reading, by judging and by mending.
 fn answers(name: &[u8]) {
     show_name(name);
     let mut log = io::large_buffer();
     let n = load(name, &mut log);
     let records = show_read(&log[..n]);
     show_judged(&log[..n], records);
+    show_mended(&log[..n]);
 }
 
 // What is answered of a log when a keyword is viewed: where its argument starts, how long it is, whether the keyword stands in the listed spelling,
@@ -190,7 +244,8 @@ fn written(name: &[u8], other: &[u8]) {
 }
 
 // The cases of document 01, by their numbers. Their logs have the header of case 12; its lines are 1 to 38, so the count line is 39, or 40 behind
-// a remark, and the first record stands on the line after it.
+// a remark, and the first record stands on the line after it. Mending sets the count of those in cases 3 and 11 that are refused for it, hands over
+// what is accepted as it is, and refuses the others as reading does.
 fn cases() {
     // 2, line 1.
     answers(b"01-empty.edi");
@@ -267,10 +322,10 @@ fn writings() {
     written(b"01-empty.edi", b"01-empty.edi");
 }
 
-// The samples of the sources. As printed, with a bare LF behind each line, they have no first line. With CR LF they are refused where they leave the
-// format of 001. Those of 000 write SAnth and CQSOS, which is read; the layout put a line of 82 characters into the remarks of the first; the third
-// has CQS0s, with a nought, and the others the locator IP620A, with a nought too. The fourth remark of 001 has 76 characters; those of 003 have
-// several keywords on line 7, which is too long.
+// The samples of the sources. As printed, with a bare LF behind each line, they have no first line. With CR LF, or mended, they are refused where
+// they leave the format of 001. Those of 000 write SAnth and CQSOS, which is read; the layout put a line of 82 characters into the remarks of the
+// first; the third has CQS0s, with a nought, and the others the locator IP620A, with a nought too. The fourth remark of 001 has 76 characters; those
+// of 003 have several keywords on line 7, which is too long.
 fn samples() {
     answers(b"000-1-lf.edi");
     answers(b"001-lf.edi");
@@ -307,9 +362,20 @@ fn samples() {
     answers(b"003-2-mended.edi");
 }
 
+// Logs that a mail program chewed.
+fn chewed() {
+    // Case 12 with bare LFs, an open last line, spaces behind a record and a wrong count: each kind of change.
+    answers(b"w2-chewed.edi");
+    // Case 12 with a count of 007, spaces behind two records, and CR alone at the end. Spaces behind a keyword or a remark stay.
+    answers(b"w2-few.edi");
+    // A record that was broken in two is no record, whatever the count becomes: nothing is handed over.
+    answers(b"w2-broken.edi");
+}
+
 fn main() {
     cases();
     views();
     writings();
     samples();
+    chewed();
 }

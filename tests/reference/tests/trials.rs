@@ -4,13 +4,20 @@
 //! what the proved library answers. What it has to print is kept in its file
 //! `stdout`, which is read here and held to the answers of the reference.
 
-use reference::{judge, read, view, write, Refusal, Totals, View};
+use reference::{judge, mend, read, view, write, Change, Refusal, Rooms, Totals, View};
 use std::collections::BTreeSet;
 use std::fs;
 use std::path::PathBuf;
 
 /// The longest line of verdicts.
 const VERDICTS_SHOWN: usize = 30;
+
+/// How many changes are shown of either end of a list that is longer than two
+/// such ends.
+const CHANGES_SHOWN: usize = 6;
+
+/// What the trials lend for mending: enough for every log.
+const ROOMS: Rooms = Rooms { out: 65_536, kinds: 32_767, lines: 32_767 };
 
 fn kept(path: &str) -> PathBuf {
     PathBuf::from(env!("CARGO_MANIFEST_DIR")).join("../..").join(path)
@@ -46,6 +53,27 @@ fn verdicts_told(verdicts: &[u8]) -> String {
     text
 }
 
+fn changes_told(changes: &[Change]) -> String {
+    let told = |part: &[Change]| -> String {
+        part.iter().map(|change| format!(" {}:{}", change.kind, change.line)).collect()
+    };
+    if changes.len() <= 2 * CHANGES_SHOWN {
+        return told(changes);
+    }
+    let (first, last) = (&changes[..CHANGES_SHOWN], &changes[changes.len() - CHANGES_SHOWN..]);
+    told(first) + " .." + &told(last)
+}
+
+fn mended(log: &[u8]) -> String {
+    match mend(log, ROOMS) {
+        Ok(mended) => {
+            let (length, changes) = (mended.text.len(), mended.changes);
+            format!("  mended: length {length} changes {}{}\n", changes.len(), changes_told(&changes))
+        }
+        Err(refusal) => refused("mended", refusal),
+    }
+}
+
 fn answers(log: &[u8]) -> String {
     let mut text = match read(log) {
         Ok(log) => format!("  read: records {} respelt {}\n", log.records.len(), log.respelt()),
@@ -57,7 +85,7 @@ fn answers(log: &[u8]) -> String {
         }
         Err(refusal) => refused("judged", refusal),
     };
-    text
+    text + &mended(log)
 }
 
 fn argument(log: &[u8], keyword: usize) -> String {
@@ -133,6 +161,9 @@ fn copies_are_the_same() {
     for (name, copy) in [
         ("12-spring.edi", "samples/spring.edi"),
         ("12-spring.edi", "crates/desk/stdin"),
+        ("12-spring.edi", "crates/mend/stdout"),
+        ("w2-chewed.edi", "crates/mend/stdin"),
+        ("w2-chewed.edi", "samples/chewed.edi"),
         ("000-list.edi", "samples/old-spelling.edi"),
         ("001.edi", "tests/reference/samples/region1-1995.edi"),
     ] {

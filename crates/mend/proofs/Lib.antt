@@ -1,0 +1,2 @@
+-- What the mending program may rely on.
+pub mod MendedLaws
