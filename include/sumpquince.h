@@ -29,7 +29,7 @@
  * The library, target/staticlib/libpad.a, is built by `rt staticlib pad`. It is for x86-64 and the calling convention of System V (Linux), uses no
  * instruction beyond those that every x86-64 processor has, and may be loaded at any address. Of C it needs
  *
- *     memset
+ *     memcpy, memset
  *
  * and nothing else: no other function, no start-up code, no file, no clock. The code and the constants of all five functions take 25,097 bytes.
  *
