@@ -37,6 +37,7 @@ static void drive_judge(size_t length, unsigned long long times) {
     SumpquinceJudgement answer = {{0, 0, 0}, 0, 0, 0, 0, 0, 0, 0, 0, 0, 0, 0, 0};
     for (; times > 0; times--) answer = sumpquince_judge(log_bytes, length, verdicts, sizeof verdicts);
     show(answer.refusal, "total", answer.total);
+    show(answer.refusal, "voids", answer.voids); /* which no total tells from duplicates */
 }
 
 static void drive_write(size_t length, unsigned long long times) {

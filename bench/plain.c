@@ -36,7 +36,7 @@ typedef struct {
     uint16_t tail; /* where the points begin: all that writing back changes lies from here to the line's end */
     uint16_t end;  /* where the line's CR stands */
     uint8_t call_length, exchange_length, locator_length;
-    bool error, new_country;
+    bool error, new_country, claimed_duplicate;
 } Record;
 
 typedef struct {
@@ -409,6 +409,7 @@ static SumpquinceRefusal read_record(Reader *reader, Record *record) {
     record->tail = (uint16_t)(fields[POINTS].at - reader->log);
     record->end = (uint16_t)(line.at + line.length - reader->log);
     record->new_country = fields[NEW_COUNTRY].length != 0;
+    record->claimed_duplicate = fields[DUPLICATE].length != 0;
     return ACCEPTED;
 }
 
@@ -491,6 +492,9 @@ static void sum_up(const uint8_t *bytes, const Log *log, SumpquinceJudgement *su
                   declared(bytes, log, CEXCS, 2) * declared(bytes, log, CDXCS, 2);
 }
 
+/* 0 points and no D are a broken try, which repeats nothing, so that its call need not be looked for. */
+static bool may_repeat(const Record *record) { return record->points != 0 || record->claimed_duplicate; }
+
 static void judge_log(const uint8_t *bytes, const Log *log, uint8_t *verdicts, SumpquinceJudgement *sums) {
     Seen calls, squares, exchanges;
     calls.count = squares.count = exchanges.count = 0;
@@ -499,7 +503,7 @@ static void judge_log(const uint8_t *bytes, const Log *log, uint8_t *verdicts, S
         if (record->error) {
             verdicts[i] = SUMPQUINCE_ERROR;
             sums->errors++;
-        } else if (has(&calls, bytes, record->call, record->call_length)) {
+        } else if (may_repeat(record) && has(&calls, bytes, record->call, record->call_length)) {
             verdicts[i] = SUMPQUINCE_DUPLICATE;
             sums->duplicates++;
         } else if (record->points == 0) {

@@ -112,8 +112,8 @@ typedef struct {
     SumpquinceRefusal refusal;
     /* How many records are of each class: they add up to the number of records. */
     uint64_t credited;   /* contacts that count */
-    uint64_t voids;      /* contacts claimed with 0 points that are no duplicates */
-    uint64_t duplicates; /* contacts with a call that an earlier credited record has */
+    uint64_t voids;      /* records with 0 points that are neither duplicates nor errors, as a second try that broke off, with no D */
+    uint64_t duplicates; /* records with points or a claimed D, and with a call that an earlier credited record has */
     uint64_t errors;     /* records whose call is ERROR */
     /* The sum of the points of the credited records. They include the band multiplier already. */
     uint64_t points;

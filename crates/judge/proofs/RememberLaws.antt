@@ -12,7 +12,7 @@ use Rattle.rules.specs.Text.{Text, same, empty}
 use Rattle.rules.specs.Rules.{Rules, base}
 use Rattle.rules.specs.Fields.{Qso, errorCall, isError, emptyOr, locator}
 use Rattle.rules.specs.Arguments.{among}
-use Rattle.rules.specs.Judging.{is, some, sameCall, classOf, square, isNew}
+use Rattle.rules.specs.Judging.{is, some, worked, classOf, square, isNew}
 use Rattle.rules.proofs.Passing.{same→equal}
 use Rattle.rules.proofs.Tests.{holds, and-l}
 use Rattle.judge.specs.declared.Noted.{Noted}
@@ -22,7 +22,7 @@ use Rattle.judge.specs.Memory.{Memory, unseen, unseenSquare, keptWith, R
 use Rattle.judge.specs.Step.{callNoted, exchangeNoted, locatorNoted, classNoted, Told}
 use Rattle.judge.proofs.SaidLaws.{class-said}
 use Rattle.judge.proofs.SquareLaws.{same-number, square-stands}
-use Rattle.judge.proofs.ToldLaws.{call-is, exchange-is, locator-is, claims-is, locator-ruled}
+use Rattle.judge.proofs.ToldLaws.{call-is, exchange-is, locator-is, claims-is, may-repeat-is, locator-ruled}
 
 pub nothing-kept : (R : Rules) → Remembers R (record { calls = []; squares = []; exchanges = [] }) []
 unfolding among some hasNumber
@@ -94,12 +94,12 @@ module _ (R : Rules) (s : Text) (p : Noted) (q : Qso) (told : Told R s p q) (m :
 
   -- The class, where the call itself is kept.
   pub class-is : ((t : Text) → R .home t ≡ t) → classNoted (m .calls) s p ≡ classOf R credited q
-  unfolding classNoted isError
+  unfolding classNoted isError worked
   class-is home =
       let error : same (callNoted s p) errorCall ≡ isError q = ap (λ (t : Text). same t errorCall) (call-is told) in
-      let repeats : among (m .calls) (callNoted s p) ≡ some (λ e. sameCall R (e .call) (q .call)) credited =
+      let again : among (m .calls) (callNoted s p) ≡ worked R credited q =
       ap (among (m .calls)) (call-is told ∙ sym (home (q .call))) ∙ r .calls (R .home (q .call)) in
-      (λ i. classBy (error i) (repeats i) (claims-is told i)) ∙ class-said R credited q
+      (λ i. classBy (error i) (may-repeat-is told i && again i) (claims-is told i)) ∙ class-said R credited q
 
   -- What is new.
   pub exchange-new : unseen (m .exchanges) (exchangeNoted s p) ≡ isNew (λ e. e .exchange) credited q

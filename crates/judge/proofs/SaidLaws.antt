@@ -2,7 +2,7 @@
 -- Assumes nothing.
 use Prim.Native.Nat.{ℕ}
 use mathlib.Core.Path.{_≡_, refl, sym, _∙_}
-use mathlib.Core.Bool.{Bool, true, false}
+use mathlib.Core.Bool.{Bool, true, false, _&&_}
 use mathlib.Core.List.{List}
 use lib.Dec.{eqb}
 use borrow.Author.Tests.{eq-eqb, ne-eqb}
@@ -11,7 +11,7 @@ use Rattle.rules.specs.declared.Class.the-variants.{Credited, Void, Duplicate, 
 use Rattle.rules.specs.declared.Verdict.{Verdict}
 use Rattle.rules.specs.Rules.{Rules}
 use Rattle.rules.specs.Fields.{Qso, isError}
-use Rattle.rules.specs.Judging.{classNumber, is, some, claimsPoints, sameCall, classOf, square, isNew, claimsCountry, verdictOf}
+use Rattle.rules.specs.Judging.{classNumber, is, claimsPoints, worked, mayRepeat, classOf, square, isNew, claimsCountry, verdictOf}
 use Rattle.judge.specs.Said.{classBy, verdictBy}
 
 -- # Each answer
@@ -45,7 +45,7 @@ module _ (class : Class) (exchange square country : Bool) {n : ℕ} (k : n ≡ c
 -- # The right answers
 
 module _ (R : Rules) (credited : List Qso) (q : Qso) where
-  pub class-said : classBy (isError q) (some (λ e. sameCall R (e .call) (q .call)) credited) (claimsPoints q) ≡ classOf R credited q
+  pub class-said : classBy (isError q) (mayRepeat q && worked R credited q) (claimsPoints q) ≡ classOf R credited q
   unfolding classBy classOf
   class-said = refl
 

@@ -3,11 +3,11 @@
 use Prim.Native.Nat.{ℕ, suc, _+_, _-_, _≤_, _<_}
 use native.Mathlib.Omega.{arith}
 use mathlib.Core.Path.{_≡_, refl, sym, ap, _∙_}
-use mathlib.Core.Bool.{Bool, true, false, not, _&&_, true≢false}
+use mathlib.Core.Bool.{Bool, true, false, not, _&&_, _||_, true≢false}
 use mathlib.Core.List.{List, [], _∷_}
 use lib.ListN.{length, take, drop, getD, set, length-set}
 use lib.Seq.{getD-set-same, drop-set-lt}
-use borrow.Author.Tests.{eq-eqb, ne-eqb}
+use borrow.Author.Tests.{eq-eqb, ne-eqb, not-true, not-false}
 use Rattle.rules.specs.declared.Class.{Class}
 use Rattle.rules.specs.declared.Class.the-variants.{Credited}
 use Rattle.rules.specs.declared.Verdict.{Verdict}
@@ -20,7 +20,7 @@ use Rattle.rules.proofs.Tests.{holds}
 use Rattle.rules.proofs.Classes.{is→equal}
 use Rattle.fields.specs.Field.{endOf}
 use Rattle.fields.proofs.PartLaws.{end-by-span}
-use Rattle.reader.specs.Contact.{between}
+use Rattle.reader.specs.Contact.{between, claimedAt}
 use Rattle.judge.specs.declared.Kept.{Kept}
 use Rattle.judge.specs.declared.Noted.{Noted}
 use Rattle.judge.specs.declared.Step.{Step}
@@ -28,11 +28,11 @@ use Rattle.judge.specs.Said.{classBy, verdictBy}
 use Rattle.judge.specs.Count.{worthIf}
 use Rattle.judge.specs.Parts.{keyOf, partBy, keptTexts, keptNumbers, Keyed, Lying}
 use Rattle.judge.specs.Memory.{Memory, unseen, memory, Remembers}
-use Rattle.judge.specs.Step.{callNoted, countryNoted, claimsNoted, worthNoted, classNoted, Told, Classed, Ready, Credits, NewPart, NewSquare, Judges, Steps}
+use Rattle.judge.specs.Step.{callNoted, countryNoted, claimsNoted, mayRepeatNoted, worthNoted, classNoted, Told, Classed, Ready, Credits, NewPart, NewSquare, Judges, Steps}
 use Rattle.judge.proofs.SaidLaws.{verdict-said}
 use Rattle.judge.proofs.CountLaws.{worth-most}
 use Rattle.judge.proofs.PartLaws.{part-size, part-by, part-keyed, texts-key, texts-more, lying-key, lying-more}
-use Rattle.judge.proofs.ToldLaws.{call-inside, points-inside, worth-is, country-is}
+use Rattle.judge.proofs.ToldLaws.{call-inside, points-inside, worth-is, country-is, country-inside}
 use Rattle.judge.proofs.RememberLaws.{class-is, exchange-new, square-new, remembers-credited}
 
 -- # A part that is looked for
@@ -104,9 +104,26 @@ module _ (calls : List Text) (s : Text) (p : Noted) {end : ℕ} (ends : end ≡ 
   unfolding classNoted classBy
   noted-error t c = c ∙ sym (rw (sym error-is ∙ t))
 
-  pub noted-other : {class : Class} {repeats : Bool} {t : Text} → error ≡ false → repeats ≡ among calls t → t ≡ callNoted s p → class ≡ classBy false repeats (claimsNoted s p) → class ≡ classNoted calls s p
+  -- By its points, told by their first character, and by a D, which is asked where there are none.
+  noted-by : {class : Class} {repeats claims : Bool} → error ≡ false → repeats ≡ (mayRepeatNoted s p && among calls (callNoted s p)) → claims ≡ claimsNoted s p → class ≡ classBy false repeats claims → class ≡ classNoted calls s p
   unfolding classNoted
-  noted-other f r k c = c ∙ (λ i. classBy ((sym f ∙ error-is) i) ((r ∙ ap (among calls) k) i) (claimsNoted s p))
+  noted-by f r k c = c ∙ (λ i. classBy ((sym f ∙ error-is) i) (r i) (k i))
+
+  pub noted-points : {class : Class} {repeats : Bool} {t : Text} → error ≡ false → (getD s (p .points) 0 ≡ 48 → ⊥) → repeats ≡ among calls t → t ≡ callNoted s p → class ≡ classBy false repeats true → class ≡ classNoted calls s p
+  noted-points f n r k c =
+      let claims : true ≡ claimsNoted s p = ap not (sym (ne-eqb (getD s (p .points) 0) 48 n)) in
+      noted-by f (r ∙ ap (among calls) k ∙ (λ i. (claims i || claimedAt s (p .pointsend)) && among calls (callNoted s p))) claims c
+
+  module _ (f : error ≡ false) (z : getD s (p .points) 0 ≡ 48) {mark : Bool} (d : mark ≡ claimedAt s (p .pointsend)) where
+    no-claims : false ≡ claimsNoted s p
+    no-claims = ap not (sym (eq-eqb (getD s (p .points) 0) 48 z))
+
+    pub noted-void : {class : Class} → not mark ≡ true → class ≡ classBy false false false → class ≡ classNoted calls s p
+    noted-void n c = noted-by f (λ i. (no-claims i || (sym (not-true mark n) ∙ d) i) && among calls (callNoted s p)) no-claims c
+
+    pub noted-marked : {class : Class} {repeats : Bool} {t : Text} → not mark ≡ false → repeats ≡ among calls t → t ≡ callNoted s p → class ≡ classBy false repeats false → class ≡ classNoted calls s p
+    noted-marked n r k c =
+        noted-by f (r ∙ ap (among calls) k ∙ (λ i. (no-claims i || (sym (not-false mark n) ∙ d) i) && among calls (callNoted s p))) no-claims c
 
 -- # The marks
 
@@ -191,6 +208,7 @@ module _ (R : Rules) (home : (t : Text) → R .home t ≡ t) (s : Text) (p : Not
         within = rw e (call-inside (ready .told));
         key = there;
         points = points-inside (ready .told);
+        last = country-inside (ready .told);
       }
 
   abbrev before : Memory

@@ -6,8 +6,7 @@ use Rattle.rules.specs.declared.Class.the-variants.{Credited, Void, Duplicate, 
 use Rattle.rules.specs.declared.Verdict.{Verdict}
 use Rattle.rules.specs.Judging.{is}
 
--- "Error: the call is ERROR. Duplicate: otherwise, if some earlier credited record has the same call. Void: otherwise, if points are 0. Credited:
--- otherwise."
+-- "Error: the call is ERROR. Duplicate: otherwise", if it repeats a credited record. "Void: otherwise, if points are 0. Credited: otherwise."
 unfoldable pub classBy : Bool → Bool → Bool → Class
 classBy error repeats claims = cond error Error (cond repeats Duplicate (cond claims Credited Void))
 

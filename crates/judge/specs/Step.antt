@@ -2,7 +2,7 @@
 -- Assumes nothing.
 use Prim.Native.Nat.{ℕ, _+_, _-_, _≤_, _<_}
 use mathlib.Core.Path.{_≡_}
-use mathlib.Core.Bool.{Bool, true, not}
+use mathlib.Core.Bool.{Bool, true, not, _&&_, _||_}
 use mathlib.Core.List.{List, _∷_}
 use lib.Dec.{eqb}
 use lib.ListN.{length, take, drop, getD, set}
@@ -15,7 +15,7 @@ use Rattle.rules.specs.Log.{conjunction}
 use Rattle.rules.specs.Arguments.{among}
 use Rattle.rules.specs.Judging.{is, verdictOf, creditedAfter}
 use Rattle.fields.specs.Field.{textAt, endOf}
-use Rattle.reader.specs.Contact.{fieldStart, valueBy, contactAt, between, Holds}
+use Rattle.reader.specs.Contact.{fieldStart, valueBy, contactAt, between, claimedAt, Holds}
 use Rattle.judge.specs.declared.Kept.{Kept}
 use Rattle.judge.specs.declared.Noted.{Noted}
 use Rattle.judge.specs.declared.Step.{Step}
@@ -46,10 +46,15 @@ claimsNoted s p = not (eqb (getD s (p .points) 0) 48)
 abbrev pub worthNoted : Rules → Text → Noted → ℕ
 worthNoted R s p = valueBy (numberOf (R .pointsDigits)) (textAt s (p .points))
 
+-- W3: "a duplicate needs points or a claimed D".
+abbrev pub mayRepeatNoted : Text → Noted → Bool
+mayRepeatNoted s p = claimsNoted s p || claimedAt s (p .pointsend)
+
 -- The class by the calls that are kept.
 unfoldable pub classNoted : List Text → Text → Noted → Class
 unfolding classBy same errorCall among
-classNoted calls s p = classBy (same (callNoted s p) errorCall) (among calls (callNoted s p)) (claimsNoted s p)
+classNoted calls s p =
+    classBy (same (callNoted s p) errorCall) (mayRepeatNoted s p && among calls (callNoted s p)) (claimsNoted s p)
 
 -- # What is asked
 
@@ -77,6 +82,7 @@ pub record Classed (s : Text) (p : Noted) (end : ℕ) (calls keys : List ℕ) (m
   pub within : end < length s
   pub key : getD keys m 0 ≡ keyOf (callNoted s p)
   pub points : p .points < length s
+  pub last : fieldStart s (p .pointsend + 1) 3 ≤ length s
 
 -- So it is, there is room for one more of each, and this is noted of some record.
 pub record Ready (R : Rules) (s : Text) (p : Noted) (kept : Kept) (calls callKeys exchanges exchangeKeys squares : List ℕ) : Type 0 where

@@ -11,7 +11,7 @@ ghost use Rattle.rules.specs.Judging.{classNumber, verdictNumber, zeroTotals};
 ghost use Rattle.rules.specs.Rules.{base};
 ghost use Rattle.rules.specs.Text.{numberOf, same};
 ghost use Rattle.fields.specs.Field.{textAt, endOf};
-ghost use Rattle.reader.specs.Contact.{between, fieldStart, valueBy};
+ghost use Rattle.reader.specs.Contact.{between, claimedAt, fieldStart, valueBy};
 ghost use Rattle.reader.specs.Noted.{contactsRead, listed};
 ghost use Rattle.judge.specs.Bounds.{Closable, Countable};
 ghost use Rattle.judge.specs.Count.{addRecord, closing, worthIf};
@@ -31,7 +31,7 @@ use rules::Verdict;
 
 // # What is said of a record
 
-// The class of a record, by three answers: its call is ERROR, its call was credited before, and it claims points.
+// The class of a record, by three answers: its call is ERROR, it repeats a credited record, and it claims points.
 pub fn class_by(error: bool, repeats: bool, claims: bool) -> Class
     ensures { λ r. ⌜ r ≡ classBy error repeats claims ⌝ }
 {
@@ -134,17 +134,37 @@ fn worth_at(s: &[u8], at: usize) -> u64
     worth
 }
 
+// Where the third mark behind the points begins. It ends within the log.
+fn third_mark(s: &[u8], pointsend: usize) -> usize
+    requires { ⌜ fieldStart (now s) (pointsend + 1) 3 ≤ length (now s) ⌝ }
+    ensures { λ r. ⌜ (r ≡ fieldStart (now (s .entry)) (pointsend + 1) 2) × (endOf (now (s .entry)) r < length (now (s .entry))) ⌝ }
+{
+    let second = part_end(s, pointsend + 1) + 1;
+    part_end(s, second) + 1
+}
+
 // The record whose points end here claims a country: its third mark behind them is set.
 fn claims_country(s: &[u8], pointsend: usize) -> bool
     requires { ⌜ fieldStart (now s) (pointsend + 1) 3 ≤ length (now s) ⌝ }
     ensures { λ r. ⌜ r ≡ same (textAt (now (s .entry)) (fieldStart (now (s .entry)) (pointsend + 1) 2)) newMark ⌝ }
 {
-    let second = part_end(s, pointsend + 1) + 1;
-    let third = part_end(s, second) + 1;
+    let third = third_mark(s, pointsend);
     if part_end(s, third) - third != 1 {
         return false;
     }
     s[third] == 78
+}
+
+// The record whose points end here claims a D: its last field begins with one.
+fn claims_duplicate(s: &[u8], pointsend: usize) -> bool
+    requires { ⌜ fieldStart (now s) (pointsend + 1) 3 ≤ length (now s) ⌝ }
+    ensures { λ r. ⌜ r ≡ claimedAt (now (s .entry)) pointsend ⌝ }
+{
+    let last = part_end(s, third_mark(s, pointsend)) + 1;
+    if s.len() <= last {
+        return false;
+    }
+    s[last] == 68
 }
 
 // The key that a length and two characters make.
@@ -328,7 +348,8 @@ struct Step {
     kept: Kept,
 }
 
-// The class of a record, after those whose calls are kept. Where its call ends is known, and the call's key stands behind the others.
+// The class of a record, after those whose calls are kept. Where its call ends is known, and the call's key stands behind the others. A duplicate
+// needs points or a claimed D: with neither the call is not looked for.
 fn class_of(s: &[u8], p: Noted, end: usize, calls: &[u16], keys: &[u16], m: usize) -> Class
     requires { ⌜ Classed (now s) p end (now calls) (now keys) m ⌝ }
     ensures { λ r. ⌜ r ≡ classNoted (keptTexts (now (s .entry)) (now (calls .entry)) (now (keys .entry)) m) (now (s .entry)) p ⌝ }
@@ -337,8 +358,13 @@ fn class_of(s: &[u8], p: Noted, end: usize, calls: &[u16], keys: &[u16], m: usiz
         return class_by(true, false, false);
     }
     let points = p.points;
-    let repeats = is_kept(s, calls, keys, m, p.call);
-    class_by(false, repeats, s[points] != 48)
+    if s[points] != 48 {
+        return class_by(false, is_kept(s, calls, keys, m, p.call), true);
+    }
+    if !claims_duplicate(s, p.pointsend) {
+        return class_by(false, false, false);
+    }
+    class_by(false, is_kept(s, calls, keys, m, p.call), false)
 }
 
 // A credited record: its marks, what it is worth, and what is kept of it. Its call's key stands behind the others already.

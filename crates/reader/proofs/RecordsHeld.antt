@@ -13,7 +13,7 @@ use Rattle.rules.specs.Rules.{Rules}
 use Rattle.rules.specs.Fields.{Qso, errorCall, newMark, duplicateMark, isError, emptyOr, pointsRule, fieldsOf, fieldRules}
 use Rattle.rules.specs.Log.{Log, render, countLine, recordLine, crlf, ended, conjunction, recordRules}
 use Rattle.rules.specs.Reading.{read, accepted}
-use Rattle.rules.specs.Judging.{claimsCountry}
+use Rattle.rules.specs.Judging.{claimsCountry, claimsDuplicate}
 use Rattle.rules.proofs.Tests.{so, holds, and-l, and-r}
 use Rattle.rules.proofs.Passing.{same→equal}
 use Rattle.rules.proofs.ValidLogs.{rule-at, points-ruled, records-valid}
@@ -21,8 +21,8 @@ use Rattle.rules.proofs.Format.{accepted-when-written, render-law}
 use Rattle.rules.proofs.LogLaws.{front, lines-split}
 use Rattle.rules.proofs.FieldLaws.{fields-plain}
 use Rattle.fields.specs.Field.{textAt, endOf}
-use Rattle.reader.specs.Contact.{fieldStart, valueBy, lastEnd, contactAt, behind, between, Describes, Holds}
-use Rattle.reader.proofs.PlaceLaws.{text-by-end}
+use Rattle.reader.specs.Contact.{fieldStart, valueBy, lastEnd, contactAt, behind, between, claimedAt, Describes, Holds}
+use Rattle.reader.proofs.PlaceLaws.{start-more, start-next, text-by-end}
 use Rattle.reader.proofs.FieldsHeld.{texts-held, starts-held}
 
 -- The lines of records, each with its end.
@@ -67,6 +67,27 @@ module _ (R : Rules) (s : Text) (at : ℕ) (q : Qso) (qs : List Qso) (h : Stand 
   unfolding valueBy fieldsOf
   worth-is = rw (field-is 10 (omega arith), points-number)
 
+  last-stands : drop (fieldStart s at 14) s ≡ q .duplicate ++ 13 ∷ 10 ∷ recordLines qs
+  unfolding fieldsOf joined crlf
+  last-stands = starts-at 14 (omega arith)
+
+  -- The last field is a `D` or nothing, and ends with it.
+  last-ruled : T (emptyOr (same duplicateMark) (q .duplicate))
+  unfolding fieldRules
+  last-ruled = rule-at (fieldRules R q) 14 (holds rules-kept)
+
+  -- Whether it claims one.
+  last-place : fieldStart s (endOf s (fieldStart s at 10) + 1) 3 ≡ fieldStart s at 14
+  last-place = ap (λ (n : ℕ). fieldStart s n 3) (start-next s at 10) ∙ start-more s at 11 3
+
+  duplicate-is : claimedAt s (endOf s (fieldStart s at 10)) ≡ claimsDuplicate q
+  unfolding claimsDuplicate begins same emptyOr duplicateMark
+  duplicate-is = ap (λ (n : ℕ). begins duplicateMark (drop n s)) last-place ∙ ap (begins duplicateMark) last-stands ∙ by (q .duplicate) last-ruled
+    where
+      by : (t : Text) → T (emptyOr (same duplicateMark) t) → begins duplicateMark (t ++ 13 ∷ 10 ∷ recordLines qs) ≡ same t duplicateMark
+      by [] h = refl
+      by (c ∷ t) h = subst (λ (u : Text). begins duplicateMark (u ++ 13 ∷ 10 ∷ recordLines qs) ≡ same u duplicateMark) (same→equal duplicateMark (c ∷ t) h) refl
+
   pub describes : Describes s (contactAt R s at) q
   unfolding contactAt fieldsOf isError claimsCountry
   describes =
@@ -78,16 +99,8 @@ module _ (R : Rules) (s : Text) (at : ℕ) (q : Qso) (qs : List Qso) (h : Stand 
         worthIs = worth-is;
         errorIs = ap (λ (t : Text). same t errorCall) (field-is 2 (omega arith));
         countryIs = ap (λ (t : Text). same t newMark) (field-is 13 (omega arith));
+        duplicateIs = duplicate-is;
       }
-
-  last-stands : drop (fieldStart s at 14) s ≡ q .duplicate ++ 13 ∷ 10 ∷ recordLines qs
-  unfolding fieldsOf joined crlf
-  last-stands = starts-at 14 (omega arith)
-
-  -- The last field is a `D` or nothing, and ends with it.
-  last-ruled : T (emptyOr (same duplicateMark) (q .duplicate))
-  unfolding fieldRules
-  last-ruled = rule-at (fieldRules R q) 14 (holds rules-kept)
 
   end-is : (contactAt R s at) .end ≡ fieldStart s at 14 + length (q .duplicate)
   unfolding contactAt lastEnd emptyOr duplicateMark begins

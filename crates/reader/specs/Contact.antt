@@ -9,7 +9,7 @@ use lib.ListN.{length, take, drop}
 use Rattle.rules.specs.Text.{Text, begins, same, value, numberOf}
 use Rattle.rules.specs.Rules.{Rules}
 use Rattle.rules.specs.Fields.{Qso, errorCall, newMark, duplicateMark, isError}
-use Rattle.rules.specs.Judging.{claimsCountry}
+use Rattle.rules.specs.Judging.{claimsCountry, claimsDuplicate}
 use Rattle.fields.specs.Field.{textAt, endOf}
 use Rattle.reader.specs.declared.Contact.{Contact}
 
@@ -65,6 +65,10 @@ contactsAt R s at (suc n) = contactAt R s at ∷ contactsAt R s (behind (contact
 abbrev pub between : Text → ℕ → ℕ → Text
 between s a e = take (e - a) (drop a s)
 
+-- The last field stands behind the three marks that stand behind the points. It claims a D where it begins with one.
+abbrev pub claimedAt : Text → ℕ → Bool
+claimedAt s pointsend = begins duplicateMark (drop (fieldStart s (pointsend + 1) 3) s)
+
 -- What is told at a place is true of this record.
 pub record Describes (s : Text) (c : Contact) (q : Qso) : Type 0 where
   pub callIs : between s (c .call) (c .callend) ≡ q .call
@@ -74,6 +78,7 @@ pub record Describes (s : Text) (c : Contact) (q : Qso) : Type 0 where
   pub worthIs : c .worth ≡ value (q .points)
   pub errorIs : c .error ≡ isError q
   pub countryIs : c .country ≡ claimsCountry q
+  pub duplicateIs : claimedAt s (c .pointsend) ≡ claimsDuplicate q
 
 -- From a place on the log holds these records, one behind the other, and then ends.
 abbrev pub Holds : Rules → Text → ℕ → List Qso → Type 0

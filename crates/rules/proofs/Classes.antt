@@ -5,7 +5,7 @@ use native.Mathlib.Nat.{le-of-suc-le-suc, not-suc-le-zero}
 use native.Mathlib.Omega.{arith}
 use mathlib.Core.Path.{_≡_, refl, sym, ap, _∙_}
 use mathlib.Core.Logic.{_⊎_, inl, inr, ⊎-elim, _↔_}
-use mathlib.Core.Bool.{Bool, true, false, cond, not, _&&_}
+use mathlib.Core.Bool.{Bool, true, false, cond, not, _&&_, _||_}
 use mathlib.Core.List.{List, [], _∷_}
 use lib.Dec.{T}
 use lib.ListN.{length, getD}
@@ -15,7 +15,7 @@ use Rattle.rules.specs.declared.Verdict.{Verdict}
 use Rattle.rules.specs.Rules.{Rules, base}
 use Rattle.rules.specs.Text.{Text, same, empty}
 use Rattle.rules.specs.Fields.{Qso, isError}
-use Rattle.rules.specs.Judging.{classNumber, is, some, claimsPoints, classOf, square, isNew, claimsCountry, countOf, verdictOf, creditedAfter, verdictsAfter, verdicts, totalsOf, totals, totalsOfLog}
+use Rattle.rules.specs.Judging.{classNumber, is, some, claimsPoints, claimsDuplicate, worked, mayRepeat, classOf, square, isNew, claimsCountry, countOf, verdictOf, creditedAfter, verdictsAfter, verdicts, totalsOf, totals, totalsOfLog}
 use Rattle.rules.specs.Demands.{FourCountsAddUp, CallsAreComparedByteForByte, ClassesAndMarksAsDefined, AsTheDocumentDefines, SomeEarlierCredited, sameCallAs, qsoAt, verdictAt, classAt}
 use Rattle.rules.proofs.Passing.{both, first, second, one-of, left, right, failed, decided, same→equal, equal→same}
 
@@ -205,7 +205,7 @@ module _ (R : Rules) where
     wrong = isError (qsoAt qs j)
 
     abbrev repeats : Bool
-    repeats = some (λ e. sameCallAs R e (qsoAt qs j)) earlier
+    repeats = mayRepeat (qsoAt qs j) && worked R earlier (qsoAt qs j)
 
     abbrev claims : Bool
     claims = claimsPoints (qsoAt qs j)
@@ -213,6 +213,20 @@ module _ (R : Rules) where
     class-there : classAt R qs j ≡ classBy wrong repeats claims
     unfolding verdictOf classOf
     class-there = ap (λ (v : Verdict). v .class) verdict-there
+
+    -- A record that repeats claims points or a D, and some earlier credited record has its call.
+    abbrev marked : Bool
+    marked = claimsDuplicate (qsoAt qs j)
+
+    is-repeat : T repeats ↔ ((T claims ⊎ T marked) × SomeEarlierCredited R qs (sameCallAs R) j)
+    unfolding mayRepeat worked
+    is-repeat =
+        let found = worked R earlier (qsoAt qs j) in (
+          λ t.
+              (one-of claims marked (first (claims || marked) found t), some-earlier (sameCallAs R) .0 (second (claims || marked) found t)),
+          λ w.
+              both (claims || marked) found (⊎-elim (left claims marked) (right claims marked) (w .0)) (some-earlier (sameCallAs R) .1 (w .1)),
+        )
 
     told : (class : Class) {b : Bool} →
         is class (classBy wrong repeats claims) ≡ b →
@@ -225,25 +239,56 @@ module _ (R : Rules) where
     is-error : (classAt R qs j ≡ Error) ↔ T wrong
     is-error = told Error (by-error wrong repeats claims)
 
-    is-duplicate : (classAt R qs j ≡ Duplicate) ↔ (T (not wrong) × SomeEarlierCredited R qs (sameCallAs R) j)
+    is-duplicate :
+        (classAt R qs j ≡ Duplicate)
+        ↔ (T (not wrong) × (T claims ⊎ T marked) × SomeEarlierCredited R qs (sameCallAs R) j)
     is-duplicate =
         let by = told Duplicate (by-duplicate wrong repeats claims) in (
           λ c.
-              (first (not wrong) repeats (by .0 c), some-earlier (sameCallAs R) .0 (second (not wrong) repeats (by .0 c))),
-          λ w. by .1 (both (not wrong) repeats (w .0) (some-earlier (sameCallAs R) .1 (w .1))),
+              let w = is-repeat .0 (second (not wrong) repeats (by .0 c)) in
+              (first (not wrong) repeats (by .0 c), w .0, w .1),
+          λ w. by .1 (both (not wrong) repeats (w .0) (is-repeat .1 (w .1, w .2))),
         )
 
-    -- No error and no duplicate: what is left is told by one test.
+    -- No error and no repeat: what is left is told by one test.
     is-other : (class : Class) (b : Bool) →
         is class (classBy wrong repeats claims) ≡ (not wrong && (not repeats && b)) →
-        (classAt R qs j ≡ class) ↔ (T (not wrong) × (SomeEarlierCredited R qs (sameCallAs R) j → ⊥) × T b)
+        (classAt R qs j ≡ class) ↔ (T (not wrong) × (T repeats → ⊥) × T b)
     is-other class b e =
         let by = told class e in
         let rest = not repeats && b in (
           λ c.
               let t = second (not wrong) rest (by .0 c) in
-              (first (not wrong) rest (by .0 c), no-earlier (sameCallAs R) .0 (first (not repeats) b t), second (not repeats) b t),
-          λ w. by .1 (both (not wrong) rest (w .0) (both (not repeats) b (no-earlier (sameCallAs R) .1 (w .1)) (w .2))),
+              (first (not wrong) rest (by .0 c), failed repeats .0 (first (not repeats) b t), second (not repeats) b t),
+          λ w. by .1 (both (not wrong) rest (w .0) (both (not repeats) b (failed repeats .1 (w .1)) (w .2))),
+        )
+
+    -- Without points it is no repeat if it claims no D, or if no earlier credited record has its call.
+    is-void :
+        (classAt R qs j ≡ Void)
+        ↔ (T (not wrong) × T (not claims) × (T (not marked) ⊎ (SomeEarlierCredited R qs (sameCallAs R) j → ⊥)))
+    is-void =
+        let by = is-other Void (not claims) (by-void wrong repeats claims) in (
+          λ c.
+              let w = by .0 c in
+              (w .0, w .2, ⊎-elim (λ m. inr (λ e. w .1 (is-repeat .1 (inr m, e)))) inl (decided marked)),
+          λ w.
+              by .1 (
+                w .0,
+                λ t.
+                    ⊎-elim (λ m. ⊎-elim (failed claims .0 (w .1)) (failed marked .0 m) (is-repeat .0 t .0)) (λ n. n (is-repeat .0 t .1)) (w .2),
+                w .1,
+              ),
+        )
+
+    -- With points it is no repeat exactly if no earlier credited record has its call.
+    is-credited :
+        (classAt R qs j ≡ Credited)
+        ↔ (T (not wrong) × (SomeEarlierCredited R qs (sameCallAs R) j → ⊥) × T claims)
+    is-credited =
+        let by = is-other Credited claims (by-credited wrong repeats claims) in (
+          λ c. let w = by .0 c in (w .0, λ e. w .1 (is-repeat .1 (inl (w .2), e)), w .2),
+          λ w. by .1 (w .0, λ t. w .1 (is-repeat .0 t .1), w .2),
         )
 
     -- What a mark that is new of a credited record says.
@@ -280,8 +325,8 @@ module _ (R : Rules) where
         record {
           error = is-error;
           duplicate = is-duplicate;
-          void = is-other Void (not claims) (by-void wrong repeats claims);
-          credited = is-other Credited claims (by-credited wrong repeats claims);
+          void = is-void;
+          credited = is-credited;
           newSquare = rw verdict-there (is-new square);
           newExchange = rw verdict-there (is-new (λ e. e .exchange));
           newCountry = rw verdict-there is-country;
@@ -290,11 +335,12 @@ module _ (R : Rules) where
     -- A record that is no error and claims points is credited, or repeats an earlier one.
     pub credited-or-repeats :
         T (not wrong) → T claims → (classAt R qs j ≡ Credited) ⊎ SomeEarlierCredited R qs (sameCallAs R) j
+    unfolding worked
     credited-or-repeats n c =
         ⊎-elim
         (λ t. inr (some-earlier (sameCallAs R) .0 t))
         (λ t. inl (as-defined .credited .1 (n, no-earlier (sameCallAs R) .0 t, c)))
-        (decided repeats)
+        (decided (worked R earlier (qsoAt qs j)))
 
 pub calls-byte-for-byte : CallsAreComparedByteForByte
 unfolding base

@@ -3,9 +3,9 @@
 use Prim.Native.Nat.{ℕ, suc, _+_, _*_, _≤_, _<_, suc-le-suc, zero-le}
 use native.Mathlib.Nat.{add-mul, mul-le-mul-right}
 use native.Mathlib.Omega.{arith}
-use mathlib.Core.Path.{_≡_, refl, sym, _∙_}
+use mathlib.Core.Path.{_≡_, refl, sym, ap, _∙_}
 use mathlib.Core.Logic.{⊎-elim}
-use mathlib.Core.Bool.{Bool, true, false, cond, not, _&&_}
+use mathlib.Core.Bool.{Bool, true, false, cond, not, _&&_, _||_, and-false}
 use mathlib.Core.List.{List, [], _∷_, map}
 use lib.Dec.{T}
 use lib.ListN.{length, getD}
@@ -17,7 +17,7 @@ use Rattle.rules.specs.Rules.{Rules}
 use Rattle.rules.specs.Fields.{Qso, isError}
 use Rattle.rules.specs.Arguments.{among}
 use Rattle.rules.specs.Log.{Log}
-use Rattle.rules.specs.Judging.{Declared, declared, multipliers, is, some, sameCall, classOf, claimsPoints, square, isNew, claimsCountry, verdictOf, creditedAfter, verdictsAfter, verdicts, verdictsOfLog, countOf, creditedPoints, totalsOf, totals, totalsOfLog}
+use Rattle.rules.specs.Judging.{Declared, declared, multipliers, is, some, sameCall, worked, claimsDuplicate, mayRepeat, classOf, claimsPoints, square, isNew, claimsCountry, verdictOf, creditedAfter, verdictsAfter, verdicts, verdictsOfLog, countOf, creditedPoints, totalsOf, totals, totalsOfLog}
 use Rattle.rules.specs.Striking.{Places, later, kept, strike, struckWorth}
 use Rattle.rules.specs.Demands.{DuplicatesClaimNothing, StrikesCheaply, StrikingRule}
 use Rattle.rules.proofs.Passing.{both, first, second, left, right, one-of, failed, equal-tests}
@@ -31,34 +31,37 @@ unfolding isError claimsPoints
 worthy q = not (isError q) && claimsPoints q
 
 module _ (R : Rules) where
-  abbrev repeats : List Qso → Qso → Bool
-  repeats credited q = some (λ e. sameCall R (e .call) (q .call)) credited
-
   -- Every record that is worthy is credited, and no other.
   abbrev Clean : List Qso → List Qso → Type 0
   Clean credited [] = Unit {0}
   Clean credited (q ∷ qs) =
       (is Credited (classOf R credited q) ≡ worthy q) × Clean (creditedAfter (classOf R credited q) q credited) qs
 
-  -- What a class is credited for.
+  -- What a class is credited for: with points the D is not asked.
   credited-when : (credited : List Qso) (q : Qso) →
-      is Credited (classOf R credited q) ≡ (not (isError q) && (not (repeats credited q) && claimsPoints q))
-  unfolding classOf
-  credited-when credited q = by-credited (isError q) (repeats credited q) (claimsPoints q)
+      is Credited (classOf R credited q) ≡ (not (isError q) && (not (worked R credited q) && claimsPoints q))
+  unfolding classOf mayRepeat
+  credited-when credited q =
+      by-credited (isError q) (mayRepeat q && worked R credited q) (claimsPoints q)
+      ∙ ap (λ (b : Bool). not (isError q) && b) (by (claimsPoints q) (claimsDuplicate q) (worked R credited q))
+    where
+      by : (p m d : Bool) → (not ((p || m) && d) && p) ≡ (not d && p)
+      by true m d = refl
+      by false m d = and-false (not ((false || m) && d)) ∙ sym (and-false (not d))
 
   duplicate-when : (credited : List Qso) (q : Qso) →
-      is Duplicate (classOf R credited q) ≡ (not (isError q) && repeats credited q)
+      is Duplicate (classOf R credited q) ≡ (not (isError q) && (mayRepeat q && worked R credited q))
   unfolding classOf
-  duplicate-when credited q = by-duplicate (isError q) (repeats credited q) (claimsPoints q)
+  duplicate-when credited q = by-duplicate (isError q) (mayRepeat q && worked R credited q) (claimsPoints q)
 
   -- A worthy record is credited if it does not repeat.
   worthy-credited : (credited : List Qso) (q : Qso) →
-      (T (worthy q) → T (repeats credited q) → ⊥) →
+      (T (worthy q) → T (worked R credited q) → ⊥) →
       is Credited (classOf R credited q) ≡ worthy q
   unfolding worthy
   worthy-credited credited q f =
       let e = isError q in
-      let d = repeats credited q in
+      let d = worked R credited q in
       let p = claimsPoints q in
       credited-when credited q
       ∙ equal-tests (not e && (not d && p)) (not e && p)
@@ -70,57 +73,59 @@ module _ (R : Rules) where
   credited-fresh : (credited : List Qso) (q : Qso) →
       is Credited (classOf R credited q) ≡ worthy q →
       T (worthy q) →
-      T (repeats credited q) →
+      T (worked R credited q) →
       ⊥
   credited-fresh credited q e w t =
-      let c : T (not (isError q) && (not (repeats credited q) && claimsPoints q)) = rw (sym e ∙ credited-when credited q) at w in
-      failed (repeats credited q) .0
-      (first (not (repeats credited q)) (claimsPoints q)
-      (second (not (isError q)) (not (repeats credited q) && claimsPoints q) c)) t
+      let c : T (not (isError q) && (not (worked R credited q) && claimsPoints q)) = rw (sym e ∙ credited-when credited q) at w in
+      failed (worked R credited q) .0
+      (first (not (worked R credited q)) (claimsPoints q)
+      (second (not (isError q)) (not (worked R credited q) && claimsPoints q) c)) t
 
   -- Where no duplicate claims points the log is clean.
   clean : (credited qs : List Qso) (v : Verdict) (e : Qso) →
       ((j : ℕ) → j < length qs → (getD (verdictsAfter R credited qs) j v) .class ≡ Duplicate → T (not (claimsPoints (getD qs j e)))) →
       Clean credited qs
-  unfolding verdictsAfter verdictOf worthy
+  unfolding verdictsAfter verdictOf worthy mayRepeat
   clean credited [] v e f = tt
   clean credited (q ∷ qs) v e f = (
     worthy-credited credited q (λ w t.
         failed (claimsPoints q) .0
         (f 0 (suc-le-suc zero-le)
         (is→equal Duplicate (classOf R credited q)
-        (rw (duplicate-when credited q) (both (not (isError q)) (repeats credited q) (first (not (isError q)) (claimsPoints q) w) t))))
+        (rw (duplicate-when credited q)
+        (both (not (isError q)) (mayRepeat q && worked R credited q) (first (not (isError q)) (claimsPoints q) w)
+        (both (mayRepeat q) (worked R credited q) (left (claimsPoints q) (claimsDuplicate q) (second (not (isError q)) (claimsPoints q) w)) t)))))
         (second (not (isError q)) (claimsPoints q) w)),
     clean (creditedAfter (classOf R credited q) q credited) qs v e (λ j h c. f (suc j) (suc-le-suc h) c),
   )
 
   -- One more credited record, or not, on both sides.
-  more-repeats : (less credited : List Qso) (q : Qso) (c b : Class) →
-      ((r : Qso) → T (repeats less r) → T (repeats credited r)) →
+  more-worked : (less credited : List Qso) (q : Qso) (c b : Class) →
+      ((r : Qso) → T (worked R less r) → T (worked R credited r)) →
       (T (is Credited c) → T (is Credited b)) →
       (r : Qso) →
-      T (repeats (creditedAfter c q less) r) →
-      T (repeats (creditedAfter b q credited) r)
-  unfolding creditedAfter some
-  more-repeats less credited q c b f e r = by (is Credited c) (is Credited b) e
+      T (worked R (creditedAfter c q less) r) →
+      T (worked R (creditedAfter b q credited) r)
+  unfolding creditedAfter some worked same
+  more-worked less credited q c b f e r = by (is Credited c) (is Credited b) e
     where
-      by : (x y : Bool) → (T x → T y) → T (repeats (cond x (q ∷ less) less) r) → T (repeats (cond y (q ∷ credited) credited) r)
-      by true true e t = ⊎-elim (left (sameCall R (q .call) (r .call)) (repeats credited r)) (λ u. right (sameCall R (q .call) (r .call)) (repeats credited r) (f r u)) (one-of (sameCall R (q .call) (r .call)) (repeats less r) t)
+      by : (x y : Bool) → (T x → T y) → T (worked R (cond x (q ∷ less) less) r) → T (worked R (cond y (q ∷ credited) credited) r)
+      by true true e t = ⊎-elim (left (sameCall R (q .call) (r .call)) (worked R credited r)) (λ u. right (sameCall R (q .call) (r .call)) (worked R credited r) (f r u)) (one-of (sameCall R (q .call) (r .call)) (worked R less r) t)
       by true false e t = absurd (e tt)
-      by false true e t = right (sameCall R (q .call) (r .call)) (repeats credited r) (f r t)
+      by false true e t = right (sameCall R (q .call) (r .call)) (worked R credited r) (f r t)
       by false false e t = f r t
 
   skipped : (less credited : List Qso) (q : Qso) (b : Class) →
-      ((r : Qso) → T (repeats less r) → T (repeats credited r)) →
+      ((r : Qso) → T (worked R less r) → T (worked R credited r)) →
       (r : Qso) →
-      T (repeats less r) →
-      T (repeats (creditedAfter b q credited) r)
+      T (worked R less r) →
+      T (worked R (creditedAfter b q credited) r)
   unfolding creditedAfter is
-  skipped less credited q b f = more-repeats less credited q Void b f (λ t. absurd t)
+  skipped less credited q b f = more-worked less credited q Void b f (λ t. absurd t)
 
   -- What is left of a clean log is clean.
   clean-left : (struck : Places) (credited less qs : List Qso) →
-      ((r : Qso) → T (repeats less r) → T (repeats credited r)) →
+      ((r : Qso) → T (worked R less r) → T (worked R credited r)) →
       Clean credited qs →
       Clean less (kept struck qs)
   unfolding kept
@@ -131,7 +136,7 @@ module _ (R : Rules) where
       worthy-credited less q (λ w t. credited-fresh credited q (c .0) w (f q t)) in
       by (struck 0)
       (clean-left (later struck) after less qs (skipped less credited q (classOf R credited q) f) (c .1))
-      (here, clean-left (later struck) after (creditedAfter (classOf R less q) q less) qs (more-repeats less credited q (classOf R less q) (classOf R credited q) f (λ t. rw (here ∙ sym (c .0)) at t)) (c .1))
+      (here, clean-left (later struck) after (creditedAfter (classOf R less q) q less) qs (more-worked less credited q (classOf R less q) (classOf R credited q) f (λ t. rw (here ∙ sym (c .0)) at t)) (c .1))
     where
       by : (s : Bool) →
           Clean less (kept (later struck) qs) →

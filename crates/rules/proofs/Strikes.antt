@@ -3,7 +3,7 @@
 use Prim.Native.Nat.{ℕ, _<_}
 use native.Mathlib.Omega.{arith}
 use mathlib.Core.Path.{_≡_, sym, ap, _∙_}
-use mathlib.Core.Logic.{⊎-elim, _↔_}
+use mathlib.Core.Logic.{inl, ⊎-elim, _↔_}
 use mathlib.Core.Bool.{not}
 use mathlib.Core.List.{List}
 use lib.Dec.{T}
@@ -75,7 +75,7 @@ module _ (R : Rules) where
         let claims : T (claimsPoints (qsoAt qs j)) = rw same-record at (d .2) in
         ⊎-elim
         (λ c. c)
-        (λ w. absurd (failed (claimsPoints (qsoAt qs j)) .0 (none (as-defined R qs j h .duplicate .1 (right, w))) claims))
+        (λ w. absurd (failed (claimsPoints (qsoAt qs j)) .0 (none (as-defined R qs j h .duplicate .1 (right, inl claims, w))) claims))
         (credited-or-repeats R qs j h right claims)
 
   errors-claim-nothing : (log : Log) →

@@ -1,17 +1,18 @@
 -- Writing back, record by record: the written records are judged as those they were written from, and are written back unchanged.
 -- Assumes nothing.
-use mathlib.Core.Path.{_≡_, refl, ap, _∙_}
-use mathlib.Core.Bool.{Bool, true, false, cond, _&&_}
+use mathlib.Core.Path.{_≡_, refl, sym, ap, _∙_}
+use mathlib.Core.Bool.{Bool, true, false, cond, not, _&&_, _||_}
 use mathlib.Core.List.{List, [], _∷_}
+use lib.Dec.{eqb}
 use lib.ListN.{take}
 use Rattle.rules.specs.declared.Class.{Class}
 use Rattle.rules.specs.declared.Class.the-variants.{Credited, Duplicate}
 use Rattle.rules.specs.declared.Verdict.{Verdict}
-use Rattle.rules.specs.Text.{Text, bytes, same}
+use Rattle.rules.specs.Text.{Text, bytes, same, value}
 use Rattle.rules.specs.Rules.{Rules}
-use Rattle.rules.specs.Fields.{Qso, isError}
+use Rattle.rules.specs.Fields.{Qso, errorCall, isError, duplicateMark}
 use Rattle.rules.specs.Log.{Log}
-use Rattle.rules.specs.Judging.{is, classNumber, some, sameCall, classOf, claimsPoints, square, isNew, claimsCountry, verdictOf, creditedAfter, verdictsAfter, verdicts, verdictsOfLog}
+use Rattle.rules.specs.Judging.{is, classNumber, some, sameCall, worked, claimsDuplicate, mayRepeat, classOf, claimsPoints, square, isNew, claimsCountry, verdictOf, creditedAfter, verdictsAfter, verdicts, verdictsOfLog}
 use Rattle.rules.specs.Writing.{writtenRecord, writtenRecords, writtenBack}
 use Rattle.rules.proofs.Classes.{classBy}
 
@@ -21,30 +22,51 @@ Alike ds cs =
     (f : Text → Text → Text → Bool) →
     some (λ e. f (e .call) (e .exchange) (e .locator)) ds ≡ some (λ e. f (e .call) (e .exchange) (e .locator)) cs
 
--- The points tell the class only of what is no duplicate.
-same-class : (e d r p : Bool) → (is Duplicate (classBy e d p) ≡ false → r ≡ p) → classBy e d r ≡ classBy e d p
+-- The class once a D stands exactly on duplicates, and what is no duplicate has its points: with no D it is asked for points as before.
+same-class : (e d p m r : Bool) →
+    (is Duplicate (classBy e ((p || m) && d) p) ≡ false → r ≡ p) →
+    classBy e ((r || is Duplicate (classBy e ((p || m) && d) p)) && d) r ≡ classBy e ((p || m) && d) p
 unfolding is classNumber
-same-class true d r p h = refl
-same-class false true r p h = refl
-same-class false false r true h = rw (h refl)
-same-class false false r false h = rw (h refl)
+same-class true d p m r h = refl
+same-class false true true m true h = refl
+same-class false true true m false h = refl
+same-class false true false true true h = refl
+same-class false true false true false h = refl
+same-class false true false false r h = rw (h refl)
+same-class false false true m r h = rw (h refl)
+same-class false false false true r h = rw (h refl)
+same-class false false false false r h = rw (h refl)
 
 same-and : (b x y : Bool) → (b ≡ true → x ≡ y) → (b && x) ≡ (b && y)
 same-and true x y h = h refl
 same-and false x y h = refl
 
 module _ (R : Rules) where
+  -- The class by the four tests that tell it.
+  class-by : (cs : List Qso) (q : Qso) →
+      classOf R cs q ≡ classBy (isError q) ((claimsPoints q || claimsDuplicate q) && worked R cs q) (claimsPoints q)
+  unfolding classOf mayRepeat
+  class-by cs q = refl
+
   -- A record r after ds is judged as a record q after cs.
   module _ (ds cs : List Qso) (r q : Qso) (alike : Alike ds cs)
       (calls : r .call ≡ q .call) (exchanges : r .exchange ≡ q .exchange) (locators : r .locator ≡ q .locator)
       (points : is Duplicate (classOf R cs q) ≡ false → r .points ≡ q .points)
+      (marks : claimsDuplicate r ≡ is Duplicate (classOf R cs q))
       (countries : is Credited (classOf R cs q) ≡ true → r .newCountry ≡ q .newCountry) where
     class-same : classOf R ds r ≡ classOf R cs q
-    unfolding classOf isError claimsPoints
+    unfolding isError claimsPoints worked
     class-same =
-        rw (calls, alike (λ c x l. sameCall R c (q .call)))
-        (same-class (isError q) (some (λ e. sameCall R (e .call) (q .call)) cs) (claimsPoints r) (claimsPoints q)
-        (λ n. rw (points n)))
+        let error : isError r ≡ isError q = ap (λ (c : Text). same c errorCall) calls in
+        let again : worked R ds r ≡ worked R cs q =
+        (λ i. some (λ e. sameCall R (e .call) (calls i)) ds) ∙ alike (λ c x l. sameCall R c (q .call)) in
+        let mark : claimsDuplicate r ≡ is Duplicate (classBy (isError q) ((claimsPoints q || claimsDuplicate q) && worked R cs q) (claimsPoints q)) =
+        marks ∙ ap (is Duplicate) (class-by cs q) in
+        class-by ds r
+        ∙ (λ i. classBy (error i) ((claimsPoints r || mark i) && again i) (claimsPoints r))
+        ∙ same-class (isError q) (worked R cs q) (claimsPoints q) (claimsDuplicate q) (claimsPoints r)
+        (λ n. ap (λ (t : Text). not (eqb (value t) 0)) (points (ap (is Duplicate) (class-by cs q) ∙ n)))
+        ∙ sym (class-by cs q)
 
     exchange-same : isNew (λ e. e .exchange) ds r ≡ isNew (λ e. e .exchange) cs q
     unfolding isNew
@@ -63,11 +85,17 @@ module _ (R : Rules) where
     unfolding verdictOf
     verdict-same = rw (class-same, exchange-same, square-same, country-same)
 
+  -- "the last field is `D` exactly on duplicates"
+  mark-claimed : (b : Bool) → same (cond b duplicateMark []) duplicateMark ≡ b
+  unfolding same duplicateMark
+  mark-claimed true = refl
+  mark-claimed false = refl
+
   -- A written record is judged as the record it was written from.
   written-judged : (ds cs : List Qso) (q : Qso) → Alike ds cs → verdictOf R ds (writtenRecord (verdictOf R cs q) q) ≡ verdictOf R cs q
-  unfolding writtenRecord verdictOf
+  unfolding writtenRecord verdictOf claimsDuplicate
   written-judged ds cs q alike =
-      verdict-same ds cs (writtenRecord (verdictOf R cs q) q) q alike refl refl refl (λ n. rw n) (λ c. rw c)
+      verdict-same ds cs (writtenRecord (verdictOf R cs q) q) q alike refl refl refl (λ n. rw n) (mark-claimed (is Duplicate (classOf R cs q))) (λ c. rw c)
 
   alike-after : (c : Class) (v : Verdict) (q : Qso) (ds cs : List Qso) →
       Alike ds cs →

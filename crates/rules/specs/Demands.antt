@@ -19,7 +19,7 @@ use Rattle.rules.specs.Rules.{Rules, base}
 use Rattle.rules.specs.Fields.{Qso, isError, fieldsOf}
 use Rattle.rules.specs.Arguments.{entries, among}
 use Rattle.rules.specs.Log.{Log, argument, keywordsOf, keywordRules, valid, render, IsWrittenAs, FollowsTheFormat}
-use Rattle.rules.specs.Judging.{Declared, is, claimsPoints, sameCall, square, exchangeOf, claimsCountry, verdicts, multipliers, declared, verdictsOfLog, totalsOfLog, zeroTotals}
+use Rattle.rules.specs.Judging.{Declared, is, claimsPoints, claimsDuplicate, sameCall, square, exchangeOf, claimsCountry, verdicts, multipliers, declared, verdictsOfLog, totalsOfLog, zeroTotals}
 use Rattle.rules.specs.Writing.{writtenBack, unclaimed}
 use Rattle.rules.specs.Reading.{accepted, refused, refusal, lines, read}
 use Rattle.rules.specs.Answers.{recordsOfReading, respeltOfReading, unseen, view, startOfView, viewed, listedOfView, unjudged, judge, totalsOfJudgement, numbersOfJudgement, written, unwritten, write, bytesOfWriting, over}
@@ -164,14 +164,20 @@ abbrev pub sameExchangeAs : Rules → Qso → Qso → Bool
 sameExchangeAs R e q = same (exchangeOf R e) (exchangeOf R q)
 
 -- "Each record's class, each mark and the total are those the document defines": the classes and marks of the record at a place, in terms of
--- the classes before it.
+-- the classes before it. W3: "A record with 0 points and no D is void even if its call was credited before; a duplicate needs points or a claimed
+-- D."
 pub record AsTheDocumentDefines (R : Rules) (qs : List Qso) (j : ℕ) : Type 0 where
   pub error : (classAt R qs j ≡ Error) ↔ T (isError (qsoAt qs j))
   pub duplicate :
-      (classAt R qs j ≡ Duplicate) ↔ (T (not (isError (qsoAt qs j))) × SomeEarlierCredited R qs (sameCallAs R) j)
+      (classAt R qs j ≡ Duplicate)
+      ↔ (T (not (isError (qsoAt qs j)))
+      × (T (claimsPoints (qsoAt qs j)) ⊎ T (claimsDuplicate (qsoAt qs j)))
+      × SomeEarlierCredited R qs (sameCallAs R) j)
   pub void :
       (classAt R qs j ≡ Void)
-      ↔ (T (not (isError (qsoAt qs j))) × (SomeEarlierCredited R qs (sameCallAs R) j → ⊥) × T (not (claimsPoints (qsoAt qs j))))
+      ↔ (T (not (isError (qsoAt qs j)))
+      × T (not (claimsPoints (qsoAt qs j)))
+      × (T (not (claimsDuplicate (qsoAt qs j))) ⊎ (SomeEarlierCredited R qs (sameCallAs R) j → ⊥)))
   pub credited :
       (classAt R qs j ≡ Credited)
       ↔ (T (not (isError (qsoAt qs j))) × (SomeEarlierCredited R qs (sameCallAs R) j → ⊥) × T (claimsPoints (qsoAt qs j)))

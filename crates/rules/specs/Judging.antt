@@ -11,7 +11,7 @@ use Rattle.rules.specs.declared.Verdict.{Verdict}
 use Rattle.rules.specs.declared.Totals.{Totals}
 use Rattle.rules.specs.Text.{Text, bytes, same, empty, value}
 use Rattle.rules.specs.Rules.{Rules}
-use Rattle.rules.specs.Fields.{Qso, isError, newMark}
+use Rattle.rules.specs.Fields.{Qso, isError, newMark, duplicateMark}
 use Rattle.rules.specs.Arguments.{part}
 use Rattle.rules.specs.Log.{Log, argument}
 
@@ -40,16 +40,31 @@ claimsPoints q = not (eqb (value (q .points)) 0)
 abbrev pub sameCall : Rules → Text → Text → Bool
 sameCall R call other = same (R .home call) (R .home other)
 
+-- "some earlier credited record has the same call", of a record after these credited ones.
+unfoldable pub worked : Rules → List Qso → Qso → Bool
+unfolding some same
+worked R credited q = some (λ e. sameCall R (e .call) (q .call)) credited
+
+-- W3: "a duplicate needs points or a claimed D".
+unfoldable pub claimsDuplicate : Qso → Bool
+unfolding same duplicateMark
+claimsDuplicate q = same (q .duplicate) duplicateMark
+
+unfoldable pub mayRepeat : Qso → Bool
+unfolding claimsPoints claimsDuplicate
+mayRepeat q = claimsPoints q || claimsDuplicate q
+
 -- The class of a record after these credited ones:
 -- "Error: the call is ERROR."
--- "Duplicate: otherwise, if some earlier credited record has the same call, byte for byte."
+-- "Duplicate: otherwise, if some earlier credited record has the same call, byte for byte", which W3 replaces: "A record with 0 points and no D is
+-- void even if its call was credited before; a duplicate needs points or a claimed D."
 -- "Void: otherwise, if points are 0."
 -- "Credited: otherwise."
 unfoldable pub classOf : Rules → List Qso → Qso → Class
-unfolding isError some claimsPoints same
+unfolding isError mayRepeat worked claimsPoints
 classOf R credited q =
     cond (isError q) Error
-    (cond (some (λ e. sameCall R (e .call) (q .call)) credited) Duplicate
+    (cond (mayRepeat q && worked R credited q) Duplicate
     (cond (claimsPoints q) Credited Void))
 
 -- "a square is the first four characters of the received locator"

@@ -443,6 +443,141 @@ wrongTurnCases =
     ∷ case (comesTo falseClaims) (2 ∷ 0 ∷ 1 ∷ 0 ∷ 200 ∷ 1 ∷ 1 ∷ 1 ∷ 500 ∷ 0 ∷ 0 ∷ 700 ∷ [])
     ∷ []
 
+-- W3: "An operator works a station, tries again by aurora and gets half a report. She writes 0 points and no D". The broken try claims a square,
+-- an exchange and a country. It brings none of them, leaves them new for another contact, and a repeat behind it is a repeat still.
+unfoldable pub secondTry : Text
+unfolding textOf plain
+secondTry =
+    textOf plain
+    ("[QSORecords;5]"
+    ∷ "240302;1401;DK1AA;1;59;001;59;004;A1;JO40AA;120;;;N;"
+    ∷ "240302;1405;DK1AA;2;55A;002;51A;;A2;JO41AA;0;N;N;N;"
+    ∷ "240302;1410;OZ1BB;1;59;003;59;010;A2;JO41BC;80;;;N;"
+    ∷ "240302;1412;DK1AA;1;59;004;59;009;A3;JO42AA;50;N;N;N;"
+    ∷ "240302;1420;OZ1BB;2;55A;005;;;;;0;;;;"
+    ∷ [])
+
+unfoldable pub secondTryWritten : Text
+unfolding textOf opening
+secondTryWritten =
+    textOf (opening ("2;1" ∷ "200" ∷ "2;500;1" ∷ "1000" ∷ "2;0;1" ∷ "0" ∷ "2;0;1" ∷ "0" ∷ "1200" ∷ []))
+    ("[QSORecords;5]"
+    ∷ "240302;1401;DK1AA;1;59;001;59;004;A1;JO40AA;120;N;N;N;"
+    ∷ "240302;1405;DK1AA;2;55A;002;51A;;A2;JO41AA;0;;;;"
+    ∷ "240302;1410;OZ1BB;1;59;003;59;010;A2;JO41BC;80;N;N;N;"
+    ∷ "240302;1412;DK1AA;1;59;004;59;009;A3;JO42AA;0;;;;D"
+    ∷ "240302;1420;OZ1BB;2;55A;005;;;;;0;;;;"
+    ∷ [])
+
+-- "a duplicate needs points or a claimed D", and an earlier credited record of its own call besides: a D on an ERROR, on a void contact, on the
+-- first that counts, on a repeat with no points, on a void contact of another call; then repeats with points, one with no D and one with it; and
+-- with 0 points a whole report and no D, which is void, and no report and a D, which is a repeat.
+unfoldable pub claimedD : Text
+unfolding textOf plain
+claimedD =
+    textOf plain
+    ("[QSORecords;11]"
+    ∷ "240302;1401;ERROR;1;59;001;59;004;A1;JO40AA;0;N;N;N;D"
+    ∷ "240302;1402;DK1AA;1;59;002;59;005;A1;JO40AA;0;N;N;N;D"
+    ∷ "240302;1403;DK1AA;1;59;003;59;006;A1;JO40AA;120;;;;D"
+    ∷ "240302;1404;DK1AA;1;59;004;59;007;A2;JO41AA;0;N;N;N;D"
+    ∷ "240302;1405;OZ1BB;1;59;005;59;008;A2;JO41AA;0;N;N;N;D"
+    ∷ "240302;1406;OZ1BB;1;59;006;59;009;A2;JO41AA;80;;;N;"
+    ∷ "240302;1407;ERROR;1;59;007;59;010;A3;JO42AA;0;N;N;N;D"
+    ∷ "240302;1408;OZ1BB;1;59;008;59;011;A3;JO42AA;1;N;N;N;"
+    ∷ "240302;1409;DK1AA;1;59;009;59;012;A3;JO42AA;60;;;N;D"
+    ∷ "240302;1410;DK1AA;1;59;010;59;013;;;0;;;;"
+    ∷ "240302;1411;DK1AA;1;59;011;;;;;0;;;N;D"
+    ∷ [])
+
+unfoldable pub claimedDWritten : Text
+unfolding textOf opening
+claimedDWritten =
+    textOf (opening ("2;1" ∷ "200" ∷ "2;500;1" ∷ "1000" ∷ "2;0;1" ∷ "0" ∷ "1;0;1" ∷ "0" ∷ "1200" ∷ []))
+    ("[QSORecords;11]"
+    ∷ "240302;1401;ERROR;1;59;001;59;004;A1;JO40AA;0;;;;"
+    ∷ "240302;1402;DK1AA;1;59;002;59;005;A1;JO40AA;0;;;;"
+    ∷ "240302;1403;DK1AA;1;59;003;59;006;A1;JO40AA;120;N;N;;"
+    ∷ "240302;1404;DK1AA;1;59;004;59;007;A2;JO41AA;0;;;;D"
+    ∷ "240302;1405;OZ1BB;1;59;005;59;008;A2;JO41AA;0;;;;"
+    ∷ "240302;1406;OZ1BB;1;59;006;59;009;A2;JO41AA;80;N;N;N;"
+    ∷ "240302;1407;ERROR;1;59;007;59;010;A3;JO42AA;0;;;;"
+    ∷ "240302;1408;OZ1BB;1;59;008;59;011;A3;JO42AA;0;;;;D"
+    ∷ "240302;1409;DK1AA;1;59;009;59;012;A3;JO42AA;0;;;;D"
+    ∷ "240302;1410;DK1AA;1;59;010;59;013;;;0;;;;"
+    ∷ "240302;1411;DK1AA;1;59;011;;;;;0;;;;D"
+    ∷ [])
+
+-- A contact, a broken try, a repeat with a D and one with points, and a D of another call. Once the contact is struck, the one with points counts,
+-- and no D is left that has a credited record before it.
+unfoldable pub tries : Text
+unfolding textOf plain
+tries =
+    textOf plain
+    ("[QSORecords;5]"
+    ∷ "240302;1401;DK1AA;1;59;001;59;004;;JO40AA;120;;N;N;"
+    ∷ "240302;1405;DK1AA;2;55A;002;51A;;;JO41AA;0;;;;"
+    ∷ "240302;1410;DK1AA;1;59;003;59;009;;JO41AA;0;;;;D"
+    ∷ "240302;1412;DK1AA;1;59;004;59;010;;JO41AA;50;;;N;"
+    ∷ "240302;1414;OZ1BB;1;59;005;59;011;;JO41BC;0;;;;D"
+    ∷ [])
+
+unfoldable pub triesWritten : Text
+unfolding textOf opening
+triesWritten =
+    textOf (opening ("1;1" ∷ "120" ∷ "1;500;1" ∷ "500" ∷ "0;0;1" ∷ "0" ∷ "1;0;1" ∷ "0" ∷ "620" ∷ []))
+    ("[QSORecords;5]"
+    ∷ "240302;1401;DK1AA;1;59;001;59;004;;JO40AA;120;;N;N;"
+    ∷ "240302;1405;DK1AA;2;55A;002;51A;;;JO41AA;0;;;;"
+    ∷ "240302;1410;DK1AA;1;59;003;59;009;;JO41AA;0;;;;D"
+    ∷ "240302;1412;DK1AA;1;59;004;59;010;;JO41AA;0;;;;D"
+    ∷ "240302;1414;OZ1BB;1;59;005;59;011;;JO41BC;0;;;;"
+    ∷ [])
+
+abbrev third : Places
+third n = eqb n 2
+
+abbrev firstAndFourth : Places
+firstAndFourth n = eqb n 0 || eqb n 3
+
+unfoldable pub secondTryCases : List Case
+unfolding secondTry secondTryWritten claimedD claimedDWritten tries triesWritten
+secondTryCases =
+    case (isJudged 5 secondTry) (0 ∷ 0 ∷ 0 ∷ 112 ∷ 1 ∷ 112 ∷ 2 ∷ 1 ∷ [])
+    ∷ case (comesTo secondTry) (2 ∷ 2 ∷ 1 ∷ 0 ∷ 200 ∷ 2 ∷ 2 ∷ 2 ∷ 1000 ∷ 0 ∷ 0 ∷ 1200 ∷ [])
+    ∷ case (isShown secondTry) (bytes "QSOS 2\nPOINTS 200\nWWLS 2\nEXCHANGES 2\nDXCCS 2\nTOTAL 1200\n")
+    ∷ case (isWritten 65535 secondTry) (0 ∷ 0 ∷ 0 ∷ secondTryWritten)
+    ∷ case (isWritten 65535 secondTryWritten) (0 ∷ 0 ∷ 0 ∷ secondTryWritten)
+    ∷ case (isJudged 5 secondTryWritten) (0 ∷ 0 ∷ 0 ∷ 112 ∷ 1 ∷ 112 ∷ 2 ∷ 1 ∷ [])
+    -- the broken try struck, which changes nothing; the contact struck
+    ∷ case (isStruck second secondTry) (1200 ∷ 112 ∷ 112 ∷ 2 ∷ 1 ∷ [])
+    ∷ case (isWrittenAndStruck second secondTry) (1200 ∷ 112 ∷ 112 ∷ 2 ∷ 1 ∷ [])
+    ∷ case (isWorth second secondTry) (0 ∷ [])
+    ∷ case (isStruck first secondTry) (1130 ∷ 1 ∷ 112 ∷ 112 ∷ 1 ∷ [])
+    ∷ case (isWrittenAndStruck first secondTry) (580 ∷ 1 ∷ 112 ∷ 1 ∷ 1 ∷ [])
+    ∷ case (isJudged 11 claimedD) (0 ∷ 0 ∷ 0 ∷ 3 ∷ 1 ∷ 48 ∷ 2 ∷ 1 ∷ 112 ∷ 3 ∷ 2 ∷ 2 ∷ 1 ∷ 2 ∷ [])
+    ∷ case (comesTo claimedD) (2 ∷ 3 ∷ 4 ∷ 2 ∷ 200 ∷ 2 ∷ 2 ∷ 1 ∷ 1000 ∷ 0 ∷ 0 ∷ 1200 ∷ [])
+    ∷ case (isWritten 65535 claimedD) (0 ∷ 0 ∷ 0 ∷ claimedDWritten)
+    ∷ case (isWritten 65535 claimedDWritten) (0 ∷ 0 ∷ 0 ∷ claimedDWritten)
+    ∷ case (isJudged 11 claimedDWritten) (0 ∷ 0 ∷ 0 ∷ 3 ∷ 1 ∷ 48 ∷ 2 ∷ 1 ∷ 112 ∷ 3 ∷ 2 ∷ 2 ∷ 1 ∷ 2 ∷ [])
+    -- the first contact that counts struck
+    ∷ case (isStruck third claimedD) (1140 ∷ 3 ∷ 1 ∷ 1 ∷ 1 ∷ 112 ∷ 3 ∷ 2 ∷ 112 ∷ 1 ∷ 2 ∷ [])
+    ∷ case (isWrittenAndStruck third claimedD) (580 ∷ 3 ∷ 1 ∷ 1 ∷ 1 ∷ 112 ∷ 3 ∷ 2 ∷ 1 ∷ 1 ∷ 1 ∷ [])
+    ∷ case (isJudged 5 tries) (0 ∷ 0 ∷ 0 ∷ 96 ∷ 1 ∷ 2 ∷ 2 ∷ 1 ∷ [])
+    ∷ case (comesTo tries) (1 ∷ 2 ∷ 2 ∷ 0 ∷ 120 ∷ 1 ∷ 0 ∷ 1 ∷ 500 ∷ 0 ∷ 0 ∷ 620 ∷ [])
+    ∷ case (isWritten 65535 tries) (0 ∷ 0 ∷ 0 ∷ triesWritten)
+    ∷ case (isWritten 65535 triesWritten) (0 ∷ 0 ∷ 0 ∷ triesWritten)
+    ∷ case (isJudged 5 triesWritten) (0 ∷ 0 ∷ 0 ∷ 96 ∷ 1 ∷ 2 ∷ 2 ∷ 1 ∷ [])
+    -- the contact struck; it and the repeat with points; the broken try; the repeat with a D
+    ∷ case (isStruck first tries) (550 ∷ 1 ∷ 1 ∷ 96 ∷ 1 ∷ [])
+    ∷ case (isWrittenAndStruck first tries) (0 ∷ 1 ∷ 1 ∷ 1 ∷ 1 ∷ [])
+    ∷ case (isStruck firstAndFourth tries) (0 ∷ 1 ∷ 1 ∷ 1 ∷ [])
+    ∷ case (isWrittenAndStruck firstAndFourth tries) (0 ∷ 1 ∷ 1 ∷ 1 ∷ [])
+    ∷ case (isStruck second tries) (620 ∷ 96 ∷ 2 ∷ 2 ∷ 1 ∷ [])
+    ∷ case (isWrittenAndStruck second tries) (620 ∷ 96 ∷ 2 ∷ 2 ∷ 1 ∷ [])
+    ∷ case (isStruck third tries) (620 ∷ 96 ∷ 1 ∷ 2 ∷ 1 ∷ [])
+    ∷ []
+
 -- A log in which no two numbers are the same: the counts of the four classes and of what is new, the bonuses and the multipliers, and what
 -- is claimed. Every argument holds something of its own. Each class of record has marks that are false, and what repeats of a void or an
 -- ERROR, its call, its exchange and its square, is new all the same.

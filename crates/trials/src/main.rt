@@ -1,6 +1,6 @@
-// Runs the library on the logs of data/ and prints what it answers: the fourteen cases of document 01, the samples of its sources, and chewed logs.
-// What has to come out stands in the file stdout. The comments below say where each answer comes from; tests/reference holds every one of them to
-// the second judge (tests/trials.rs there).
+// Runs the library on the logs of data/ and prints what it answers: the fourteen cases of document 01, the samples of its sources, chewed logs, and
+// second tries. What has to come out stands in the file stdout. The comments below say where each answer comes from; tests/reference holds every one
+// of them to the second judge (tests/trials.rs there).
 
 ghost use Prim.Native.Nat.{_≤_};
 ghost use lib.ListN.{length};
@@ -372,10 +372,25 @@ fn chewed() {
     answers(b"w2-broken.edi");
 }
 
+// Second tries: a duplicate needs points or a claimed D.
+fn second_tries() {
+    // A contact, and it tried again by aurora, with 0 points and no D: void, so that its square and its exchange are new in the fifth record. A repeat
+    // with 0 points and a D. A D with 0 points and nothing before it: void; then the contact, and a repeat that claims its points and no D. An ERROR
+    // and a first contact that claim a D. Verdicts 112, 1, 2, 1, 112, 2, 3, 0; total 1250. What it is written back as has the same.
+    answers(b"w3-tries.edi");
+    answers(b"w3-written.edi");
+    written(b"w3-tries.edi", b"w3-written.edi");
+    written(b"w3-written.edi", b"w3-written.edi");
+    // The first contact struck: its claimed repeat has nothing to repeat, and is void. No duplicate that is left becomes credited.
+    answers(b"w3-struck.edi");
+    answers(b"w3-written-struck.edi");
+}
+
 fn main() {
     cases();
     views();
     writings();
     samples();
     chewed();
+    second_tries();
 }

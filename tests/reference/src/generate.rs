@@ -7,6 +7,7 @@ use crate::faults::{self, Expectation, Fault};
 use crate::mending::{mend_text, Rooms};
 use crate::random::Random;
 use crate::reading::{read, LONGEST_LOG};
+use crate::striking::strike;
 use crate::values;
 use crate::writing::write_log;
 
@@ -44,6 +45,9 @@ const VALID: &[(&str, usize, Maker)] = &[
     ("valid/no-records", 2, no_records),
     ("valid/repeats", 8, repeats),
     ("valid/errors-and-voids", 4, errors_and_voids),
+    ("valid/second-tries", 8, second_tries),
+    ("valid/second-tries-struck", 3, second_tries_struck),
+    ("valid/second-tries-every-order", 1, second_tries_every_order),
     ("valid/remarks", 3, many_remarks),
     ("valid/longest-lines", 2, longest_lines),
     ("valid/shortest-lines", 2, shortest_lines),
@@ -57,6 +61,7 @@ const VALID: &[(&str, usize, Maker)] = &[
     ("valid/some-hundred", 3, some_hundred),
     ("valid/full", 1, full),
     ("valid/full-of-repeats", 1, full_of_repeats),
+    ("valid/full-of-second-tries", 1, full_of_second_tries),
     ("valid/greatest-total", 1, greatest_total),
     ("valid/65535-bytes", 1, longest_log),
     ("valid/written-65535-bytes", 1, grows_to_the_limit),
@@ -280,8 +285,73 @@ fn errors_and_voids(random: &mut Random) -> Vec<u8> {
         if record[2] != b"ERROR" {
             record[10] = random.pick(&["0", "0", "1", "7"]).as_bytes().to_vec();
         }
-        record[8] = random.pick(&["", "A", "B"]).as_bytes().to_vec();
-        record[9] = random.pick(&["", "JO65", "JO65FR", "JO66"]).as_bytes().to_vec();
+        give_common_values(random, record);
+    }
+    made.bytes()
+}
+
+/// An exchange and a locator that other records are likely to have too.
+fn give_common_values(random: &mut Random, record: &mut [Vec<u8>; 15]) {
+    record[8] = random.pick(&["", "A", "B"]).as_bytes().to_vec();
+    record[9] = random.pick(&["", "JO65", "JO65FR", "JO66"]).as_bytes().to_vec();
+}
+
+/// What a record claims: whether points, and whether a D. With the records
+/// before it of its call this decides between void, duplicate and credited.
+type Claims = (bool, bool);
+
+const CLAIMS: [Claims; 4] = [(true, false), (true, true), (false, false), (false, true)];
+
+/// A record of this call with these claims; marks are claimed as chance has it.
+fn record_claiming(random: &mut Random, call: &[u8], (points, duplicate): Claims) -> [Vec<u8>; 15] {
+    let mut record = draft::plain_record(random, call, false);
+    give_common_values(random, &mut record);
+    if !points {
+        record[10] = b"0".to_vec();
+    }
+    record[14] = if duplicate { b"D".to_vec() } else { Vec::new() };
+    record
+}
+
+/// This record and, at times, an ERROR behind it, which may claim a D as well.
+fn push_try(random: &mut Random, made: &mut Draft, call: &[u8], claims: Claims) {
+    made.records.push(record_claiming(random, call, claims));
+    if random.chance(15) {
+        let mut error = record_claiming(random, call, claims);
+        draft::make_error(random, &mut error);
+        made.records.push(error);
+    }
+}
+
+/// Few calls, tried again and again with all claims in any order.
+fn second_tries(random: &mut Random) -> Vec<u8> {
+    let mut made = draft::draft(random, Wish { records: 0, calls: 1, compact: false });
+    let calls: Vec<Vec<u8>> = (0..random.between(1, 3)).map(|_| values::call_alike(random)).collect();
+    for _ in 0..random.between(2, 20) {
+        let (call, claims) = (random.pick(&calls), *random.pick(&CLAIMS));
+        push_try(random, &mut made, call, claims);
+    }
+    made.bytes()
+}
+
+/// Written back and then struck: a D may be left without what it repeats.
+fn second_tries_struck(random: &mut Random) -> Vec<u8> {
+    let log = second_tries(random);
+    let written = write_log(&read(&log).expect("a valid log"));
+    let written = read(&written).expect("a valid log");
+    let struck: Vec<bool> = written.records.iter().map(|_| random.chance(30)).collect();
+    strike(&written, &struck)
+}
+
+/// Three records of each of 64 calls, whose claims come in each order once.
+fn second_tries_every_order(random: &mut Random) -> Vec<u8> {
+    let mut made = draft::draft(random, Wish { records: 0, calls: 1, compact: false });
+    for turn in 0..3 {
+        for order in 0..64usize {
+            let call = format!("DK{order:02}");
+            let claims = CLAIMS[order >> (2 * turn) & 3];
+            push_try(random, &mut made, call.as_bytes(), claims);
+        }
     }
     made.bytes()
 }
@@ -421,6 +491,18 @@ fn full(random: &mut Random) -> Vec<u8> {
 fn full_of_repeats(random: &mut Random) -> Vec<u8> {
     let calls = random.between(1, 300);
     draft::draft(random, Wish { records: 999, calls, compact: true }).bytes()
+}
+
+/// Past the middle nearly nothing but tries that brought no points.
+fn full_of_second_tries(random: &mut Random) -> Vec<u8> {
+    let calls = random.between(1, 600);
+    let mut made = draft::draft(random, Wish { records: 999, calls, compact: true });
+    for record in &mut made.records[500..] {
+        if random.chance(95) {
+            record[10] = b"0".to_vec();
+        }
+    }
+    made.bytes()
 }
 
 /// 999 credited records that are new in every way, with the highest points,

@@ -55,6 +55,7 @@ struct Entry<'a> {
     square: &'a [u8],
     points: u64,
     claims_country: bool,
+    claims_duplicate: bool,
 }
 
 fn entries<'a>(log: &Log<'a>) -> Vec<Entry<'a>> {
@@ -68,15 +69,22 @@ fn entries<'a>(log: &Log<'a>) -> Vec<Entry<'a>> {
                 square: &locator[..locator.len().min(4)],
                 points: fields::points(log.text(record[10])).expect("points were read"),
                 claims_country: log.text(record[13]) == b"N",
+                claims_duplicate: log.text(record[14]) == b"D",
             }
         })
         .collect()
 }
 
+/// W3: "A record with 0 points and no D is void even if its call was credited
+/// before; a duplicate needs points or a claimed D." The claim alone makes no
+/// duplicate: without an earlier credited record of the call there is nothing
+/// to repeat.
 fn class_of(entry: &Entry, earlier_credited: &[&Entry]) -> u8 {
+    let claims_a_contact = entry.points != 0 || entry.claims_duplicate;
+    let was_credited = earlier_credited.iter().any(|other| other.call == entry.call);
     if entry.call == fields::ERROR_CALL {
         ERROR
-    } else if earlier_credited.iter().any(|other| other.call == entry.call) {
+    } else if was_credited && claims_a_contact {
         DUPLICATE
     } else if entry.points == 0 {
         VOID

@@ -13,6 +13,7 @@ pub mod judging;
 pub mod mending;
 pub mod random;
 pub mod reading;
+pub mod striking;
 pub mod values;
 pub mod writing;
 

@@ -3,7 +3,7 @@
 use reference::chewing::Outcome;
 use reference::faults::Expectation;
 use reference::generate::{Generator, Trial, MOST_CHANGES};
-use reference::judging::{class, CREDITED, DUPLICATE};
+use reference::judging::{class, CREDITED, DUPLICATE, ERROR, VOID};
 use reference::mending::{mend_text, COUNT_SET, RETURN_PUT};
 use reference::reading::{KEYWORDS, LONGEST_LOG};
 use reference::writing::write_log;
@@ -72,6 +72,57 @@ fn every_verdict_comes_up() {
     }
     let credited = [0, 16, 32, 48, 64, 80, 96, 112];
     assert_eq!(seen, credited.into_iter().chain([1, 2, 3]).collect());
+}
+
+/// The records of a log that are no errors: each with its call, whether it
+/// claims points, whether it claims a D, and its class.
+fn tries(bytes: &[u8]) -> Vec<(Vec<u8>, bool, bool, u8)> {
+    let log = read(bytes).unwrap();
+    let verdicts = judge(bytes, 999).unwrap().1;
+    let told = log.records.iter().zip(verdicts).map(|(record, verdict)| {
+        let text = |field: usize| log.text(record[field - 1]);
+        (text(3).to_vec(), text(11) != b"0", text(15) == b"D", class(verdict))
+    });
+    told.filter(|told| told.3 != ERROR).collect()
+}
+
+#[test]
+fn every_claim_comes_up_with_and_without_something_to_repeat() {
+    let mut seen = BTreeMap::new();
+    for trial in accepted(TRIALS) {
+        let mut credited = BTreeSet::new();
+        for (call, points, duplicate, class) in tries(&trial.log) {
+            let repeats = credited.contains(&call);
+            let wanted = match (points, duplicate, repeats) {
+                (true, _, false) => CREDITED,
+                (true, _, true) => DUPLICATE,
+                (false, true, true) => DUPLICATE,
+                (false, _, _) => VOID,
+            };
+            assert_eq!(class, wanted, "{}", trial.tag);
+            *seen.entry((points, duplicate, repeats)).or_insert(0) += 1;
+            if class == CREDITED {
+                credited.insert(call);
+            }
+        }
+    }
+    assert!(seen.len() == 8 && seen.values().all(|&times| times > 1_000), "{seen:?}");
+}
+
+/// Not only in the large logs that are made for it.
+#[test]
+fn second_tries_come_in_every_order() {
+    let mut seen = BTreeSet::new();
+    for trial in trials(TRIALS).filter(|trial| trial.tag == "valid/second-tries") {
+        let mut of_call: BTreeMap<Vec<u8>, Vec<(bool, bool)>> = BTreeMap::new();
+        for (call, points, duplicate, _) in tries(&trial.log) {
+            of_call.entry(call).or_default().push((points, duplicate));
+        }
+        for claims in of_call.values() {
+            seen.extend(claims.windows(3).map(<[_]>::to_vec));
+        }
+    }
+    assert_eq!(seen.len(), 64);
 }
 
 #[test]
@@ -192,49 +243,6 @@ fn lent_sizes_decide_at_their_bounds() {
         if let Ok(written) = write(&trial.log, LONGEST_LOG) {
             assert!(write(&trial.log, written.len()).is_ok());
             assert_eq!(write(&trial.log, written.len() - 1).unwrap_err().number, 8);
-        }
-    }
-}
-
-/// The log with the records at the struck places taken out and its count line
-/// corrected.
-fn strike(log: &[u8], struck: &[bool]) -> Vec<u8> {
-    let records = read(log).unwrap().records;
-    let first = match records.first() {
-        Some(record) => record[0].start,
-        None => return log.to_vec(),
-    };
-    let head = &log[..first];
-    let count = head.windows(12).rposition(|part| part == b"[QSORecords;").unwrap();
-    let kept = struck.iter().filter(|&&gone| !gone).count();
-    let mut result = log[..count].to_vec();
-    result.extend(format!("[QSORecords;{kept}]\r\n").into_bytes());
-    for (record, _) in records.iter().zip(struck).filter(|(_, &gone)| !gone) {
-        result.extend_from_slice(&log[record[0].start..record[14].end + 2]);
-    }
-    result
-}
-
-#[test]
-fn striking_promotes_exactly_the_freed_repeats() {
-    for (number, trial) in accepted(TRIALS).enumerate() {
-        let log = read(&trial.log).unwrap();
-        let struck: Vec<bool> = (0..log.records.len()).map(|at| (at + number) % 3 == 0).collect();
-        let before = judge(&trial.log, 999).unwrap().1;
-        let rest = strike(&trial.log, &struck);
-        let after = judge(&rest, 999).unwrap().1;
-        let mut next = after.iter();
-        for at in (0..before.len()).filter(|&at| !struck[at]) {
-            let now_credited = class(*next.next().unwrap()) == CREDITED;
-            let claims = |other: usize| log.text(log.records[other][10]) != b"0";
-            let call = |other: usize| log.text(log.records[other][2]);
-            let freed = (0..at).all(|other| call(other) != call(at) || !claims(other) || struck[other]);
-            let wanted = match class(before[at]) {
-                CREDITED => true,
-                DUPLICATE => claims(at) && freed,
-                _ => false,
-            };
-            assert_eq!(now_credited, wanted, "{} record {at}", trial.tag);
         }
     }
 }

@@ -165,6 +165,7 @@ fn copies_are_the_same() {
         ("w2-chewed.edi", "crates/mend/stdin"),
         ("w2-chewed.edi", "samples/chewed.edi"),
         ("000-list.edi", "samples/old-spelling.edi"),
+        ("w3-tries.edi", "samples/second-tries.edi"),
         ("001.edi", "tests/reference/samples/region1-1995.edi"),
     ] {
         assert_eq!(log_named(name), fs::read(kept(copy)).unwrap(), "{copy}");
