@@ -3,21 +3,20 @@
 use Prim.Native.Nat.{ℕ, _+_, _-_, _*_, _≤_, _<_}
 use native.Mathlib.Omega.{arith}
 use mathlib.Core.Path.{_≡_, refl, sym, ap, _∙_}
-use mathlib.Core.Bool.{Bool, true, false, not, _&&_, _||_, and-true}
+use mathlib.Core.Bool.{Bool, true, false, not, _&&_, _||_}
 use mathlib.Core.List.{[], _∷_}
 use lib.Dec.{T, leb, eqb}
-use lib.ListN.{length, drop, getD, drop-of-length-le}
-use borrow.Author.Tests.{eqb-true, eqb-false, eq-eqb, ne-eqb, leb-true}
+use lib.ListN.{length, getD}
+use borrow.Author.Tests.{eqb-true, eqb-false, ne-eqb, leb-true}
 use Rattle.rules.specs.Text.{Text, bytes, digit, all, same, begins, number, numberOf, value, valueAfter}
 use Rattle.rules.specs.Rules.{Rules, base}
-use Rattle.rules.specs.Fields.{Qso, call, callCharacter, exchange, exchangeCharacter, locator, emptyOr, newMark, duplicateMark, isError, pointsRule, fieldRules}
+use Rattle.rules.specs.Fields.{Qso, call, callCharacter, exchange, exchangeCharacter, locator, emptyOr, newMark, isError, pointsRule, fieldRules}
 use Rattle.rules.specs.Judging.{claimsPoints, claimsCountry, claimsDuplicate, mayRepeat}
 use Rattle.rules.proofs.Tests.{so, holds, never, and-l, and-r}
 use Rattle.rules.proofs.Passing.{same→equal}
 use Rattle.rules.proofs.NumberLaws.{number-below}
 use Rattle.rules.proofs.ValidLogs.{rule-at, points-ruled}
 use Rattle.fields.specs.Field.{textAt, endOf}
-use Rattle.fields.proofs.FieldLaws.{next}
 use Rattle.fields.proofs.PartLaws.{end-by-span}
 use Rattle.reader.specs.declared.Contact.{Contact}
 use Rattle.reader.specs.Contact.{fieldStart, valueBy, lastEnd, contactAt, behind, between, claimedAt}
@@ -87,22 +86,6 @@ two-on s x = refl
 pub three-on : (s : Text) (x : ℕ) → endOf s (fieldStart s x 2) + 1 ≡ fieldStart s x 3
 unfolding fieldStart
 three-on s x = refl
-
--- A D at a place, by its one character.
-turned : (m n : ℕ) → eqb m n ≡ eqb n m
-turned m n = by (eqb m n) refl
-  where
-    by : (b : Bool) → eqb m n ≡ b → b ≡ eqb n m
-    by true e = sym (eq-eqb n m (sym (eqb-true m n e)))
-    by false e = sym (ne-eqb n m (λ k. eqb-false m n e (sym k)))
-
-pub none-behind : (s : Text) (a : ℕ) → length s ≤ a → false ≡ begins duplicateMark (drop a s)
-unfolding begins duplicateMark
-none-behind s a h = rw (drop-of-length-le s h)
-
-pub begins-by-byte : (s : Text) (a : ℕ) → a < length s → eqb (getD s a 0) 68 ≡ begins duplicateMark (drop a s)
-unfolding begins duplicateMark
-begins-by-byte s a h = rw (next s a h) (turned (getD s a 0) 68 ∙ sym (and-true (eqb 68 (getD s a 0))))
 
 -- By the rules of document 01 an exchange has a length that a key can tell.
 pub exchange-short : base .longestExchange ≤ 15

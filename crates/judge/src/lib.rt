@@ -161,10 +161,7 @@ fn claims_duplicate(s: &[u8], pointsend: usize) -> bool
     ensures { λ r. ⌜ r ≡ claimedAt (now (s .entry)) pointsend ⌝ }
 {
     let last = part_end(s, third_mark(s, pointsend)) + 1;
-    if s.len() <= last {
-        return false;
-    }
-    s[last] == 68
+    header::begins_with(b"D", &s[last..])
 }
 
 // The key that a length and two characters make.

@@ -1,15 +1,16 @@
 -- The last field is looked at where it begins.
-use Prim.Native.Nat.{ℕ, _+_}
+use Prim.Native.Nat.{ℕ, _+_, _-_}
 use native.Mathlib.Omega.{arith}
 use mathlib.Core.Path.{_≡_, ap, _∙_}
-use lib.ListN.{drop}
+use lib.ListN.{length, drop, length-drop}
+use lib.Seq.{take-all}
 use borrow.Author.Needs.{needs}
 use denote.Ref.{now}
 use Rattle.rules.specs.Text.{begins}
 use Rattle.rules.specs.Fields.{duplicateMark}
 use Rattle.fields.specs.Field.{endOf}
 use Rattle.reader.specs.Contact.{fieldStart}
-use Rattle.judge.proofs.ToldLaws.{three-on, none-behind, begins-by-byte}
+use Rattle.judge.proofs.ToldLaws.{three-on}
 use Rattle.judge.proofs.claims_duplicate.Statement.{statement}
 use Rattle.judge.proofs.claims_duplicate.Tie as tie
 
@@ -17,10 +18,25 @@ third-mark-requires : tie.Need-third-mark-requires
 third-mark-requires c κs = search needs
 
 part-end-requires : tie.Need-part-end-requires
-part-end-requires c κs = c .third-mark .ensures .1
+part-end-requires c κs = search needs
 
 add-last : tie.Need-add-last
-add-last c = omega (arith, c .part-end .ensures, c .before .third-mark .ensures .1)
+add-last c = search needs
+
+slice-aggregate-begins-with : tie.Need-slice-aggregate-begins-with
+slice-aggregate-begins-with c = search needs
+
+sub-begins-with : tie.Need-sub-begins-with
+sub-begins-with c = search needs
+
+part-begins-with-start : tie.Need-part-begins-with-start
+part-begins-with-start c = search needs
+
+part-begins-with-end : tie.Need-part-begins-with-end
+part-begins-with-end c = search needs
+
+begins-with-requires : tie.Need-begins-with-requires
+begins-with-requires c κs = search needs
 
 -- Where the last field begins.
 last : (c : tie.After-part-end) →
@@ -32,17 +48,14 @@ last c =
     ap (λ (n : ℕ). n + 1) (c .part-end .ensures ∙ ap (endOf s) (c .before .third-mark .ensures .0)) ∙ three-on s (a .pointsend + 1)
 
 returns : tie.Need-returns
+unfolding duplicateMark
 returns c =
-    let s = now (c .before .before .before .before .args .s) in
-    none-behind s (c .before .part-end .result + 1) (c .if1 .taken) ∙ ap (λ (n : ℕ). begins duplicateMark (drop n s)) (last (c .before))
-
-shared-slice-read-result : tie.Need-shared-slice-read-result
-shared-slice-read-result c = search needs
-
-returns-2 : tie.Need-returns-2
-returns-2 c =
-    let s = now (c .before .before .before .before .before .args .s) in
-    begins-by-byte s (c .before .before .part-end .result + 1) (search needs) ∙ ap (λ (n : ℕ). begins duplicateMark (drop n s)) (last (c .before .before))
+    let ended = c .before .before .before in
+    let s = now (ended .before .before .before .args .s) in
+    let at = ended .part-end .result + 1 in
+    c .begins-with .ensures
+    ∙ ap (begins duplicateMark) (take-all (length s - at) (drop at s) (omega (arith, length-drop at s)))
+    ∙ ap (λ (n : ℕ). begins duplicateMark (drop n s)) (last ended)
 
 pub claims-duplicate-spec : {M : Type 1} → statement M
 claims-duplicate-spec =
@@ -51,6 +64,9 @@ claims-duplicate-spec =
     third-mark-requires
     part-end-requires
     add-last
-    returns
-    shared-slice-read-result
-    returns-2)
+    slice-aggregate-begins-with
+    sub-begins-with
+    part-begins-with-start
+    part-begins-with-end
+    begins-with-requires
+    returns)
