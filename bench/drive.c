@@ -34,10 +34,11 @@ static void drive_view(size_t length, unsigned long long times) {
 }
 
 static void drive_judge(size_t length, unsigned long long times) {
-    SumpquinceJudgement answer = {{0, 0, 0}, 0, 0, 0, 0, 0, 0, 0, 0, 0, 0, 0, 0};
+    SumpquinceJudgement answer = {{0, 0, 0}, 0, 0, 0, 0, 0, 0, 0, 0, 0, 0, 0, 0, {0}};
     for (; times > 0; times--) answer = sumpquince_judge(log_bytes, length, verdicts, sizeof verdicts);
     show(answer.refusal, "total", answer.total);
     show(answer.refusal, "voids", answer.voids); /* which no total tells from duplicates */
+    for (int i = 0; i < SUMPQUINCE_MODES; i++) show(answer.refusal, "mode", answer.modes[i]);
 }
 
 static void drive_write(size_t length, unsigned long long times) {

@@ -495,6 +495,12 @@ static void sum_up(const uint8_t *bytes, const Log *log, SumpquinceJudgement *su
 /* 0 points and no D are a broken try, which repeats nothing, so that its call need not be looked for. */
 static bool may_repeat(const Record *record) { return record->points != 0 || record->claimed_duplicate; }
 
+/* A record's place among the modes. Its mode stands behind the call and a semicolon: one digit, or nothing in front of the next semicolon. */
+static size_t mode_of(const uint8_t *bytes, const Record *record) {
+    uint8_t mode = bytes[record->call + record->call_length + 1];
+    return mode == ';' ? SUMPQUINCE_BLANK_MODE : (size_t)(mode - '0');
+}
+
 static void judge_log(const uint8_t *bytes, const Log *log, uint8_t *verdicts, SumpquinceJudgement *sums) {
     Seen calls, squares, exchanges;
     calls.count = squares.count = exchanges.count = 0;
@@ -514,6 +520,7 @@ static void judge_log(const uint8_t *bytes, const Log *log, uint8_t *verdicts, S
             verdicts[i] = judge_credited(bytes, record, &squares, &exchanges);
             sums->points += record->points;
             sums->countries += record->new_country;
+            sums->modes[mode_of(bytes, record)]++;
         }
     }
     sums->credited = calls.count;
@@ -838,7 +845,7 @@ SumpquinceView sumpquince_view(const uint8_t *log, size_t log_len, size_t keywor
 }
 
 SumpquinceJudgement sumpquince_judge(const uint8_t *log, size_t log_len, uint8_t *verdicts, size_t verdicts_len) {
-    SumpquinceJudgement answer = {ACCEPTED, 0, 0, 0, 0, 0, 0, 0, 0, 0, 0, 0, 0};
+    SumpquinceJudgement answer = {ACCEPTED, 0, 0, 0, 0, 0, 0, 0, 0, 0, 0, 0, 0, {0}};
     Log parts;
     answer.refusal = read_log(log, log_len, &parts);
     if (answer.refusal.number == 0 && verdicts_len < parts.count) answer.refusal = refuse(7, 0, 0);
@@ -848,7 +855,7 @@ SumpquinceJudgement sumpquince_judge(const uint8_t *log, size_t log_len, uint8_t
 
 SumpquinceWritten sumpquince_write(const uint8_t *log, size_t log_len, uint8_t *out, size_t out_len) {
     SumpquinceWritten answer = {ACCEPTED, 0};
-    SumpquinceJudgement sums = {ACCEPTED, 0, 0, 0, 0, 0, 0, 0, 0, 0, 0, 0, 0};
+    SumpquinceJudgement sums = {ACCEPTED, 0, 0, 0, 0, 0, 0, 0, 0, 0, 0, 0, 0, {0}};
     Log parts;
     uint8_t verdicts[MOST_RECORDS];
     Claim claims[CLAIMS];

@@ -1,4 +1,5 @@
-/* Judges the log on standard input: prints the totals, for each record its verdict in words, and the keywords that are not spelt as listed.
+/* Judges the log on standard input: prints the totals, the contacts of each mode, for each record its verdict in words, and the keywords that are not
+ * spelt as listed.
  *
  *     judge < LOG
  *
@@ -49,6 +50,12 @@ static void print_totals(const SumpquinceJudgement *judgement) {
     print_number("total", judgement->total);
 }
 
+/* How many credited records have each mode: the codes 0 to 9, then none. */
+static void print_modes(const uint64_t *modes) {
+    for (unsigned code = 0; code < SUMPQUINCE_BLANK_MODE; code++) printf("mode %-10u %llu\n", code, (unsigned long long)modes[code]);
+    print_number("no mode", modes[SUMPQUINCE_BLANK_MODE]);
+}
+
 static void print_verdict(unsigned record, uint8_t verdict) {
     printf("record %-8u %s%s%s%s\n", record, class_in_words(verdict), verdict & SUMPQUINCE_NEW_EXCHANGE ? ", new exchange" : "",
            verdict & SUMPQUINCE_NEW_SQUARE ? ", new square" : "", verdict & SUMPQUINCE_NEW_COUNTRY ? ", new country" : "");
@@ -85,6 +92,7 @@ int main(void) {
         return 1;
     }
     print_totals(&judgement);
+    print_modes(judgement.modes);
     uint64_t records = judgement.credited + judgement.voids + judgement.duplicates + judgement.errors;
     for (uint64_t i = 0; i < records; i++) print_verdict((unsigned)i + 1, verdicts[i]);
     print_spellings(log, length);

@@ -31,14 +31,14 @@
  *
  *     memcpy, memset
  *
- * and nothing else: no other function, no start-up code, no file, no clock. The code and the constants of all five functions take 25,097 bytes.
+ * and nothing else: no other function, no start-up code, no file, no clock. The code and the constants of all five functions take 25,655 bytes.
  *
  * Stack, as measured on logs of 26 and of 999 records, with `bench/sizes` and the library as the kit builds it:
  *
  *     sumpquince_read    840 bytes
  *     sumpquince_view    872 bytes
- *     sumpquince_judge   17,384 bytes
- *     sumpquince_write   18,824 bytes
+ *     sumpquince_judge   17,512 bytes
+ *     sumpquince_write   18,952 bytes
  *     sumpquince_mend    1,144 bytes
  *
  * No bound of the stack is proved. None of the functions calls itself, so what is measured does not grow with the log.
@@ -107,6 +107,11 @@ typedef struct {
     uint64_t listed;
 } SumpquinceView; /* 40 bytes */
 
+/* A record has one of ten mode codes, or a blank in the place of it. In the format's list of codes 2 is Morse both ways, and 3 and 4 are Morse one
+ * way and SSB the other. */
+#define SUMPQUINCE_MODES 11
+#define SUMPQUINCE_BLANK_MODE 10 /* behind the codes 0 to 9 */
+
 /* The answer of sumpquince_judge. Every number is 0 on refusal. */
 typedef struct {
     SumpquinceRefusal refusal;
@@ -127,7 +132,10 @@ typedef struct {
     uint64_t country_bonus;
     /* The points and the three bonuses, times the multipliers that CWWLs, CExcs and CDXCs declare. At most 998,404,684,715,196. */
     uint64_t total;
-} SumpquinceJudgement; /* 112 bytes */
+    /* How many credited records have each mode: modes[0] to modes[9] those with the code 0 to 9, modes[SUMPQUINCE_BLANK_MODE] those where it is left
+     * blank. They add up to `credited`. */
+    uint64_t modes[SUMPQUINCE_MODES];
+} SumpquinceJudgement; /* 200 bytes */
 
 /* The answer of sumpquince_write. */
 typedef struct {

@@ -32,7 +32,7 @@ typedef struct {
     SumpquinceRefusal read, view, judge, write, mend;
     uint32_t records, respelt, view_start, view_length, view_listed;
     uint64_t listed; /* a bit for each keyword, the first as bit 0 */
-    uint64_t totals[TOTALS];
+    uint64_t totals[TOTALS], modes[SUMPQUINCE_MODES];
     Bytes verdicts, result, mended, kinds;
     Bytes lines; /* as the numbers lie in memory, 4 bytes each */
 } Trial;
@@ -124,6 +124,7 @@ static void take_trial(Trial *trial) {
     trial->listed = take_u64();
     trial->judge = take_answer();
     for (int i = 0; i < TOTALS; i++) trial->totals[i] = take_u64();
+    for (int i = 0; i < SUMPQUINCE_MODES; i++) trial->modes[i] = take_u64();
     trial->verdicts = take_bytes();
     trial->write = take_answer();
     trial->result = take_bytes();
@@ -237,6 +238,11 @@ static void hold_totals(const Trial *trial, const SumpquinceJudgement *got) {
     const uint64_t totals[TOTALS] = {got->credited, got->voids, got->duplicates, got->errors, got->points, got->squares, got->exchanges,
                                      got->countries, got->square_bonus, got->exchange_bonus, got->country_bonus, got->total};
     for (int i = 0; i < TOTALS; i++) hold(trial, "judge", names[i], totals[i], trial->totals[i]);
+    for (int i = 0; i < SUMPQUINCE_MODES; i++) {
+        char what[32];
+        snprintf(what, sizeof what, "modes[%d]", i);
+        hold(trial, "judge", what, got->modes[i], trial->modes[i]);
+    }
 }
 
 static void try_judge(const Trial *trial) {
@@ -304,7 +310,7 @@ int main(int count, char **words) {
     uint8_t name[8];
     run.folder = count > 1 ? words[1] : NULL;
     take(name, sizeof name);
-    if (memcmp(name, "SQTRIAL3", sizeof name) != 0) stop("standard input is no stream of trials");
+    if (memcmp(name, "SQTRIAL4", sizeof name) != 0) stop("standard input is no stream of trials");
     take_u64(); /* the seed, which whoever asked for the trials knows */
     for (uint32_t left = take_u32(); left > 0; left--) {
         Trial trial;

@@ -1,5 +1,5 @@
-/* Tries what include/sumpquince.h says of its shapes and of empty slices: that the structs have the sizes that it gives, and that a slice of
- * length 0 may have a null pointer, for each function and each of its slices.
+/* Tries what include/sumpquince.h says of its shapes and of empty slices: that the structs have the sizes that it gives, that the modes of a
+ * judgement lie where it says and add up, and that a slice of length 0 may have a null pointer, for each function and each of its slices.
  *
  *     face < LOG
  *
@@ -13,7 +13,7 @@
 _Static_assert(sizeof(SumpquinceRefusal) == 12 && _Alignof(SumpquinceRefusal) == 4, "a refusal");
 _Static_assert(sizeof(SumpquinceReading) == 32 && _Alignof(SumpquinceReading) == 8, "a reading");
 _Static_assert(sizeof(SumpquinceView) == 40 && _Alignof(SumpquinceView) == 8, "a view");
-_Static_assert(sizeof(SumpquinceJudgement) == 112 && _Alignof(SumpquinceJudgement) == 8, "a judgement");
+_Static_assert(sizeof(SumpquinceJudgement) == 200 && _Alignof(SumpquinceJudgement) == 8, "a judgement");
 _Static_assert(sizeof(SumpquinceWritten) == 24 && _Alignof(SumpquinceWritten) == 8, "a log written back");
 _Static_assert(sizeof(SumpquinceMended) == 32 && _Alignof(SumpquinceMended) == 8, "a log that was mended");
 
@@ -52,6 +52,23 @@ static void try_shape(void) {
     hold("the place of its changes", (uint64_t)((const uint8_t *)&mended.changes - start), 24);
 }
 
+static uint64_t sum_of_modes(const SumpquinceJudgement *judgement) {
+    uint64_t sum = 0;
+    for (int i = 0; i < SUMPQUINCE_MODES; i++) sum += judgement->modes[i];
+    return sum;
+}
+
+/* The modes are behind all else, so that what is in front of them lies where it did before there were any. */
+static void try_modes(size_t length) {
+    SumpquinceJudgement judgement = sumpquince_judge(log, length, verdicts, sizeof verdicts);
+    const uint8_t *start = (const uint8_t *)&judgement;
+    hold("the place of a judgement's total", (uint64_t)((const uint8_t *)&judgement.total - start), 104);
+    hold("the place of its first mode", (uint64_t)((const uint8_t *)&judgement.modes[0] - start), 112);
+    hold("the place of its blank mode", (uint64_t)((const uint8_t *)&judgement.modes[SUMPQUINCE_BLANK_MODE] - start), 192);
+    hold("the refusal of an accepted log", digits(judgement.refusal), 0);
+    hold("the sum of its modes", sum_of_modes(&judgement), judgement.credited);
+}
+
 /* The log with its line ends, its count and its last line wrong: it has a change of each kind. */
 static size_t chewed(size_t length, uint8_t *to) {
     size_t made = 0;
@@ -82,7 +99,11 @@ static void try_empty_results(size_t length) {
     SumpquinceJudgement judgement = sumpquince_judge(none, shorter, NULL, 0);
     hold("the refusal of a log with no records, judged into nothing", digits(judgement.refusal), 0);
     hold("its total", judgement.total, 0);
-    hold("the refusal of a log with records, judged into nothing", digits(sumpquince_judge(log, length, NULL, 0).refusal), 700);
+    hold("the sum of its modes", sum_of_modes(&judgement), 0);
+    judgement = sumpquince_judge(log, length, NULL, 0);
+    hold("the refusal of a log with records, judged into nothing", digits(judgement.refusal), 700);
+    hold("its credited records", judgement.credited, 0);
+    hold("the sum of its modes", sum_of_modes(&judgement), 0);
     hold("the refusal of a log written into nothing", digits(sumpquince_write(log, length, NULL, 0).refusal), 800);
 }
 
@@ -118,6 +139,7 @@ int main(void) {
         return 2;
     }
     try_shape();
+    try_modes(length);
     try_empty_log();
     try_empty_results(length);
     try_empty_lists(length);

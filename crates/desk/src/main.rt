@@ -1,5 +1,5 @@
-// The desk program: a log on standard input, its six lines or its refusal on standard output. What is written is what the library laid, byte for
-// byte. Where the log cannot be read, or the answer not written, that is said on standard error.
+// The desk program: a log on standard input, its seventeen lines or its refusal on standard output. What is written is what the library laid, byte
+// for byte. Where the log cannot be read, or the answer not written, that is said on standard error.
 
 ghost use Rattle.io.specs.Counts.{Counts};
 use libc::STDERR_FILENO;

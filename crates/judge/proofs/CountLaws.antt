@@ -3,21 +3,26 @@
 use Prim.Native.Nat.{ℕ, _+_, _*_, _≤_, _<_}
 use native.Mathlib.Omega.{arith}
 use native.Mathlib.Nat.{mul-le-mul, mul-le-mul-right, add-mul, add-zero}
-use mathlib.Core.Path.{_≡_, refl, ap, _∙_}
-use mathlib.Core.Bool.{Bool, true, false}
+use mathlib.Core.Path.{_≡_, refl, sym, ap, _∙_}
+use mathlib.Core.Bool.{Bool, true, false, cond}
 use mathlib.Core.List.{List, [], _∷_}
-use lib.ListN.{length}
+use lib.Dec.{T}
+use lib.ListN.{length, getD, set}
 use Rattle.rules.specs.declared.Class.{Class}
 use Rattle.rules.specs.declared.Class.the-variants.{Credited, Void, Duplicate, Error}
 use Rattle.rules.specs.declared.Verdict.{Verdict}
+use Rattle.rules.specs.declared.Modes.{Modes}
 use Rattle.rules.specs.declared.Totals.{Totals}
 use Rattle.rules.specs.Text.{value}
 use Rattle.rules.specs.Rules.{Rules, base}
 use Rattle.rules.specs.Fields.{Qso}
-use Rattle.rules.specs.Judging.{classNumber, is, countOf, creditedPoints, multipliers, totalsOf, zeroTotals}
+use Rattle.rules.specs.Log.{recordRules}
+use Rattle.rules.specs.Judging.{classNumber, is, countOf, creditedSum, creditedPoints, multipliers, totalsOf, zeroTotals}
 use Rattle.places.specs.declared.Declared.{Declared}
 use Rattle.judge.specs.Bounds.{mostWorth, Counts, Countable, Closable}
-use Rattle.judge.specs.Count.{worthIf, asDeclared, addRecord, addRecords, closing}
+use Rattle.judge.specs.declared.Tally.{Tally}
+use Rattle.judge.specs.Count.{worthIf, asDeclared, modeOf, addMode, modesAfter, tallied, addRecord, addRecords, closing}
+use Rattle.judge.proofs.ModeLaws.{modes-counted}
 
 -- # What the limits of document 01 come to
 
@@ -52,11 +57,21 @@ sums-small {n} t h k =
       countries = omega (arith, h .countries);
     }
 
-pub countable-small : {t : Totals} {worth : ℕ} {v : Verdict} → Countable base t worth v → Sums-small t
-countable-small {t} h = sums-small t (h .few) (omega (arith, h .room))
+pub countable-small : {t : Tally} {modes : List ℕ} {worth mode : ℕ} {v : Verdict} → Countable base t modes worth mode v → Sums-small (tallied t modes)
+countable-small {t} {modes} h = sums-small (tallied t modes) (h .few) (omega (arith, h .room))
+
+-- A count of a mode fits 10 bits too.
+pub mode-small : {t : Tally} {modes : List ℕ} {worth mode : ℕ} {v : Verdict} → Countable base t modes worth mode v → getD modes mode 0 < 1_024
+unfolding base
+mode-small {mode = mode} h = omega (arith, h .fewModes mode, h .room)
+
+-- The mode of a credited record is one of the eleven.
+pub mode-placed : {R : Rules} {t : Tally} {modes : List ℕ} {worth mode : ℕ} {v : Verdict} → Countable R t modes worth mode v → v .class ≡ Credited → mode < 11
+unfolding is classNumber
+mode-placed h e = h .place (ap (is Credited) e)
 
 -- What the declared bonuses and multipliers make of the totals.
-pub record Closes (t : Totals) (d : Declared) : Type 0 where
+pub record Closes (t : Tally) (d : Declared) : Type 0 where
   pub squares : t .squares * d .squarebonus < 16_777_216
   pub exchanges : t .exchanges * d .exchangebonus < 16_777_216
   pub countries : t .countries * d .countrybonus < 16_777_216
@@ -68,9 +83,9 @@ pub record Closes (t : Totals) (d : Declared) : Type 0 where
       * (d .squaremultiplier * d .exchangemultiplier * d .countrymultiplier)
       ≤ 2_251_799_813_685_248
 
-pub closes : (t : Totals) (d : Declared) → Closable base t d → Closes t d
+pub closes : (t : Tally) (modes : List ℕ) (d : Declared) → Closable base t modes d → Closes t d
 unfolding base
-closes t d h =
+closes t modes d h =
     let squares : t .squares * d .squarebonus ≤ base .mostRecords * base .mostBonus = mul-le-mul (h .few .squares) (h .small .squarebonus) in
     let exchanges : t .exchanges * d .exchangebonus ≤ base .mostRecords * base .mostBonus = mul-le-mul (h .few .exchanges) (h .small .exchangebonus) in
     let countries : t .countries * d .countrybonus ≤ base .mostRecords * base .mostBonus = mul-le-mul (h .few .countries) (h .small .countrybonus) in
@@ -109,7 +124,7 @@ class-number-most Duplicate = omega arith
 class-number-most Error = omega arith
 
 -- The sums after a record, each by its own test.
-counted-all : (t : Totals) (worth : ℕ) (v : Verdict) {a b c d p s x y : ℕ} →
+counted-all : (t : Totals) (worth mode : ℕ) (v : Verdict) {a b c d p s x y : ℕ} {m : Modes} →
     a ≡ worthIf (is Credited (v .class)) 1 + t .credited →
     b ≡ worthIf (is Void (v .class)) 1 + t .voids →
     c ≡ worthIf (is Duplicate (v .class)) 1 + t .duplicates →
@@ -118,6 +133,7 @@ counted-all : (t : Totals) (worth : ℕ) (v : Verdict) {a b c d p s x y : ℕ} �
     s ≡ worthIf (v .square) 1 + t .squares →
     x ≡ worthIf (v .exchange) 1 + t .exchanges →
     y ≡ worthIf (v .country) 1 + t .countries →
+    m ≡ cond (is Credited (v .class)) (addMode (t .modes) mode) (t .modes) →
     _≡_ {A = Totals}
     (record {
       credited = a;
@@ -132,10 +148,11 @@ counted-all : (t : Totals) (worth : ℕ) (v : Verdict) {a b c d p s x y : ℕ} �
       exchangebonus = t .exchangebonus;
       countrybonus = t .countrybonus;
       total = t .total;
+      modes = m;
     })
-    (addRecord t worth v)
+    (addRecord t worth mode v)
 unfolding addRecord
-counted-all t worth v ea eb ec ed ep es ex ey = λ i.
+counted-all t worth mode v ea eb ec ed ep es ex ey em = λ i.
     record {
       credited = ea i;
       voids = eb i;
@@ -149,11 +166,12 @@ counted-all t worth v ea eb ec ed ep es ex ey = λ i.
       exchangebonus = t .exchangebonus;
       countrybonus = t .countrybonus;
       total = t .total;
+      modes = em i;
     }
 
--- The totals with one of the counts of classes and the marks replaced.
-abbrev withSums : Totals → (credited voids duplicates errors points squares exchanges countries : ℕ) → Totals
-withSums t a b c d p s x y =
+-- The totals with one of the counts of classes, the marks and the modes replaced.
+abbrev withSums : Totals → (credited voids duplicates errors points squares exchanges countries : ℕ) → Modes → Totals
+withSums t a b c d p s x y m =
     record {
       credited = a;
       voids = b;
@@ -167,14 +185,24 @@ withSums t a b c d p s x y =
       exchangebonus = t .exchangebonus;
       countrybonus = t .countrybonus;
       total = t .total;
+      modes = m;
     }
 
-module _ (t : Totals) (worth : ℕ) (v : Verdict) where
-  pub credited-sums : {s x y : ℕ} → v .class ≡ Credited → s ≡ worthIf (v .square) 1 → x ≡ worthIf (v .exchange) 1 → y ≡ worthIf (v .country) 1 →
-      withSums t (1 + t .credited) (t .voids) (t .duplicates) (t .errors) (worth + t .points) (s + t .squares) (x + t .exchanges) (y + t .countries) ≡ addRecord t worth v
+-- In the list one more stands at the place of a credited record's mode, and nothing changes with another.
+module _ (l : List ℕ) (mode : ℕ) (v : Verdict) where
+  pub credited-list : v .class ≡ Credited → set l mode (1 + getD l mode 0) ≡ modesAfter l mode v
   unfolding is classNumber
-  credited-sums e es ex ey =
-      counted-all t worth v
+  credited-list e = ap (λ (c : Class). cond (is Credited c) (set l mode (1 + getD l mode 0)) l) (sym e)
+
+  pub other-list : {c : Class} → v .class ≡ c → is Credited c ≡ false → l ≡ modesAfter l mode v
+  other-list e n = ap (λ (b : Bool). cond b (set l mode (1 + getD l mode 0)) l) (sym (ap (is Credited) e ∙ n))
+
+module _ (t : Totals) (worth mode : ℕ) (v : Verdict) where
+  pub credited-sums : {s x y : ℕ} {m : Modes} → v .class ≡ Credited → s ≡ worthIf (v .square) 1 → x ≡ worthIf (v .exchange) 1 → y ≡ worthIf (v .country) 1 → m ≡ addMode (t .modes) mode →
+      withSums t (1 + t .credited) (t .voids) (t .duplicates) (t .errors) (worth + t .points) (s + t .squares) (x + t .exchanges) (y + t .countries) m ≡ addRecord t worth mode v
+  unfolding is classNumber
+  credited-sums e es ex ey em =
+      counted-all t worth mode v
       (raised-by 1 (t .credited) (ap (is Credited) e))
       (raised-not 1 (t .voids) (ap (is Void) e))
       (raised-not 1 (t .duplicates) (ap (is Duplicate) e))
@@ -183,44 +211,46 @@ module _ (t : Totals) (worth : ℕ) (v : Verdict) where
       (ap (λ (n : ℕ). n + t .squares) es)
       (ap (λ (n : ℕ). n + t .exchanges) ex)
       (ap (λ (n : ℕ). n + t .countries) ey)
+      (em ∙ ap (λ (b : Bool). cond b (addMode (t .modes) mode) (t .modes)) (sym (ap (is Credited) e)))
 
-  module _ {R : Rules} (h : Countable R t worth v) where
-    -- A record that is not credited bears no mark.
+  -- A record that is not credited bears no mark.
+  module _ (nx : is Credited (v .class) ≡ false → v .exchange ≡ false) (ns : is Credited (v .class) ≡ false → v .square ≡ false) (nc : is Credited (v .class) ≡ false → v .country ≡ false) where
     other-sums : {b c d : ℕ} → is Credited (v .class) ≡ false →
         b ≡ worthIf (is Void (v .class)) 1 + t .voids →
         c ≡ worthIf (is Duplicate (v .class)) 1 + t .duplicates →
         d ≡ worthIf (is Error (v .class)) 1 + t .errors →
-        withSums t (t .credited) b c d (t .points) (t .squares) (t .exchanges) (t .countries) ≡ addRecord t worth v
+        withSums t (t .credited) b c d (t .points) (t .squares) (t .exchanges) (t .countries) (t .modes) ≡ addRecord t worth mode v
     other-sums n eb ec ed =
-        counted-all t worth v
+        counted-all t worth mode v
         (raised-not 1 (t .credited) n)
         eb
         ec
         ed
         (raised-not worth (t .points) n)
-        (raised-not 1 (t .squares) (h .square n))
-        (raised-not 1 (t .exchanges) (h .exchange n))
-        (raised-not 1 (t .countries) (h .country n))
+        (raised-not 1 (t .squares) (ns n))
+        (raised-not 1 (t .exchanges) (nx n))
+        (raised-not 1 (t .countries) (nc n))
+        (ap (λ (b : Bool). cond b (addMode (t .modes) mode) (t .modes)) (sym n))
 
-    pub void-sums : v .class ≡ Void → withSums t (t .credited) (1 + t .voids) (t .duplicates) (t .errors) (t .points) (t .squares) (t .exchanges) (t .countries) ≡ addRecord t worth v
+    pub void-sums : v .class ≡ Void → withSums t (t .credited) (1 + t .voids) (t .duplicates) (t .errors) (t .points) (t .squares) (t .exchanges) (t .countries) (t .modes) ≡ addRecord t worth mode v
     unfolding is classNumber
     void-sums e =
         other-sums (ap (is Credited) e) (raised-by 1 (t .voids) (ap (is Void) e)) (raised-not 1 (t .duplicates) (ap (is Duplicate) e)) (raised-not 1 (t .errors) (ap (is Error) e))
 
-    pub duplicate-sums : v .class ≡ Duplicate → withSums t (t .credited) (t .voids) (1 + t .duplicates) (t .errors) (t .points) (t .squares) (t .exchanges) (t .countries) ≡ addRecord t worth v
+    pub duplicate-sums : v .class ≡ Duplicate → withSums t (t .credited) (t .voids) (1 + t .duplicates) (t .errors) (t .points) (t .squares) (t .exchanges) (t .countries) (t .modes) ≡ addRecord t worth mode v
     unfolding is classNumber
     duplicate-sums e =
         other-sums (ap (is Credited) e) (raised-not 1 (t .voids) (ap (is Void) e)) (raised-by 1 (t .duplicates) (ap (is Duplicate) e)) (raised-not 1 (t .errors) (ap (is Error) e))
 
-    pub error-sums : v .class ≡ Error → withSums t (t .credited) (t .voids) (t .duplicates) (1 + t .errors) (t .points) (t .squares) (t .exchanges) (t .countries) ≡ addRecord t worth v
+    pub error-sums : v .class ≡ Error → withSums t (t .credited) (t .voids) (t .duplicates) (1 + t .errors) (t .points) (t .squares) (t .exchanges) (t .countries) (t .modes) ≡ addRecord t worth mode v
     unfolding is classNumber
     error-sums e =
         other-sums (ap (is Credited) e) (raised-not 1 (t .voids) (ap (is Void) e)) (raised-not 1 (t .duplicates) (ap (is Duplicate) e)) (raised-by 1 (t .errors) (ap (is Error) e))
 
--- What is not credited brings nothing, whatever it is worth.
-pub brings : (t : Totals) (worth : ℕ) (v : Verdict) → addRecord t (worthIf (is Credited (v .class)) worth) v ≡ addRecord t worth v
+-- What is not credited brings nothing, whatever it is worth and by whatever mode.
+pub brings : (t : Totals) (worth mode : ℕ) (v : Verdict) {told : ℕ} → (is Credited (v .class) ≡ true → told ≡ mode) → addRecord t (worthIf (is Credited (v .class)) worth) told v ≡ addRecord t worth mode v
 unfolding addRecord
-brings t worth v = λ i.
+brings t worth mode v {told} h = λ i.
     record {
       credited = worthIf (is Credited (v .class)) 1 + t .credited;
       voids = worthIf (is Void (v .class)) 1 + t .voids;
@@ -234,15 +264,20 @@ brings t worth v = λ i.
       exchangebonus = t .exchangebonus;
       countrybonus = t .countrybonus;
       total = t .total;
+      modes = counted (is Credited (v .class)) h i;
     }
   where
     twice : (b : Bool) (w : ℕ) → worthIf b (worthIf b w) ≡ worthIf b w
     twice true w = refl
     twice false w = refl
 
-pub counts-more : (R : Rules) (n : ℕ) (t : Totals) (worth : ℕ) (v : Verdict) → Counts R n t → worth ≤ mostWorth R → Counts R (n + 1) (addRecord t worth v)
+    counted : (b : Bool) → (b ≡ true → told ≡ mode) → cond b (addMode (t .modes) told) (t .modes) ≡ cond b (addMode (t .modes) mode) (t .modes)
+    counted true f = ap (addMode (t .modes)) (f refl)
+    counted false f = refl
+
+pub counts-more : (R : Rules) (n : ℕ) (t : Totals) (worth mode : ℕ) (v : Verdict) → Counts R n t → worth ≤ mostWorth R → Counts R (n + 1) (addRecord t worth mode v)
 unfolding addRecord
-counts-more R n t worth v h small =
+counts-more R n t worth mode v h small =
     let one : (b : Bool) → worthIf b 1 ≤ 1 = λ b. worth-most b 1 in
     record {
       credited = omega (arith, one (is Credited (v .class)), h .credited);
@@ -287,12 +322,12 @@ module _ (t : Totals) (qs : List Qso) (vs : List Verdict) where
     pub countries : all .countries ≡ countOf (λ v. v .country) vs + t .countries
 
 pub sums : (t : Totals) (qs : List Qso) (vs : List Verdict) → length vs ≡ length qs → Sums t qs vs
-unfolding addRecords addRecord countOf creditedPoints
+unfolding addRecords addRecord countOf creditedSum
 sums t [] [] e = omega arith
 sums t [] (v ∷ vs) e = absurd (omega arith)
 sums t (q ∷ qs) [] e = absurd (omega arith)
 sums t (q ∷ qs) (v ∷ vs) e =
-    let h = sums (addRecord t (value (q .points)) v) qs vs (omega arith) in
+    let h = sums (addRecord t (value (q .points)) (modeOf q) v) qs vs (omega arith) in
     record {
       credited = omega (arith, h .credited);
       voids = omega (arith, h .voids);
@@ -305,9 +340,9 @@ sums t (q ∷ qs) (v ∷ vs) e =
     }
 
 -- Closed with what is declared, they are the totals of document 01.
-pub closed-totals : (R : Rules) (d : Declared) (qs : List Qso) (vs : List Verdict) → length vs ≡ length qs → closing (addRecords zeroTotals qs vs) d ≡ totalsOf R (asDeclared d) qs vs
+pub closed-totals : (R : Rules) (d : Declared) (qs : List Qso) (vs : List Verdict) → length vs ≡ length qs → T (recordRules R qs) → closing (addRecords zeroTotals qs vs) d ≡ totalsOf R (asDeclared d) qs vs
 unfolding closing totalsOf asDeclared multipliers zeroTotals
-closed-totals R d qs vs e =
+closed-totals R d qs vs e rules =
     let h = sums zeroTotals qs vs e in
     let credited = h .credited ∙ add-zero (countOf (λ v. is Credited (v .class)) vs) in
     let voids = h .voids ∙ add-zero (countOf (λ v. is Void (v .class)) vs) in
@@ -333,4 +368,5 @@ closed-totals R d qs vs e =
       total =
           (points i + squares i * d .squarebonus + exchanges i * d .exchangebonus + countries i * d .countrybonus)
           * (d .squaremultiplier * d .exchangemultiplier * d .countrymultiplier);
+      modes = modes-counted R qs vs e rules i;
     }

@@ -3,9 +3,9 @@
 use Prim.Native.Nat.{ℕ, zero, suc, _≤_, _<_}
 use native.Mathlib.Omega.{arith}
 use mathlib.Core.Path.{_≡_, refl, sym, ap, subst, _∙_}
-use mathlib.Core.Bool.{false}
+use mathlib.Core.Bool.{true, false}
 use mathlib.Core.List.{List, _++_, map}
-use lib.Dec.{ltb}
+use lib.Dec.{T, ltb}
 use lib.ListN.{length, take, drop, length-map, length-drop, length-append}
 use lib.Seq.{take-all, take-append-seam}
 use borrow.Author.Tests.{lt-ltb, le-ltb}
@@ -18,6 +18,7 @@ use Rattle.rules.specs.Log.{Log, recordRules}
 use Rattle.rules.specs.Judging.{declared, verdicts, verdictsOfLog, totals, totalsOf, totalsOfLog}
 use Rattle.rules.specs.Reading.{Reading, accepted, refused, refusal, read}
 use Rattle.rules.specs.Answers.{Judgement, judged, unjudged, judge, judgeReading, judgeLog, recordsOfReading, numbersOfJudgement, over}
+use Rattle.rules.proofs.Tests.{holds}
 use Rattle.rules.proofs.Format.{accepted-when-written}
 use Rattle.rules.proofs.ValidLogs.{count-valid}
 use Rattle.rules.proofs.Classes.{length-verdicts}
@@ -36,7 +37,8 @@ use Rattle.judge.specs.declared.Weighed.{Weighed}
 use Rattle.judge.specs.declared.Weighed.the-variants as Weighed
 use Rattle.judge.specs.declared.Judged.the-variants as Judged
 use Rattle.judge.specs.Bounds.{Small, Closable}
-use Rattle.judge.specs.Count.{closing, asDeclared}
+use Rattle.judge.specs.declared.Tally.{Tally}
+use Rattle.judge.specs.Count.{closing, asDeclared, tallied}
 use Rattle.judge.specs.Judge.{firstOf, headingIn, weighedBy, weighedOf, judgedBy, judgedOf, verdictsAfterwards}
 use Rattle.judge.specs.Weigh.{recordsIn, recordsOf, numbersOf, Listed, Listings, Weighable, Weighs, Accepts}
 use Rattle.judge.proofs.CountLaws.{closed-totals}
@@ -56,7 +58,7 @@ declared-small R s claims =
       countrymultiplier = d .countrymultiplier;
     }
 
-pub closable : {s : Text} (claims : ℕ) {slice slice' : List ℕ} {t : Totals} {d : Declared} → Weighs base s slice t slice' → d ≡ declaredAt base s claims → Closable base t d
+pub closable : {s : Text} (claims : ℕ) {slice slice' modes : List ℕ} {t : Tally} {d : Declared} → Weighs base s slice t slice' modes → d ≡ declaredAt base s claims → Closable base t modes d
 closable {s = s} claims w e = record { few = w .few; small = rw e (declared-small base s claims) }
 
 -- # The lists
@@ -103,6 +105,12 @@ module _ {R : Rules} {s : Text} {records first : ℕ} {heading : Heading} (a : A
   pub contacts-are : {cs : List Contact} → cs ≡ contactsAt R s (recordsStart s log) (length (log .records)) → cs ≡ contactsAt R s first records
   contacts-are e = e ∙ (λ i. contactsAt R s (first-is i) (sym (a .count) i))
 
+  all-ruled : recordRules R (recordsOf R s) ≡ true
+  all-ruled = ap (recordRules R) records-are ∙ records-stand R s log (a .isRead) .rules
+
+  rules-kept : T (recordRules R (recordsOf R s))
+  rules-kept = holds all-ruled
+
   pub weighable : {slice calls exchanges points pointsends : List ℕ} → records ≤ length slice → Listings R s first records calls exchanges points pointsends → Weighable R s records slice calls exchanges points pointsends
   weighable h l =
       record {
@@ -110,7 +118,7 @@ module _ {R : Rules} {s : Text} {records first : ℕ} {heading : Heading} (a : A
         held =
             subst (λ (qs : List Qso). Holds R s first qs) (sym records-are)
             (subst (λ (n : ℕ). Holds R s n (log .records)) first-is (records-held R s log (a .isRead)));
-        rules = ap (recordRules R) records-are ∙ records-stand R s log (a .isRead) .rules;
+        rules = all-ruled;
         all = a .count ∙ ap length (sym records-are);
         few = few-records;
         room = h;
@@ -135,7 +143,7 @@ module _ {R : Rules} {s : Text} {records first : ℕ} {heading : Heading} (a : A
     enough : ltb (length slice) (length (log .records)) ≡ false
     enough = le-ltb (length slice) (length (log .records)) (omega (arith, a .count))
 
-    pub written-done : {t : Totals} {slice' : List ℕ} → Weighs R s slice t slice' → slice' ≡ verdictsAfterwards R s slice
+    pub written-done : {t : Tally} {slice' modes : List ℕ} → Weighs R s slice t slice' modes → slice' ≡ verdictsAfterwards R s slice
     unfolding judge judgeReading judgeLog numbersOfJudgement verdictsOfLog
     written-done w = w .written ∙ rw (a .isRead, enough) (ap (λ (qs : List Qso). over (numbersOf R qs) slice) records-are)
 
@@ -159,15 +167,15 @@ module _ {R : Rules} {s : Text} {records first : ℕ} {heading : Heading} (a : A
         countryMultiplier = d .countrymultiplier i;
       }
 
-  totals-are : {t u : Totals} {d : Declared} {slice' : List ℕ} → Weighs R s slice t slice' → d ≡ declaredAt R s (heading .claims) → u ≡ closing t d → u ≡ totalsOfLog R (a .log)
+  totals-are : {t : Tally} {u : Totals} {d : Declared} {slice' modes : List ℕ} → Weighs R s slice t slice' modes → d ≡ declaredAt R s (heading .claims) → u ≡ closing (tallied t modes) d → u ≡ totalsOfLog R (a .log)
   unfolding totalsOfLog totals
   totals-are w e f =
       f
       ∙ (λ i. closing (w .totals i) ((e ∙ claims-are) i))
-      ∙ closed-totals R (declaredAt R s (claimsStart (a .log))) (recordsOf R s) (verdicts R (recordsOf R s)) (length-verdicts R (recordsOf R s))
+      ∙ closed-totals R (declaredAt R s (claimsStart (a .log))) (recordsOf R s) (verdicts R (recordsOf R s)) (length-verdicts R (recordsOf R s)) (rules-kept a)
       ∙ (λ i. totalsOf R (declared-are i) (records-are a i) (verdicts R (records-are a i)))
 
-  pub done : {t u : Totals} {d : Declared} {slice' : List ℕ} → Weighs R s slice t slice' → d ≡ declaredAt R s (heading .claims) → u ≡ closing t d → Weighed.Done u records first heading ≡ weighedOf R (length slice) s
+  pub done : {t : Tally} {u : Totals} {d : Declared} {slice' modes : List ℕ} → Weighs R s slice t slice' modes → d ≡ declaredAt R s (heading .claims) → u ≡ closing (tallied t modes) d → Weighed.Done u records first heading ≡ weighedOf R (length slice) s
   unfolding weighedOf weighedBy judge judgeReading judgeLog recordsOfReading
   done w e f =
       rw (a .isRead, enough a slice h) (λ i. Weighed.Done (totals-are w e f i) (a .count i) (a .place i) (a .headed i))

@@ -1,5 +1,6 @@
 -- The laws of the judge, from what is said of a record to a log as a whole.
 pub mod SaidLaws
+pub mod ModeLaws
 pub mod CountLaws
 pub mod PartLaws
 pub mod SquareLaws

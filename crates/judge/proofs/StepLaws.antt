@@ -16,7 +16,7 @@ use Rattle.rules.specs.Rules.{Rules}
 use Rattle.rules.specs.Fields.{Qso, errorCall}
 use Rattle.rules.specs.Arguments.{among}
 use Rattle.rules.specs.Judging.{classNumber, is, classOf, square, isNew, claimsCountry, verdictOf, creditedAfter}
-use Rattle.rules.proofs.Tests.{holds}
+use Rattle.rules.proofs.Tests.{holds, clash}
 use Rattle.rules.proofs.Classes.{is→equal}
 use Rattle.fields.specs.Field.{endOf}
 use Rattle.fields.proofs.PartLaws.{end-by-span}
@@ -28,11 +28,11 @@ use Rattle.judge.specs.Said.{classBy, verdictBy}
 use Rattle.judge.specs.Count.{worthIf}
 use Rattle.judge.specs.Parts.{keyOf, partBy, keptTexts, keptNumbers, Keyed, Lying}
 use Rattle.judge.specs.Memory.{Memory, unseen, memory, Remembers}
-use Rattle.judge.specs.Step.{callNoted, countryNoted, claimsNoted, mayRepeatNoted, worthNoted, classNoted, Told, Classed, Ready, Credits, NewPart, NewSquare, Judges, Steps}
+use Rattle.judge.specs.Step.{callNoted, countryNoted, claimsNoted, mayRepeatNoted, worthNoted, modeNoted, classNoted, Told, Classed, Ready, Credits, NewPart, NewSquare, Judges, Steps}
 use Rattle.judge.proofs.SaidLaws.{verdict-said}
 use Rattle.judge.proofs.CountLaws.{worth-most}
 use Rattle.judge.proofs.PartLaws.{part-size, part-by, part-keyed, texts-key, texts-more, lying-key, lying-more}
-use Rattle.judge.proofs.ToldLaws.{call-inside, points-inside, worth-is, country-is, country-inside}
+use Rattle.judge.proofs.ToldLaws.{call-inside, points-inside, worth-is, mode-is, country-is, country-inside}
 use Rattle.judge.proofs.RememberLaws.{class-is, exchange-new, square-new, remembers-credited}
 
 -- # A part that is looked for
@@ -148,7 +148,7 @@ credited-marks v e = λ i. record { class = e i; exchange = v .exchange; square 
 
 -- # A credited record
 
-pub credits : (R : Rules) (s : Text) (p : Noted) (kept : Kept) (calls exchanges exchangeKeys squares : List ℕ) {v : Verdict} {x y z : Bool} {end w b d : ℕ} {exchanges' exchangeKeys' squares' : List ℕ} →
+pub credits : (R : Rules) (s : Text) (p : Noted) (mode : ℕ) (kept : Kept) (calls exchanges exchangeKeys squares : List ℕ) {v : Verdict} {x y z : Bool} {end w b d : ℕ} {exchanges' exchangeKeys' squares' : List ℕ} →
     v ≡ verdictBy Credited x y z →
     end ≡ endOf s (p .exchange) →
     NewPart s exchanges exchangeKeys (kept .exchanges) (p .exchange) end x exchanges' exchangeKeys' →
@@ -157,11 +157,11 @@ pub credits : (R : Rules) (s : Text) (p : Noted) (kept : Kept) (calls exchanges 
     w ≡ worthNoted R s p →
     b ≡ worthIf y 1 →
     d ≡ worthIf x 1 →
-    Credits R s p kept calls exchanges exchangeKeys squares
-    (record { verdict = v; worth = w; kept = record { calls = kept .calls + 1; squares = b + kept .squares; exchanges = d + kept .exchanges } })
+    Credits R s p mode kept calls exchanges exchangeKeys squares
+    (record { verdict = v; worth = w; mode = mode; kept = record { calls = kept .calls + 1; squares = b + kept .squares; exchanges = d + kept .exchanges } })
     (set calls (kept .calls) (p .call)) exchanges' exchangeKeys' squares'
 unfolding verdictBy is classNumber
-credits R s p kept calls exchanges exchangeKeys squares ev ends part square ec ew eb ed =
+credits R s p mode kept calls exchanges exchangeKeys squares ev ends part square ec ew eb ed =
     let ex = ap (λ (u : Verdict). u .exchange) ev in
     let ey = ap (λ (u : Verdict). u .square) ev in
     record {
@@ -170,6 +170,7 @@ credits R s p kept calls exchanges exchangeKeys squares ev ends part square ec e
       square = rw (ey, ← ends) square;
       country = ap (λ (u : Verdict). u .country) ev ∙ ec;
       worth = ew;
+      modeTold = refl;
       callsThen = refl;
       keptCalls = refl;
       keptExchanges = rw (ed, ex);
@@ -222,7 +223,7 @@ module _ (R : Rules) (home : (t : Text) → R .home t ≡ t) (s : Text) (p : Not
 
     -- A record that is not credited.
     module _ (f : n ≡ 0 → ⊥) {v : Verdict} (w : v ≡ verdictBy class false false false) where
-      other-judged : (q : Qso) (credited : List Qso) → Told R s p q → Remembers R before credited → Judges R q credited (record { verdict = v; worth = 0; kept = kept }) (memory s kept calls keys exchanges exchangeKeys squares)
+      other-judged : (q : Qso) (credited : List Qso) → Told R s p q → Remembers R before credited → Judges R q credited (record { verdict = v; worth = 0; mode = 0; kept = kept }) (memory s kept calls keys exchanges exchangeKeys squares)
       unfolding memory verdictOf creditedAfter is
       other-judged q credited told r =
           let class' = class-there q credited told r in
@@ -234,10 +235,11 @@ module _ (R : Rules) (home : (t : Text) → R .home t ≡ t) (s : Text) (p : Not
                 ∙ no-marks (classOf R credited q) (isNew (λ x. x .exchange) credited q) (isNew square credited q) (claimsCountry q) not-credited
                 ∙ verdict-said R credited q;
             worth = rw not-credited;
+            mode = λ credit. clash credit not-credited;
             remembers = rw (not-credited, texts-same) r;
           }
 
-      pub steps-other : Steps R s p kept calls callKeys exchanges exchangeKeys squares (record { verdict = v; worth = 0; kept = kept }) calls keys exchanges exchangeKeys squares
+      pub steps-other : Steps R s p kept calls callKeys exchanges exchangeKeys squares (record { verdict = v; worth = 0; mode = 0; kept = kept }) calls keys exchanges exchangeKeys squares
       steps-other =
           record {
             judges = other-judged;
@@ -250,7 +252,7 @@ module _ (R : Rules) (home : (t : Text) → R .home t ≡ t) (s : Text) (p : Not
           }
 
     -- A record that is credited.
-    module _ (f : n ≡ 0) {r : Step} {calls' exchanges' exchangeKeys' squares' : List ℕ} (c : Credits R s p kept calls exchanges exchangeKeys squares r calls' exchanges' exchangeKeys' squares') where
+    module _ (f : n ≡ 0) {mode : ℕ} (by-mode : mode ≡ modeNoted s p) {r : Step} {calls' exchanges' exchangeKeys' squares' : List ℕ} (c : Credits R s p mode kept calls exchanges exchangeKeys squares r calls' exchanges' exchangeKeys' squares') where
       still : Lying s calls keys m
       still = lying-key s calls callKeys m lies key
 
@@ -277,6 +279,7 @@ module _ (R : Rules) (home : (t : Text) → R .home t ≡ t) (s : Text) (p : Not
                 ∙ (λ i. verdictBy (sym credit i) (new i) (other i) ((c .country ∙ country-is told) i))
                 ∙ verdict-said R credited q;
             worth = c .worth ∙ worth-is told ∙ ap (λ (b : Bool). worthIf b (value (q .points))) (sym is-credited);
+            mode = λ credit. c .modeTold ∙ by-mode ∙ mode-is told;
             remembers =
                 rw is-credited
                 (remembers-credited R s p q told before credited rem home (memory s (r .kept) calls' keys exchanges' exchangeKeys' squares')

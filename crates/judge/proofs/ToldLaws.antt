@@ -8,7 +8,7 @@ use mathlib.Core.List.{[], _∷_}
 use lib.Dec.{T, leb, eqb}
 use lib.ListN.{length, getD}
 use borrow.Author.Tests.{eqb-true, eqb-false, ne-eqb, leb-true}
-use Rattle.rules.specs.Text.{Text, bytes, digit, all, same, begins, number, numberOf, value, valueAfter}
+use Rattle.rules.specs.Text.{Text, bytes, digit, semicolon, empty, all, same, begins, number, numberOf, value, valueAfter}
 use Rattle.rules.specs.Rules.{Rules, base}
 use Rattle.rules.specs.Fields.{Qso, call, callCharacter, exchange, exchangeCharacter, locator, emptyOr, newMark, isError, pointsRule, fieldRules}
 use Rattle.rules.specs.Judging.{claimsPoints, claimsCountry, claimsDuplicate, mayRepeat}
@@ -16,14 +16,16 @@ use Rattle.rules.proofs.Tests.{so, holds, never, and-l, and-r}
 use Rattle.rules.proofs.Passing.{same→equal}
 use Rattle.rules.proofs.NumberLaws.{number-below}
 use Rattle.rules.proofs.ValidLogs.{rule-at, points-ruled}
-use Rattle.fields.specs.Field.{textAt, endOf}
+use Rattle.fields.specs.Field.{textAt, endsAt, endOf}
+use Rattle.fields.proofs.FieldLaws.{ends-at-semicolon}
 use Rattle.fields.proofs.PartLaws.{end-by-span}
 use Rattle.reader.specs.declared.Contact.{Contact}
-use Rattle.reader.specs.Contact.{fieldStart, valueBy, lastEnd, contactAt, behind, between, claimedAt}
-use Rattle.reader.proofs.PlaceLaws.{start-more, start-next, starts-rise, held-within}
+use Rattle.reader.specs.Contact.{fieldStart, valueBy, lastEnd, contactAt, behind, between, claimedAt, modeAt}
+use Rattle.reader.proofs.PlaceLaws.{start-more, start-next, starts-rise, held-within, text-by-end}
 use Rattle.judge.specs.declared.Noted.{Noted}
 use Rattle.judge.specs.Bounds.{mostWorth}
-use Rattle.judge.specs.Step.{callNoted, exchangeNoted, locatorNoted, countryNoted, claimsNoted, mayRepeatNoted, worthNoted, Told}
+use Rattle.judge.specs.Count.{modePlace, modeOf}
+use Rattle.judge.specs.Step.{callNoted, exchangeNoted, locatorNoted, countryNoted, claimsNoted, mayRepeatNoted, modeNoted, worthNoted, Told}
 use Rattle.judge.proofs.PartLaws.{part-size, part-at}
 
 -- # Numbers
@@ -140,6 +142,46 @@ module _ {R : Rules} {s : Text} {p : Noted} {q : Qso} (t : Told R s p q) where
 
   pub call-size : (p .call < endOf s (p .call)) × (endOf s (p .call) ≤ p .call + 15)
   call-size = (omega (arith, call-length, call-long), omega (arith, call-length, call-long))
+
+  -- The mode.
+  abbrev mode-start : ℕ
+  mode-start = endOf s (p .call) + 1
+
+  mode-place : mode-start ≡ field 3
+  unfolding fieldStart
+  mode-place = ap (λ (n : ℕ). endOf s n + 1) call-place
+
+  pub mode-inside : endOf s (p .call) + 1 < length s
+  mode-inside = omega (arith, field-inside 3 10 refl, end-by-span s (field 3), mode-place)
+
+  mode-end : endOf s mode-start ≤ length s
+  mode-end = omega (arith, field-inside 3 10 refl, ap (endOf s) mode-place)
+
+  mode-text : modeAt s (endOf s (p .call)) ≡ q .mode
+  unfolding contactAt
+  mode-text = ap (λ (n : ℕ). modeAt s (endOf s n)) (t .call) ∙ (t .held .0) .modeIs
+
+  -- It begins with its code, or, where it is blank, with the semicolon behind it.
+  mode-first : getD s mode-start 0 ≡ getD (q .mode) 0 semicolon
+  unfolding endsAt
+  mode-first = by (q .mode) mode-text
+    where
+      from : mode-start ≤ endOf s mode-start
+      from = omega (arith, end-by-span s mode-start)
+
+      by : (u : Text) → modeAt s (endOf s (p .call)) ≡ u → getD s mode-start 0 ≡ getD u 0 semicolon
+      by [] e = eqb-true (getD s mode-start 0) 59 (ends-at-semicolon s mode-start mode-inside ∙ ap empty (text-by-end s mode-start refl ∙ e))
+      by (d ∷ u) e =
+          let n : length (modeAt s (endOf s (p .call))) ≡ length (d ∷ u) = ap length e in
+          let long = part-size s mode-start (endOf s mode-start) from mode-end in
+          let there : mode-start + 0 ≡ mode-start = omega arith in
+          sym (ap (λ (n : ℕ). getD s n 0) there)
+          ∙ sym (part-at s mode-start (endOf s mode-start) from mode-end 0 (omega arith))
+          ∙ ap (λ (v : Text). getD v 0 0) e
+
+  pub mode-is : modeNoted s p ≡ modeOf q
+  unfolding modeOf
+  mode-is = ap modePlace mode-first
 
   -- The exchange.
   exchange-place : p .exchange ≡ field 8

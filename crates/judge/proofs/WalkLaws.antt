@@ -1,22 +1,22 @@
 -- The walk over the records: where it begins, one record more, and where it ends.
 -- Assumes nothing.
-use Prim.Native.Nat.{ℕ, suc, _+_, _-_, _≤_, _<_}
+use Prim.Native.Nat.{ℕ, zero, suc, _+_, _-_, _≤_, _<_}
 use native.Mathlib.Omega.{arith}
 use native.Mathlib.Nat.{add-zero}
 use native.Mathlib.Numerals.{add-one}
 use mathlib.Core.Path.{_≡_, refl, sym, ap, _∙_}
 use mathlib.Core.Bool.{Bool, true, false, _&&_}
 use mathlib.Core.List.{List, [], _∷_, _++_, map, append-assoc}
-use lib.ListN.{length, take, drop, getD, set, length-map, length-set}
+use lib.ListN.{length, take, drop, getD, set, replicate, length-map, length-set}
 use lib.Seq.{take-suc, drop-cons, drop-drop, getD-take, getD-drop, set-at, length-take-le, take-length}
 use Rattle.rules.specs.declared.Class.the-variants.{Credited}
 use Rattle.rules.specs.declared.Verdict.{Verdict}
 use Rattle.rules.specs.declared.Totals.{Totals}
-use Rattle.rules.specs.Text.{Text, value}
+use Rattle.rules.specs.Text.{Text, semicolon, value}
 use Rattle.rules.specs.Rules.{Rules}
 use Rattle.rules.specs.Fields.{Qso, fieldRules}
 use Rattle.rules.specs.Log.{conjunction, recordRules}
-use Rattle.rules.specs.Judging.{is, verdictOf, creditedAfter, verdictsAfter, verdicts, verdictNumber, zeroTotals}
+use Rattle.rules.specs.Judging.{is, verdictOf, creditedAfter, verdictsAfter, verdicts, verdictNumber, zeroModes, zeroTotals}
 use Rattle.rules.specs.Answers.{over}
 use Rattle.rules.proofs.Tests.{and-l, and-r}
 use Rattle.rules.proofs.Classes.{length-verdicts}
@@ -26,12 +26,14 @@ use Rattle.judge.specs.declared.Kept.{Kept}
 use Rattle.judge.specs.declared.Noted.{Noted}
 use Rattle.judge.specs.declared.Step.{Step}
 use Rattle.judge.specs.Bounds.{mostWorth, Counts, Countable}
-use Rattle.judge.specs.Count.{addRecord, addRecords}
+use Rattle.judge.specs.declared.Tally.{Tally}
+use Rattle.judge.specs.Count.{modeOf, modesIn, modesAfter, noTally, tallied, addRecord, addRecords}
 use Rattle.judge.specs.Parts.{keptTexts, keptNumbers, Lying}
 use Rattle.judge.specs.Memory.{Memory, memory, Remembers}
 use Rattle.judge.specs.Step.{Told, Stays, Ready, Judges, Steps}
 use Rattle.judge.specs.Weigh.{recordsOf, numbersOf, Listed, Weighable, Weighs}
 use Rattle.judge.proofs.CountLaws.{worth-most, brings, counts-more, counts-fewer}
+use Rattle.judge.proofs.ModeLaws.{place-most, grown, as-long}
 use Rattle.judge.proofs.ToldLaws.{worth-most as points-most}
 use Rattle.judge.proofs.RememberLaws.{nothing-kept}
 
@@ -147,14 +149,22 @@ module _ (R : Rules) (s : Text) (qs : List Qso) (i at : ℕ) (credited : List Qs
       and-none : {a : Bool} (b : Bool) → a ≡ false → (a && b) ≡ false
       and-none b e = rw e
 
-      countable-next : i < R .mostRecords → Countable R t (r .worth) (r .verdict)
+      -- The mode of a credited one is one of the eleven.
+      placed : is Credited ((r .verdict) .class) ≡ true → r .mode < 11
+      unfolding modeOf
+      placed e = rw (j .mode (ap (λ (w : Verdict). is Credited (w .class)) (sym (j .verdict)) ∙ e)) (place-most (getD (q .mode) 0 semicolon))
+
+      countable-next : {c : Tally} {modes : List ℕ} → t ≡ tallied c modes → length modes ≡ 11 → ((k : ℕ) → getD modes k 0 ≤ i) → i < R .mostRecords → Countable R c modes (r .worth) (r .mode) (r .verdict)
       unfolding verdictOf
-      countable-next h =
+      countable-next e l f h =
           record {
             n = i;
-            few = g .counts;
+            few = rw e at (g .counts);
+            long = l;
+            fewModes = f;
             room = h;
             small = brought;
+            place = placed;
             exchange = unmarked (λ w. w .exchange) (λ b. and-none _);
             square = unmarked (λ w. w .square) (λ b. and-none _);
             country = unmarked (λ w. w .country) (λ b. and-none _);
@@ -168,11 +178,11 @@ module _ (R : Rules) (s : Text) (qs : List Qso) (i at : ℕ) (credited : List Qs
           ∙ getD-drop i (numbersOf R qs) 0 0
           ∙ ap (λ (x : ℕ). getD (numbersOf R qs) x 0) (add-zero i)
 
-      sums-next : {t' : Totals} → t' ≡ addRecord t (r .worth) (r .verdict) → t' ≡ addRecord t (value (q .points)) v
-      sums-next e = e ∙ (λ x. addRecord t (j .worth x) (j .verdict x)) ∙ brings t (value (q .points)) v
+      sums-next : {t' : Totals} → t' ≡ addRecord t (r .worth) (r .mode) (r .verdict) → t' ≡ addRecord t (value (q .points)) (modeOf q) v
+      sums-next e = e ∙ (λ x. addRecord t (j .worth x) (r .mode) (j .verdict x)) ∙ brings t (value (q .points)) (modeOf q) v (j .mode)
 
       goes-on : {t' : Totals} {calls' exchanges' : List ℕ} (a b : ℕ) →
-          t' ≡ addRecord t (r .worth) (r .verdict) →
+          t' ≡ addRecord t (r .worth) (r .mode) (r .verdict) →
           i < length calls →
           i < length exchanges →
           i < length points →
@@ -192,7 +202,7 @@ module _ (R : Rules) (s : Text) (qs : List Qso) (i at : ℕ) (credited : List Qs
             left = omega (arith, g .left);
             totals = g .totals ∙ ap (λ (x : Totals). addRecords x rest (verdictsAfter R (creditedAfter (v .class) q credited) rest)) (sym sums);
             numbers = sym (drop-drop 1 i (numbersOf R qs)) ∙ ap (drop 1) (g .numbers);
-            counts = rw sums (counts-more R i t (value (q .points)) v (g .counts) (points-most told-next));
+            counts = rw sums (counts-more R i t (value (q .points)) (modeOf q) v (g .counts) (points-most told-next));
             callsNoted = noting-kept R s (λ c. c .call) (behind (contactAt R s at)) (length rest) a i calls calls' ha rc (noted-rest R s (λ c. c .call) calls at (length rest) i (g .callsNoted) hc);
             exchangesNoted = noting-kept R s (λ c. c .exchange) (behind (contactAt R s at)) (length rest) b i exchanges exchanges' hb rx (noted-rest R s (λ c. c .exchange) exchanges at (length rest) i (g .exchangesNoted) hx);
             pointsNoted = noted-rest R s (λ c. c .points) points at (length rest) i (g .pointsNoted) hp;
@@ -202,11 +212,13 @@ module _ (R : Rules) (s : Text) (qs : List Qso) (i at : ℕ) (credited : List Qs
 -- # The loop
 
 -- What holds whenever the next record is looked at.
-pub record Walks (R : Rules) (s : Text) (n : ℕ) (slice out calls exchanges points pointsends callKeys exchangeKeys squares : List ℕ) (kept : Kept) (t : Totals) (i : ℕ) : Type 0 where
+pub record Walks (R : Rules) (s : Text) (n : ℕ) (slice out calls exchanges points pointsends callKeys exchangeKeys squares : List ℕ) (kept : Kept) (c : Tally) (modes : List ℕ) (i : ℕ) : Type 0 where
   pub at : ℕ
   pub credited : List Qso
   pub rest : List Qso
-  pub going : Going R s (recordsOf R s) i at credited rest (memory s kept calls callKeys exchanges exchangeKeys squares) t calls exchanges points pointsends
+  pub going : Going R s (recordsOf R s) i at credited rest (memory s kept calls callKeys exchanges exchangeKeys squares) (tallied c modes) calls exchanges points pointsends
+  pub modesLong : length modes ≡ 11
+  pub fewModes : (k : ℕ) → getD modes k 0 ≤ i
   pub within : i ≤ n
   pub told : out ≡ written (numbersOf R (recordsOf R s)) slice i
   pub size : length out ≡ length slice
@@ -222,24 +234,30 @@ pub record Walks (R : Rules) (s : Text) (n : ℕ) (slice out calls exchanges poi
   pub exchangeKeysLong : length exchangeKeys ≡ R .mostRecords + 1
   pub squaresLong : length squares ≡ R .mostRecords + 1
 
+none-yet : (n k : ℕ) → getD (replicate n 0) k 0 ≤ 0
+none-yet zero k = omega arith
+none-yet (suc n) zero = omega arith
+none-yet (suc n) (suc k) = none-yet n k
+
 none-lie : (s : Text) {places keys : List ℕ} → 0 < length keys → Lying s places keys 0
 none-lie s h = record { manyPlaces = omega arith; manyKeys = h; inside = λ k l. absurd (omega arith) }
 
 module _ {R : Rules} {s : Text} {n : ℕ} {slice calls₀ exchanges₀ points pointsends : List ℕ} (w : Weighable R s n slice calls₀ exchanges₀ points pointsends) where
-  pub walks-begin : {callKeys exchangeKeys squares : List ℕ} {t : Totals} →
-      t ≡ zeroTotals →
+  pub walks-begin : {callKeys exchangeKeys squares modes : List ℕ} {c : Tally} →
+      c ≡ noTally →
+      modes ≡ replicate 11 0 →
       length callKeys ≡ R .mostRecords + 1 →
       length exchangeKeys ≡ R .mostRecords + 1 →
       length squares ≡ R .mostRecords + 1 →
-      Walks R s n slice slice calls₀ exchanges₀ points pointsends callKeys exchangeKeys squares (record { calls = 0; squares = 0; exchanges = 0 }) t 0
-  unfolding memory keptTexts keptNumbers verdicts zeroTotals
-  walks-begin e kc kx ks =
+      Walks R s n slice slice calls₀ exchanges₀ points pointsends callKeys exchangeKeys squares (record { calls = 0; squares = 0; exchanges = 0 }) c modes 0
+  unfolding memory keptTexts keptNumbers verdicts zeroTotals zeroModes noTally modesIn
+  walks-begin e z kc kx ks =
       record {
         at = w .first;
         credited = [];
         rest = recordsOf R s;
         going =
-            rw e
+            rw (e, z)
             (record {
               held = w .held;
               rules = w .rules;
@@ -253,6 +271,8 @@ module _ {R : Rules} {s : Text} {n : ℕ} {slice calls₀ exchanges₀ points po
               pointsNoted = noting-begins R s (λ c. c .points) points (w .first) n (length (recordsOf R s)) (w .all) (w .listings .pointsListed);
               endsNoted = noting-begins R s (λ c. c .pointsend) pointsends (w .first) n (length (recordsOf R s)) (w .all) (w .listings .endsListed);
             });
+        modesLong = ap length z;
+        fewModes = λ k. omega (arith, ap (λ (l : List ℕ). getD l k 0) z, none-yet 11 k);
         within = omega arith;
         told = refl;
         size = refl;
@@ -269,11 +289,14 @@ module _ {R : Rules} {s : Text} {n : ℕ} {slice calls₀ exchanges₀ points po
         squaresLong = ks;
       }
 
-  module _ {out calls exchanges callKeys exchangeKeys squares : List ℕ} {kept : Kept} {t : Totals} {i : ℕ} (h : Walks R s n slice out calls exchanges points pointsends callKeys exchangeKeys squares kept t i) where
+  module _ {out calls exchanges callKeys exchangeKeys squares : List ℕ} {kept : Kept} {c : Tally} {modes : List ℕ} {i : ℕ} (h : Walks R s n slice out calls exchanges points pointsends callKeys exchangeKeys squares kept c modes i) where
+    abbrev t : Totals
+    t = tallied c modes
+
     abbrev m : Memory
     m = memory s kept calls callKeys exchanges exchangeKeys squares
 
-    pub walks-end : n ≤ i → Weighs R s slice t out
+    pub walks-end : n ≤ i → Weighs R s slice c out modes
     unfolding addRecords
     walks-end k =
         let all = w .all in
@@ -326,20 +349,21 @@ module _ {R : Rules} {s : Text} {n : ℕ} {slice calls₀ exchanges₀ points po
           judged : Judges R (turn .q) (h .credited) r (memory s (r .kept) calls' callKeys' exchanges' exchangeKeys' squares')
           judged = st .judges (turn .q) (h .credited) this ((turn .goes) .remembers)
 
-          pub countable : Countable R t (r .worth) (r .verdict)
+          pub countable : Countable R c modes (r .worth) (r .mode) (r .verdict)
           countable =
-              countable-next R s (recordsOf R s) i (h .at) (h .credited) (turn .q) (turn .others) m t calls exchanges points pointsends (turn .goes) ec ex ep ee judged (omega (arith, w .few))
+              countable-next R s (recordsOf R s) i (h .at) (h .credited) (turn .q) (turn .others) m t calls exchanges points pointsends (turn .goes) ec ex ep ee judged refl (h .modesLong) (h .fewModes) (omega (arith, w .few))
 
-          pub walks-on : {t' : Totals} {number : ℕ} →
-              t' ≡ addRecord t (r .worth) (r .verdict) →
+          pub walks-on : {c' : Tally} {modes' : List ℕ} {number : ℕ} →
+              tallied c' modes' ≡ addRecord t (r .worth) (r .mode) (r .verdict) →
+              modes' ≡ modesAfter modes (r .mode) (r .verdict) →
               number ≡ verdictNumber (r .verdict) →
               length calls' ≡ length calls →
               length callKeys' ≡ length callKeys →
               length exchanges' ≡ length exchanges →
               length exchangeKeys' ≡ length exchangeKeys →
               length squares' ≡ length squares →
-              Walks R s n slice (set out i number) calls' exchanges' points pointsends callKeys' exchangeKeys' squares' (r .kept) t' (i + 1)
-          walks-on {number = number} et en lc lck lx lxk ls =
+              Walks R s n slice (set out i number) calls' exchanges' points pointsends callKeys' exchangeKeys' squares' (r .kept) c' modes' (i + 1)
+          walks-on {number = number} et em en lc lck lx lxk ls =
               let goes = turn .goes in
               let long : i < length (numbersOf R (recordsOf R s)) = omega (arith, length-numbers R (recordsOf R s), w .all) in
               let room : i < length slice = omega (arith, w .room) in
@@ -351,6 +375,8 @@ module _ {R : Rules} {s : Text} {n : ℕ} {slice calls₀ exchanges₀ points po
                     goes-on R s (recordsOf R s) i (h .at) (h .credited) (turn .q) (turn .others) m t calls exchanges points pointsends goes ec ex ep ee judged (kept .calls) (kept .exchanges) et
                     (omega (arith, h .callsLong)) (omega (arith, h .exchangesLong)) (omega (arith, h .pointsLong)) (omega (arith, h .endsLong))
                     (h .fewCalls) (h .fewExchanges) (st .callsRest) (st .exchangesRest);
+                modesLong = ap length em ∙ as-long modes (r .mode) (r .verdict) ∙ h .modesLong;
+                fewModes = λ k. omega (arith, ap (λ (l : List ℕ). getD l k 0) em, grown modes (r .mode) (r .verdict) k, h .fewModes k);
                 within = omega arith;
                 told =
                     written-more (numbersOf R (recordsOf R s)) slice i long room (h .told)

@@ -2,13 +2,17 @@
 -- Assumes nothing.
 use Prim.Native.Nat.{ℕ, _*_, _-_, _^_, _≤_, _<_}
 use mathlib.Core.Path.{_≡_}
-use mathlib.Core.Bool.{false}
+use mathlib.Core.Bool.{true, false}
+use mathlib.Core.List.{List}
+use lib.ListN.{length, getD}
 use Rattle.rules.specs.declared.Class.the-variants.{Credited}
 use Rattle.rules.specs.declared.Verdict.{Verdict}
 use Rattle.rules.specs.declared.Totals.{Totals}
 use Rattle.rules.specs.Rules.{Rules}
 use Rattle.rules.specs.Judging.{is}
 use Rattle.places.specs.declared.Declared.{Declared}
+use Rattle.judge.specs.declared.Tally.{Tally}
+use Rattle.judge.specs.Count.{tallied}
 
 -- The most that a record is worth.
 abbrev pub mostWorth : Rules → ℕ
@@ -25,13 +29,16 @@ pub record Counts (R : Rules) (n : ℕ) (t : Totals) : Type 0 where
   pub exchanges : t .exchanges ≤ n
   pub countries : t .countries ≤ n
 
--- One more record may be added: there are fewer yet than there may be, it is worth no more than it may be, and it bears no mark unless it is
--- credited.
-pub record Countable (R : Rules) (t : Totals) (worth : ℕ) (v : Verdict) : Type 0 where
+-- One more record may be added: there are fewer yet than there may be, by each mode too, it is worth no more than it may be, its mode is one of the
+-- eleven, and it bears no mark unless it is credited.
+pub record Countable (R : Rules) (t : Tally) (modes : List ℕ) (worth mode : ℕ) (v : Verdict) : Type 0 where
   pub n : ℕ
-  pub few : Counts R n t
+  pub few : Counts R n (tallied t modes)
+  pub long : length modes ≡ 11
+  pub fewModes : (k : ℕ) → getD modes k 0 ≤ n
   pub room : n < R .mostRecords
   pub small : worth ≤ mostWorth R
+  pub place : is Credited (v .class) ≡ true → mode < 11
   pub exchange : is Credited (v .class) ≡ false → v .exchange ≡ false
   pub square : is Credited (v .class) ≡ false → v .square ≡ false
   pub country : is Credited (v .class) ≡ false → v .country ≡ false
@@ -45,6 +52,6 @@ pub record Small (R : Rules) (d : Declared) : Type 0 where
   pub countrybonus : d .countrybonus ≤ R .mostBonus
   pub countrymultiplier : d .countrymultiplier ≤ R .mostMultiplier
 
-pub record Closable (R : Rules) (t : Totals) (d : Declared) : Type 0 where
-  pub few : Counts R (R .mostRecords) t
+pub record Closable (R : Rules) (t : Tally) (modes : List ℕ) (d : Declared) : Type 0 where
+  pub few : Counts R (R .mostRecords) (tallied t modes)
   pub small : Small R d

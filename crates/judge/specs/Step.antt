@@ -20,7 +20,7 @@ use Rattle.judge.specs.declared.Kept.{Kept}
 use Rattle.judge.specs.declared.Noted.{Noted}
 use Rattle.judge.specs.declared.Step.{Step}
 use Rattle.judge.specs.Said.{classBy}
-use Rattle.judge.specs.Count.{worthIf}
+use Rattle.judge.specs.Count.{worthIf, modePlace, modeOf}
 use Rattle.judge.specs.Parts.{keyOf, numberOfSquare, keptTexts, keptNumbers, Lying}
 use Rattle.judge.specs.Memory.{Memory, unseen, unseenSquare, keptWith, memory, Remembers}
 
@@ -45,6 +45,10 @@ claimsNoted s p = not (eqb (getD s (p .points) 0) 48)
 
 abbrev pub worthNoted : Rules → Text → Noted → ℕ
 worthNoted R s p = valueBy (numberOf (R .pointsDigits)) (textAt s (p .points))
+
+-- Which of the eleven modes it is, by the character behind the call and its semicolon.
+abbrev pub modeNoted : Text → Noted → ℕ
+modeNoted s p = modePlace (getD s (endOf s (p .call) + 1) 0)
 
 -- W3: "a duplicate needs points or a claimed D".
 abbrev pub mayRepeatNoted : Text → Noted → Bool
@@ -125,12 +129,13 @@ pub record NewSquare (squares : List ℕ) (m : ℕ) (t : Text) (r : Bool) (squar
   pub size : length squares' ≡ length squares
 
 -- A credited record: what is new with it, what it is worth, and what is kept then.
-pub record Credits (R : Rules) (s : Text) (p : Noted) (kept : Kept) (calls exchanges exchangeKeys squares : List ℕ) (r : Step) (calls' exchanges' exchangeKeys' squares' : List ℕ) : Type 0 where
+pub record Credits (R : Rules) (s : Text) (p : Noted) (mode : ℕ) (kept : Kept) (calls exchanges exchangeKeys squares : List ℕ) (r : Step) (calls' exchanges' exchangeKeys' squares' : List ℕ) : Type 0 where
   pub class : (r .verdict) .class ≡ Credited
   pub exchange : NewPart s exchanges exchangeKeys (kept .exchanges) (p .exchange) (endOf s (p .exchange)) ((r .verdict) .exchange) exchanges' exchangeKeys'
   pub square : NewSquare squares (kept .squares) (take 4 (locatorNoted s p)) ((r .verdict) .square) squares'
   pub country : (r .verdict) .country ≡ countryNoted s p
   pub worth : r .worth ≡ worthNoted R s p
+  pub modeTold : r .mode ≡ mode
   pub callsThen : calls' ≡ set calls (kept .calls) (p .call)
   pub keptCalls : (r .kept) .calls ≡ kept .calls + 1
   pub keptExchanges : (r .kept) .exchanges ≡ worthIf ((r .verdict) .exchange) 1 + kept .exchanges
@@ -140,6 +145,7 @@ pub record Credits (R : Rules) (s : Text) (p : Noted) (kept : Kept) (calls excha
 pub record Judges (R : Rules) (q : Qso) (credited : List Qso) (r : Step) (m : Memory) : Type 0 where
   pub verdict : r .verdict ≡ verdictOf R credited q
   pub worth : r .worth ≡ worthIf (is Credited ((verdictOf R credited q) .class)) (value (q .points))
+  pub mode : is Credited ((verdictOf R credited q) .class) ≡ true → r .mode ≡ modeOf q
   pub remembers : Remembers R m (creditedAfter ((verdictOf R credited q) .class) q credited)
 
 pub record Steps (R : Rules) (s : Text) (p : Noted) (kept : Kept) (calls callKeys exchanges exchangeKeys squares : List ℕ) (r : Step) (calls' callKeys' exchanges' exchangeKeys' squares' : List ℕ) : Type 0 where

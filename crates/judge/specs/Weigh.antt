@@ -5,7 +5,6 @@ use mathlib.Core.Path.{_≡_}
 use mathlib.Core.Bool.{true}
 use mathlib.Core.List.{List, [], map}
 use lib.ListN.{length, take}
-use Rattle.rules.specs.declared.Totals.{Totals}
 use Rattle.rules.specs.Text.{Text}
 use Rattle.rules.specs.Rules.{Rules}
 use Rattle.rules.specs.Fields.{Qso}
@@ -16,7 +15,8 @@ use Rattle.rules.specs.Answers.{over}
 use Rattle.reader.specs.declared.Contact.{Contact}
 use Rattle.reader.specs.Contact.{contactsAt, Holds}
 use Rattle.judge.specs.Bounds.{Counts}
-use Rattle.judge.specs.Count.{addRecords}
+use Rattle.judge.specs.declared.Tally.{Tally}
+use Rattle.judge.specs.Count.{addRecords, tallied}
 use Rattle.reader.specs.declared.Heading.{Heading}
 use Rattle.judge.specs.Judge.{firstOf, headingIn}
 
@@ -56,9 +56,9 @@ pub record Weighable (R : Rules) (s : Text) (n : ℕ) (slice calls exchanges poi
   pub listings : Listings R s first n calls exchanges points pointsends
 
 -- The totals are those of the records, and their verdicts are written.
-pub record Weighs (R : Rules) (s : Text) (slice : List ℕ) (r : Totals) (slice' : List ℕ) : Type 0 where
-  pub totals : r ≡ addRecords zeroTotals (recordsOf R s) (verdicts R (recordsOf R s))
-  pub few : Counts R (R .mostRecords) r
+pub record Weighs (R : Rules) (s : Text) (slice : List ℕ) (r : Tally) (slice' modes' : List ℕ) : Type 0 where
+  pub totals : tallied r modes' ≡ addRecords zeroTotals (recordsOf R s) (verdicts R (recordsOf R s))
+  pub few : Counts R (R .mostRecords) (tallied r modes')
   pub written : slice' ≡ over (numbersOf R (recordsOf R s)) slice
 
 -- The log was read, and has so many records, the first at this place, and this heading.

@@ -4,17 +4,17 @@
 ghost use Prim.Native.Nat.{_+_, _-_, _*_, _%_, _<_, _≤_};
 ghost use mathlib.Core.Bool.{true};
 ghost use mathlib.Core.Path.{_≡_};
-ghost use lib.ListN.{drop, getD, length, set, take};
+ghost use lib.ListN.{drop, getD, length, replicate, set, take};
 ghost use Rattle.rules.specs.Arguments.{among};
 ghost use Rattle.rules.specs.Fields.{emptyOr, errorCall, locator, newMark};
-ghost use Rattle.rules.specs.Judging.{classNumber, verdictNumber, zeroTotals};
+ghost use Rattle.rules.specs.Judging.{classNumber, modeNumbers, verdictNumber, zeroModes, zeroTotals};
 ghost use Rattle.rules.specs.Rules.{base};
 ghost use Rattle.rules.specs.Text.{numberOf, same};
 ghost use Rattle.fields.specs.Field.{textAt, endOf};
 ghost use Rattle.reader.specs.Contact.{between, claimedAt, fieldStart, valueBy};
 ghost use Rattle.reader.specs.Noted.{contactsRead, listed};
 ghost use Rattle.judge.specs.Bounds.{Closable, Countable};
-ghost use Rattle.judge.specs.Count.{addRecord, closing, worthIf};
+ghost use Rattle.judge.specs.Count.{addRecord, closing, modePlace, modesAfter, modesIn, noTally, tallied, worthIf};
 ghost use Rattle.judge.specs.Judge.{judgedOf, verdictsAfterwards, weighedOf};
 ghost use Rattle.judge.specs.Parts.{Ahead, First, Keyed, Lying, keyOf, keptTexts, numberOfSquare, partBy, seek, squareThere};
 ghost use Rattle.judge.specs.Said.{classBy, verdictBy};
@@ -25,6 +25,7 @@ use places::Declared;
 use reader::Heading;
 use reader::ReadAnswer;
 use rules::Class;
+use rules::Modes;
 use rules::Refusal;
 use rules::Totals;
 use rules::Verdict;
@@ -162,6 +163,21 @@ fn claims_duplicate(s: &[u8], pointsend: usize) -> bool
 {
     let last = part_end(s, third_mark(s, pointsend)) + 1;
     header::begins_with(b"D", &s[last..])
+}
+
+// How many modes there are: ten codes, and none. A code is counted at its own number, and a blank mode last.
+pub const MODES: usize = 11;
+
+const BLANK: usize = 10;
+
+// Where a mode is counted, by the character at which its field begins: its code, or the semicolon behind a blank one.
+fn mode_place(first: u8) -> usize
+    ensures { λ r. ⌜ r ≡ modePlace first ⌝ }
+{
+    if fields::is_digit(first) {
+        return (first - 48) as usize;
+    }
+    BLANK
 }
 
 // The key that a length and two characters make.
@@ -338,10 +354,11 @@ struct Kept {
     exchanges: usize,
 }
 
-// What is said of a record, what it brings, and what is kept after it.
+// What is said of a record, what it brings and by which mode, and what is kept after it. One that is not credited brings nothing, by no mode.
 struct Step {
     verdict: Verdict,
     worth: u64,
+    mode: usize,
     kept: Kept,
 }
 
@@ -364,10 +381,11 @@ fn class_of(s: &[u8], p: Noted, end: usize, calls: &[u16], keys: &[u16], m: usiz
     class_by(false, is_kept(s, calls, keys, m, p.call), false)
 }
 
-// A credited record: its marks, what it is worth, and what is kept of it. Its call's key stands behind the others already.
+// A credited record, whose mode is known: its marks, what it is worth, and what is kept of it. Its call's key stands behind the others already.
 fn credited_next(
     s: &[u8],
     p: Noted,
+    mode: usize,
     kept: Kept,
     calls: &mut [u16],
     exchanges: &mut [u16],
@@ -375,7 +393,7 @@ fn credited_next(
     squares: &mut [u16],
 ) -> Step
     requires { ⌜ CreditReady base (now s) p kept (now calls) (now exchanges) (now exchangekeys) (now squares) ⌝ }
-    ensures { λ r. ⌜ Credits base (now (s .entry)) p kept (now (calls .entry)) (now (exchanges .entry)) (now (exchangekeys .entry)) (now (squares .entry)) r (now (calls .exit)) (now (exchanges .exit)) (now (exchangekeys .exit)) (now (squares .exit)) ⌝ }
+    ensures { λ r. ⌜ Credits base (now (s .entry)) p mode kept (now (calls .entry)) (now (exchanges .entry)) (now (exchangekeys .entry)) (now (squares .entry)) r (now (calls .exit)) (now (exchanges .exit)) (now (exchangekeys .exit)) (now (squares .exit)) ⌝ }
 {
     let end = part_end(s, p.exchange);
     let exchange = new_part(s, exchanges, exchangekeys, kept.exchanges, p.exchange, end);
@@ -392,6 +410,7 @@ fn credited_next(
     Step {
         verdict,
         worth: worth_at(s, p.points),
+        mode,
         kept: after,
     }
 }
@@ -417,23 +436,39 @@ fn judge_next(
     let class = class_of(s, p, end, calls, callkeys, m);
     let number = class_number(class);
     if number == 0 {
-        return credited_next(s, p, kept, calls, exchanges, exchangekeys, squares);
+        let mode = mode_place(s[end + 1]);
+        return credited_next(s, p, mode, kept, calls, exchanges, exchangekeys, squares);
     }
     let verdict = verdict_by(class, false, false, false);
     Step {
         verdict,
         worth: 0,
+        mode: 0,
         kept,
     }
 }
 
 // # The totals
 
-// The totals after one more credited record.
-fn credited_more(t: Totals, worth: u64, v: Verdict) -> Totals
-    requires { ⌜ Countable base t worth v × (v .class ≡ Class.Credited) ⌝ }
-    ensures { λ r. ⌜ r ≡ addRecord t worth v ⌝ }
+// What the records come to so far, but for their modes. These are counted in a list beside it.
+struct Tally {
+    credited: u64,
+    voids: u64,
+    duplicates: u64,
+    errors: u64,
+    points: u64,
+    squares: u64,
+    exchanges: u64,
+    countries: u64,
+}
+
+// The sums after one more credited record; its mode is counted.
+fn credited_more(t: Tally, modes: &mut [u64; MODES], worth: u64, mode: usize, v: Verdict) -> Tally
+    requires { ⌜ Countable base t (now modes) worth mode v × (v .class ≡ Class.Credited) ⌝ }
+    ensures totals { λ r. ⌜ tallied r (now (modes .exit)) ≡ addRecord (tallied t (now (modes .entry))) worth mode v ⌝ }
+    ensures list { λ r. ⌜ now (modes .exit) ≡ modesAfter (now (modes .entry)) mode v ⌝ }
 {
+    modes[mode] = 1 + modes[mode];
     let mut sums = t;
     sums.credited = 1 + t.credited;
     sums.points = worth + t.points;
@@ -443,15 +478,16 @@ fn credited_more(t: Totals, worth: u64, v: Verdict) -> Totals
     sums
 }
 
-// The totals after one more record: what it is worth, and what is said of it. The bonuses and the total wait for the last record.
-fn add_record(t: Totals, worth: u64, v: Verdict) -> Totals
-    requires { ⌜ Countable base t worth v ⌝ }
-    ensures { λ r. ⌜ r ≡ addRecord t worth v ⌝ }
+// What the records come to after one more: what it is worth, its mode, and what is said of it. The bonuses and the total wait for the last record.
+fn add_record(t: Tally, modes: &mut [u64; MODES], worth: u64, mode: usize, v: Verdict) -> Tally
+    requires { ⌜ Countable base t (now modes) worth mode v ⌝ }
+    ensures totals { λ r. ⌜ tallied r (now (modes .exit)) ≡ addRecord (tallied t (now (modes .entry))) worth mode v ⌝ }
+    ensures list { λ r. ⌜ now (modes .exit) ≡ modesAfter (now (modes .entry)) mode v ⌝ }
 {
     let mut sums = t;
     let class = v.class;
     match class {
-        Class::Credited => credited_more(t, worth, v),
+        Class::Credited => credited_more(t, modes, worth, mode, v),
         Class::Void => {
             sums.voids = 1 + t.voids;
             sums
@@ -467,10 +503,29 @@ fn add_record(t: Totals, worth: u64, v: Verdict) -> Totals
     }
 }
 
+// The counts in the list, by their names.
+fn modes_in(n: &[u64; MODES]) -> Modes
+    ensures { λ r. ⌜ r ≡ modesIn (now (n .entry)) ⌝ }
+{
+    Modes {
+        code0: n[0],
+        code1: n[1],
+        code2: n[2],
+        code3: n[3],
+        code4: n[4],
+        code5: n[5],
+        code6: n[6],
+        code7: n[7],
+        code8: n[8],
+        code9: n[9],
+        blank: n[10],
+    }
+}
+
 // The totals of all the records, with what the declared bonuses and multipliers make of them.
-fn closed(t: Totals, d: Declared) -> Totals
-    requires { ⌜ Closable base t d ⌝ }
-    ensures { λ r. ⌜ r ≡ closing t d ⌝ }
+fn closed(t: Tally, modes: &[u64; MODES], d: Declared) -> Totals
+    requires { ⌜ Closable base t (now modes) d ⌝ }
+    ensures { λ r. ⌜ r ≡ closing (tallied t (now (modes .entry))) d ⌝ }
 {
     let squares = t.squares * d.squarebonus;
     let exchanges = t.exchanges * d.exchangebonus;
@@ -489,6 +544,25 @@ fn closed(t: Totals, d: Declared) -> Totals
         exchangebonus: exchanges,
         countrybonus: countries,
         total: (t.points + squares + exchanges + countries) * multipliers,
+        modes: modes_in(modes),
+    }
+}
+
+fn no_modes() -> Modes
+    ensures { λ r. ⌜ r ≡ zeroModes ⌝ }
+{
+    Modes {
+        code0: 0,
+        code1: 0,
+        code2: 0,
+        code3: 0,
+        code4: 0,
+        code5: 0,
+        code6: 0,
+        code7: 0,
+        code8: 0,
+        code9: 0,
+        blank: 0,
     }
 }
 
@@ -508,6 +582,42 @@ pub fn no_totals() -> Totals
         exchangebonus: 0,
         countrybonus: 0,
         total: 0,
+        modes: no_modes(),
+    }
+}
+
+// The counts of the modes as a list: codes 0 to 9, then blank.
+pub fn mode_numbers(m: Modes) -> [u64; MODES]
+    ensures { λ r. ⌜ r ≡ modeNumbers m ⌝ }
+{
+    [
+        m.code0,
+        m.code1,
+        m.code2,
+        m.code3,
+        m.code4,
+        m.code5,
+        m.code6,
+        m.code7,
+        m.code8,
+        m.code9,
+        m.blank,
+    ]
+}
+
+// What no record comes to.
+fn no_tally() -> Tally
+    ensures { λ r. ⌜ r ≡ noTally ⌝ }
+{
+    Tally {
+        credited: 0,
+        voids: 0,
+        duplicates: 0,
+        errors: 0,
+        points: 0,
+        squares: 0,
+        exchanges: 0,
+        countries: 0,
     }
 }
 
@@ -523,9 +633,11 @@ fn walk_records(
     exchanges: &mut [u16],
     points: &[u16],
     pointsends: &[u16],
-) -> Totals
+    modes: &mut [u64; MODES],
+) -> Tally
     requires { ⌜ Weighable base (now log) n (now verdicts) (now calls) (now exchanges) (now points) (now pointsends) ⌝ }
-    ensures { λ r. ⌜ Weighs base (now (log .entry)) (now (verdicts .entry)) r (now (verdicts .exit)) ⌝ }
+    requires { ⌜ now modes ≡ replicate 11 0 ⌝ }
+    ensures { λ r. ⌜ Weighs base (now (log .entry)) (now (verdicts .entry)) r (now (verdicts .exit)) (now (modes .exit)) ⌝ }
 {
     let mut callkeys = [0u16; KEYS];
     let mut exchangekeys = [0u16; KEYS];
@@ -535,7 +647,7 @@ fn walk_records(
         squares: 0,
         exchanges: 0,
     };
-    let mut totals = no_totals();
+    let mut sums = no_tally();
     let mut i = 0;
     while i < n {
         let p = Noted {
@@ -556,11 +668,11 @@ fn walk_records(
         );
         let v = step.verdict;
         kept = step.kept;
-        totals = add_record(totals, step.worth, v);
+        sums = add_record(sums, modes, step.worth, step.mode, v);
         verdicts[i] = verdict_number(v);
         i += 1;
     }
-    totals
+    sums
 }
 
 // # The log
@@ -606,8 +718,18 @@ fn weigh_accepted(
             field: 0,
         });
     }
-    let sums = walk_records(log, records, verdicts, calls, exchanges, points, pointsends);
-    let totals = closed(sums, places::declared_at(log, heading.claims));
+    let mut modes = [0u64; MODES];
+    let sums = walk_records(
+        log,
+        records,
+        verdicts,
+        calls,
+        exchanges,
+        points,
+        pointsends,
+        &mut modes,
+    );
+    let totals = closed(sums, &modes, places::declared_at(log, heading.claims));
     Weighed::Done {
         totals,
         records,

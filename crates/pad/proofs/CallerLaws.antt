@@ -7,15 +7,18 @@ use mathlib.Core.Logic.{_⊎_, _↔_, inl, inr, ⊎-elim}
 use mathlib.Core.Path.{_≡_, refl}
 use mathlib.Core.List.{List, map}
 use lib.Dec.{leb}
-use lib.ListN.{length, length-map}
+use lib.ListN.{length, getD, length-map}
 use borrow.Author.Tests.{leb-true, leb-false}
 use Rattle.rules.specs.Text.{Text}
 use Rattle.rules.specs.Rules.{base}
-use Rattle.rules.specs.Judging.{zeroTotals}
+use Rattle.rules.specs.declared.Totals.{Totals}
+use Rattle.rules.specs.Judging.{modeNumbers, modesTogether, zeroTotals}
+use Rattle.rules.specs.Demands.{sumOver, AddUp}
 use Rattle.rules.specs.Reading.{Reading, accepted, refused, read}
-use Rattle.rules.specs.Answers.{respeltOfReading, Viewing, seen, unseen, view, listedOfView, Judgement, judged, unjudged, judge, numbersOfJudgement, Writing, written, unwritten, write, bytesOfWriting, over}
+use Rattle.rules.specs.Answers.{respeltOfReading, Viewing, seen, unseen, view, listedOfView, Judgement, judged, unjudged, judge, totalsOfJudgement, numbersOfJudgement, Writing, written, unwritten, write, bytesOfWriting, over}
 use Rattle.rules.proofs.Format.{accepted-when-written}
 use Rattle.rules.proofs.Refusals.{refused-reading}
+use Rattle.rules.proofs.ModeLaws.{modes-add-up}
 use Rattle.rules.proofs.Respelt.{spellings-counted}
 use Rattle.rules.proofs.GivenCalls.{zero-when-accepted, line-and-field-told}
 use Rattle.rules.specs.Mending.{Mending, mended, unmended, mendedText, changes, mend, bytesOfMending, kindsOfMending, linesOfMending}
@@ -51,6 +54,11 @@ unfolding judgementFace numbersOfJudgement over
 no-judgement (judged t vs) slice h = absurd (h refl)
 no-judgement (unjudged r) slice h = (refl, refl)
 
+-- The eleven counts, as the struct has them.
+modes-told : (t : Totals) → AddUp t → (length (modeNumbers (t .modes)) ≡ 11) × (sumOver 11 (λ k. getD (modeNumbers (t .modes)) k 0) ≡ t .credited)
+unfolding modeNumbers sumOver modesTogether
+modes-told t e = (refl, omega (arith, e))
+
 no-writing : (w : Writing) (slice : List ℕ) → (Accepts ((writtenFace w) .refusal) → ⊥) → ((writtenFace w) .length ≡ 0) × (over (bytesOfWriting w) slice ≡ slice)
 unfolding writtenFace bytesOfWriting over
 no-writing (written t) slice h = absurd (h refl)
@@ -85,12 +93,13 @@ told-by-view s k =
     }
 
 told-by-judge : (s : Text) (slice : List ℕ) → ToldByJudge s slice (judgementFace (judge base (length slice) s)) (over (numbersOfJudgement (judge base (length slice) s)) slice)
-unfolding judgementFace
+unfolding judgementFace totalsFace
 told-by-judge s slice =
     record {
       accepted = (zero-when-accepted base) .judging s (length slice);
       place = (line-and-field-told base) .judging s (length slice);
       refused = no-judgement (judge base (length slice) s) slice;
+      modes = modes-told (totalsOfJudgement (judge base (length slice) s)) ((modes-add-up base) .ofAnswers s (length slice));
     }
 
 told-by-write : (s : Text) (slice : List ℕ) → ToldByWrite s slice (writtenFace (write base (length slice) s)) (over (bytesOfWriting (write base (length slice) s)) slice)

@@ -4,7 +4,7 @@ use Prim.Native.Nat.{ℕ, _≤_}
 use mathlib.Core.Path.{_≡_}
 use mathlib.Core.Logic.{_↔_}
 use mathlib.Core.List.{List, map}
-use lib.ListN.{length}
+use lib.ListN.{length, getD}
 use Rattle.rules.specs.declared.Refusal.{Refusal}
 use Rattle.rules.specs.Text.{Text}
 use Rattle.rules.specs.Rules.{base}
@@ -15,6 +15,7 @@ use Rattle.rules.specs.Writing.{writtenBack}
 use Rattle.rules.specs.Reading.{refusal, read}
 use Rattle.rules.specs.Answers.{view, judge, numbersOfJudgement, write, bytesOfWriting, over}
 use Rattle.rules.specs.Mending.{mendedText, changes, mend, bytesOfMending, kindsOfMending, linesOfMending}
+use Rattle.rules.specs.Demands.{sumOver}
 use Rattle.rules.specs.Given.{LineAndField}
 use Rattle.mender.specs.Answer.{roomsOf}
 use Rattle.pad.specs.declared.SumpquinceRefusal.{SumpquinceRefusal}
@@ -51,13 +52,14 @@ pub record ToldByView (s : Text) (k : ℕ) (v : SumpquinceView) : Type 0 where
   pub listed : v .listed ≤ 1
 
 -- sumpquince_judge, with the slice as it is handed over and as it is afterwards: an accepted log of no more records than the slice has bytes;
--- "the totals are then zero and lent memory is as it was handed over".
+-- "the totals are then zero and lent memory is as it was handed over". Accepted or not, the eleven counts of modes add up to the credited ones.
 pub record ToldByJudge (s : Text) (slice : List ℕ) (j : SumpquinceJudgement) (afterwards : List ℕ) : Type 0 where
   pub accepted :
       Accepts (j .refusal) ↔ ((log : Log) × IsWrittenAs base s log × (length (log .records) ≤ length slice))
   pub place : LineAndField (refusalIn (j .refusal))
   pub refused :
       (Accepts (j .refusal) → ⊥) → (j ≡ totalsFace (j .refusal) zeroTotals) × (afterwards ≡ slice)
+  pub modes : (length (j .modes) ≡ 11) × (sumOver 11 (λ k. getD (j .modes) k 0) ≡ j .credited)
 
 -- sumpquince_write, likewise: an accepted log whose result is no longer than a log may be, nor than the slice.
 pub record ToldByWrite (s : Text) (slice : List ℕ) (w : SumpquinceWritten) (afterwards : List ℕ) : Type 0 where

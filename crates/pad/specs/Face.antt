@@ -6,6 +6,7 @@ use mathlib.Core.Bool.{Bool, cond}
 use lib.ListN.{length}
 use Rattle.rules.specs.declared.Refusal.{Refusal}
 use Rattle.rules.specs.declared.Totals.{Totals}
+use Rattle.rules.specs.Judging.{modeNumbers}
 use Rattle.rules.specs.Reading.{Reading}
 use Rattle.rules.specs.Answers.{Viewing, Judgement, refusalOfReading, recordsOfReading, respeltOfReading, refusalOfView, startOfView, viewed, listedOfView, refusalOfJudgement, totalsOfJudgement, Writing, refusalOfWriting, bytesOfWriting}
 use Rattle.pad.specs.declared.SumpquinceRefusal.{SumpquinceRefusal}
@@ -40,6 +41,7 @@ viewFace v =
 
 -- The twelve totals, behind a refusal.
 unfoldable pub totalsFace : SumpquinceRefusal → Totals → SumpquinceJudgement
+unfolding modeNumbers
 totalsFace refusal t =
     record {
       refusal = refusal;
@@ -55,6 +57,7 @@ totalsFace refusal t =
       exchangebonus = t .exchangebonus;
       countrybonus = t .countrybonus;
       total = t .total;
+      modes = modeNumbers (t .modes);
     }
 
 unfoldable pub judgementFace : Judgement → SumpquinceJudgement

@@ -54,6 +54,7 @@ pub struct SumpquinceJudgement {
     pub exchangebonus: u64,
     pub countrybonus: u64,
     pub total: u64,
+    pub modes: [u64; judge::MODES],
 }
 
 #[repr(C)]
@@ -103,6 +104,8 @@ fn one_if(said: bool) -> u64
 fn totals_face(refusal: SumpquinceRefusal, t: Totals) -> SumpquinceJudgement
     ensures { λ f. ⌜ f ≡ totalsFace refusal t ⌝ }
 {
+    let modes = t.modes;
+    let numbers = judge::mode_numbers(modes);
     SumpquinceJudgement {
         refusal: refusal,
         credited: t.credited,
@@ -117,6 +120,7 @@ fn totals_face(refusal: SumpquinceRefusal, t: Totals) -> SumpquinceJudgement
         exchangebonus: t.exchangebonus,
         countrybonus: t.countrybonus,
         total: t.total,
+        modes: numbers,
     }
 }
 

@@ -21,7 +21,7 @@ use Rattle.rules.proofs.Format.{accepted-when-written, render-law}
 use Rattle.rules.proofs.LogLaws.{front, lines-split}
 use Rattle.rules.proofs.FieldLaws.{fields-plain}
 use Rattle.fields.specs.Field.{textAt, endOf}
-use Rattle.reader.specs.Contact.{fieldStart, valueBy, lastEnd, contactAt, behind, between, claimedAt, Describes, Holds}
+use Rattle.reader.specs.Contact.{fieldStart, valueBy, lastEnd, contactAt, behind, between, claimedAt, modeAt, Describes, Holds}
 use Rattle.reader.proofs.PlaceLaws.{start-more, start-next, text-by-end}
 use Rattle.reader.proofs.FieldsHeld.{texts-held, starts-held}
 
@@ -88,11 +88,16 @@ module _ (R : Rules) (s : Text) (at : ℕ) (q : Qso) (qs : List Qso) (h : Stand 
       by [] h = refl
       by (c ∷ t) h = subst (λ (u : Text). begins duplicateMark (u ++ 13 ∷ 10 ∷ recordLines qs) ≡ same u duplicateMark) (same→equal duplicateMark (c ∷ t) h) refl
 
+  mode-is : modeAt s (endOf s (fieldStart s at 2)) ≡ q .mode
+  unfolding fieldsOf
+  mode-is = ap (λ (n : ℕ). between s n (endOf s n)) (start-next s at 2) ∙ between-is 3 (omega arith)
+
   pub describes : Describes s (contactAt R s at) q
   unfolding contactAt fieldsOf isError claimsCountry
   describes =
       record {
         callIs = between-is 2 (omega arith);
+        modeIs = mode-is;
         exchangeIs = between-is 8 (omega arith);
         locatorIs = between-is 9 (omega arith);
         pointsAre = between-is 10 (omega arith);

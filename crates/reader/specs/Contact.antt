@@ -69,9 +69,14 @@ between s a e = take (e - a) (drop a s)
 abbrev pub claimedAt : Text → ℕ → Bool
 claimedAt s pointsend = begins duplicateMark (drop (fieldStart s (pointsend + 1) 3) s)
 
+-- The mode stands behind the call.
+abbrev pub modeAt : Text → ℕ → Text
+modeAt s callend = between s (callend + 1) (endOf s (callend + 1))
+
 -- What is told at a place is true of this record.
 pub record Describes (s : Text) (c : Contact) (q : Qso) : Type 0 where
   pub callIs : between s (c .call) (c .callend) ≡ q .call
+  pub modeIs : modeAt s (c .callend) ≡ q .mode
   pub exchangeIs : between s (c .exchange) (c .exchangeend) ≡ q .exchange
   pub locatorIs : between s (c .locator) (c .locatorend) ≡ q .locator
   pub pointsAre : between s (c .points) (c .pointsend) ≡ q .points

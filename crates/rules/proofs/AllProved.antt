@@ -9,6 +9,7 @@ use Rattle.rules.proofs.Falls.{striking-rule}
 use Rattle.rules.proofs.Format.{accepted-when-written, accepted-format}
 use Rattle.rules.proofs.GivenCalls.{given-exactly-when, zero-when-accepted, line-and-field-told}
 use Rattle.rules.proofs.MenderKept.{the-mender}
+use Rattle.rules.proofs.ModeLaws.{modes-add-up}
 use Rattle.rules.proofs.PremiseNeeded.{premise-is-needed}
 use Rattle.rules.proofs.Refusals.{every-input, refused-with, refused-reading, refused-judging, refused-writing, refused-view}
 use Rattle.rules.proofs.Respelt.{either-case, spellings-counted}
@@ -40,6 +41,7 @@ of-any-rules R room =
       classesAndMarksAsDefined = classes-as-defined R;
       totalsAsDefined = totals-as-defined R;
       fourCountsAddUp = four-counts R;
+      modesAddUp = modes-add-up R;
       totalIsBounded = total-is-bounded R;
       writingChangesOnlyTheNamed = writing-changes R;
       writingSetsTheNamed = writing-sets-the-named R;

@@ -17,7 +17,7 @@ use Rattle.rules.specs.Rules.{Rules, base}
 use Rattle.rules.specs.Fields.{Qso, isError, pointsRule, fieldRules}
 use Rattle.rules.specs.Arguments.{Rule, anything, countBonusMultiplier, Entry, entries, each, count, bonus, multiplier, part, meets}
 use Rattle.rules.specs.Log.{Log, argumentIn, argument, argumentRules, conjunction, recordRules, valid}
-use Rattle.rules.specs.Judging.{is, classOf, square, isNew, claimsCountry, verdictOf, creditedAfter, verdictsAfter, verdicts, countOf, creditedPoints, Declared, declared, multipliers, totalsOf, totals, totalsOfLog}
+use Rattle.rules.specs.Judging.{is, classOf, square, isNew, claimsCountry, verdictOf, creditedAfter, verdictsAfter, verdicts, countOf, creditedSum, creditedPoints, Declared, declared, multipliers, totalsOf, totals, totalsOfLog}
 use Rattle.rules.specs.Demands.{mostTotal, TotalIsBounded}
 use Rattle.rules.proofs.Tests.{so}
 use Rattle.rules.proofs.NumberLaws.{number-from, number-below}
@@ -65,7 +65,7 @@ module _ (R : Rules) where
   points-bounded : (credited qs : List Qso) →
       T (recordRules R qs) →
       creditedPoints qs (verdictsAfter R credited qs) ≤ creditedCount credited qs * (10 ^ (R .pointsDigits) - 1)
-  unfolding verdictsAfter countOf creditedPoints recordRules
+  unfolding verdictsAfter countOf creditedSum recordRules
   points-bounded credited [] t = omega arith
   points-bounded credited (q ∷ qs) t =
       let class = classOf R credited q in

@@ -17,7 +17,7 @@ use Rattle.rules.specs.Rules.{Rules}
 use Rattle.rules.specs.Fields.{Qso, isError}
 use Rattle.rules.specs.Arguments.{among}
 use Rattle.rules.specs.Log.{Log}
-use Rattle.rules.specs.Judging.{Declared, declared, multipliers, is, some, sameCall, worked, claimsDuplicate, mayRepeat, classOf, claimsPoints, square, isNew, claimsCountry, verdictOf, creditedAfter, verdictsAfter, verdicts, verdictsOfLog, countOf, creditedPoints, totalsOf, totals, totalsOfLog}
+use Rattle.rules.specs.Judging.{Declared, declared, multipliers, is, some, sameCall, worked, claimsDuplicate, mayRepeat, classOf, claimsPoints, square, isNew, claimsCountry, verdictOf, creditedAfter, verdictsAfter, verdicts, verdictsOfLog, countOf, creditedSum, creditedPoints, totalsOf, totals, totalsOfLog}
 use Rattle.rules.specs.Striking.{Places, later, kept, strike, struckWorth}
 use Rattle.rules.specs.Demands.{DuplicatesClaimNothing, StrikesCheaply, StrikingRule}
 use Rattle.rules.proofs.Passing.{both, first, second, left, right, one-of, failed, equal-tests}
@@ -176,7 +176,7 @@ countryOf q = tally (worthy q && claimsCountry q)
 
 module _ (R : Rules) where
   clean-points : (credited qs : List Qso) → Clean R credited qs → creditedPoints qs (verdictsAfter R credited qs) ≡ sumOf pointsOf qs
-  unfolding creditedPoints verdictsAfter verdictOf sumOf
+  unfolding creditedSum verdictsAfter verdictOf sumOf
   clean-points credited [] c = refl
   clean-points credited (q ∷ qs) c = rw (clean-points (creditedAfter (classOf R credited q) q credited) qs (c .1), c .0)
 

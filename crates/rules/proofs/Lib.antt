@@ -35,6 +35,7 @@ pub mod WritingStable
 pub mod WritingAnswer
 pub mod WritingSets
 pub mod TotalLaws
+pub mod ModeLaws
 pub mod OneAnswer
 pub mod MendingLaws
 pub mod MendingGiven

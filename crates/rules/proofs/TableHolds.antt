@@ -8,7 +8,7 @@ use mathlib.Core.List.{List, _∷_, _++_, map, List·Memᴰ, List·Memᴰ·head,
 use Rattle.rules.specs.Cases.{Case, answer}
 use Rattle.rules.specs.TableArguments.{lineCases, argumentCases, argumentCharacterCases, bandCases, keywordCases, dueCases, spellingCases}
 use Rattle.rules.specs.TableFields.{fieldCases, fieldCharacterCases, calendarCases}
-use Rattle.rules.specs.TableLogs.{case12Cases, readingCases, lendingCases, oldSpellingCases, squareCases, wrongTurnCases, secondTryCases, wideCases, samenessCases, valueCases, limitCases}
+use Rattle.rules.specs.TableLogs.{case12Cases, readingCases, lendingCases, oldSpellingCases, squareCases, wrongTurnCases, secondTryCases, modeCases, wideCases, samenessCases, valueCases, limitCases}
 use Rattle.rules.specs.TableMending.{lineEndCases, spaceCases, countCases, placeCases, mendedCases, mendingRefusedCases, mendingRoomCases, mendingLimitCases}
 use Rattle.rules.specs.Table.{table}
 
@@ -100,6 +100,10 @@ secondTryCases-hold : answers secondTryCases ≡ says secondTryCases
 unfolding answer secondTryCases
 secondTryCases-hold = refl
 
+modeCases-hold : answers modeCases ≡ says modeCases
+unfolding answer modeCases
+modeCases-hold = refl
+
 wideCases-hold : answers wideCases ≡ says wideCases
 unfolding answer wideCases
 wideCases-hold = refl
@@ -168,6 +172,7 @@ table-holds =
     also computed squareCases squareCases-hold
     also computed wrongTurnCases wrongTurnCases-hold
     also computed secondTryCases secondTryCases-hold
+    also computed modeCases modeCases-hold
     also computed wideCases wideCases-hold
     also computed samenessCases samenessCases-hold
     also computed valueCases valueCases-hold

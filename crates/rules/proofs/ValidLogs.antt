@@ -10,7 +10,7 @@ use lib.ListN.{length, getD}
 use borrow.Author.Tests.{leb-true}
 use Rattle.rules.specs.Text.{bytes, same, value, valueAfter, numberOf}
 use Rattle.rules.specs.Rules.{Rules}
-use Rattle.rules.specs.Fields.{Qso, isError, pointsRule, fieldRules}
+use Rattle.rules.specs.Fields.{Qso, isError, mode, pointsRule, fieldRules}
 use Rattle.rules.specs.Arguments.{entries}
 use Rattle.rules.specs.Log.{Log, conjunction, recordRules, valid, argumentRules}
 use Rattle.rules.specs.Judging.{claimsPoints}
@@ -37,6 +37,10 @@ module _ (R : Rules) where
   pub points-ruled : (q : Qso) → T (conjunction (fieldRules R q)) → T (pointsRule R q)
   unfolding fieldRules
   points-ruled q t = rule-at (fieldRules R q) 10 t
+
+  pub mode-ruled : (q : Qso) → T (conjunction (fieldRules R q)) → T (mode (q .mode))
+  unfolding fieldRules
+  mode-ruled q t = rule-at (fieldRules R q) 3 t
 
   -- "If the call is ERROR .. points must be `0`": so it claims none.
   pub error-claims-nothing : (q : Qso) → T (pointsRule R q) → T (isError q) → T (claimsPoints q) → ⊥

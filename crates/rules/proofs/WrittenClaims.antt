@@ -14,7 +14,7 @@ use Rattle.rules.specs.Rules.{Rules}
 use Rattle.rules.specs.Fields.{Qso}
 use Rattle.rules.specs.Arguments.{Entry, entries, part}
 use Rattle.rules.specs.Log.{Log, argumentIn, argument, keywordsOf}
-use Rattle.rules.specs.Judging.{classNumber, is, Declared, declared, creditedPoints, totalsOf, totals, totalsOfLog, verdictsOfLog}
+use Rattle.rules.specs.Judging.{classNumber, is, Declared, declared, creditedSum, creditedPoints, creditedIn, modesOf, totalsOf, totals, totalsOfLog, verdictsOfLog}
 use Rattle.rules.specs.Writing.{Claim, recounted, claims, claimed, writtenArguments, writtenRecord, writtenRecords, writtenBack}
 use Rattle.rules.proofs.TextLaws.{same-eq}
 use Rattle.rules.proofs.NumberLaws.{digits-all}
@@ -97,15 +97,42 @@ class-points Void p = refl
 class-points Duplicate p = refl
 class-points Error p = refl
 
+-- A sum over the credited records stays, if writing a credited record back does not move its number.
+sum-kept : (f : Qso → ℕ) → ((v : Verdict) (q : Qso) → cond (is Credited (v .class)) (f (writtenRecord v q)) 0 ≡ cond (is Credited (v .class)) (f q) 0) →
+    (vs : List Verdict) (qs : List Qso) →
+    creditedSum f (writtenRecords vs qs) vs ≡ creditedSum f qs vs
+unfolding creditedSum writtenRecords
+sum-kept f h [] qs = refl
+sum-kept f h (v ∷ vs) [] = refl
+sum-kept f h (v ∷ vs) (q ∷ qs) = ap₂ _+_ (h v q) (sum-kept f h vs qs)
+
 points-kept : (vs : List Verdict) (qs : List Qso) → creditedPoints (writtenRecords vs qs) vs ≡ creditedPoints qs vs
-unfolding creditedPoints writtenRecords writtenRecord
-points-kept [] qs = refl
-points-kept (v ∷ vs) [] = refl
-points-kept (v ∷ vs) (q ∷ qs) = ap₂ _+_ (class-points (v .class) (q .points)) (points-kept vs qs)
+unfolding writtenRecord
+points-kept = sum-kept (λ q. value (q .points)) (λ v q. class-points (v .class) (q .points))
+
+-- W4: the mode is copied.
+modes-kept : (vs : List Verdict) (qs : List Qso) → modesOf (writtenRecords vs qs) vs ≡ modesOf qs vs
+unfolding modesOf writtenRecord
+modes-kept vs qs =
+    let stays : (mode : Text) → creditedIn mode (writtenRecords vs qs) vs ≡ creditedIn mode qs vs = λ mode. sum-kept (λ q. cond (same (q .mode) mode) 1 0) (λ v q. refl) vs qs in
+    λ i.
+    record {
+      code0 = stays (bytes "0") i;
+      code1 = stays (bytes "1") i;
+      code2 = stays (bytes "2") i;
+      code3 = stays (bytes "3") i;
+      code4 = stays (bytes "4") i;
+      code5 = stays (bytes "5") i;
+      code6 = stays (bytes "6") i;
+      code7 = stays (bytes "7") i;
+      code8 = stays (bytes "8") i;
+      code9 = stays (bytes "9") i;
+      blank = stays (bytes "") i;
+    }
 
 totals-of-written : (R : Rules) (d : Declared) (vs : List Verdict) (qs : List Qso) → totalsOf R d (writtenRecords vs qs) vs ≡ totalsOf R d qs vs
 unfolding totalsOf
-totals-of-written R d vs qs = rw (points-kept vs qs)
+totals-of-written R d vs qs = rw (points-kept vs qs, modes-kept vs qs)
 
 module _ (R : Rules) (log : Log) where
   totals-by-verdicts : (l : Log) → totalsOfLog R l ≡ totalsOf R (declared l) (l .records) (verdictsOfLog R l)

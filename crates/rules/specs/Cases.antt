@@ -15,7 +15,7 @@ use Rattle.rules.specs.Rules.{base}
 use Rattle.rules.specs.Fields.{dayExists, fullYear}
 use Rattle.rules.specs.Arguments.{Rule, meets}
 use Rattle.rules.specs.Log.{Log, render, valid}
-use Rattle.rules.specs.Judging.{declared, verdictNumber, verdictsOfLog, totalsOfLog}
+use Rattle.rules.specs.Judging.{declared, verdictNumber, verdictsOfLog, modeNumbers, modesTogether, totalsOfLog}
 use Rattle.rules.specs.Writing.{writtenBack, unclaimed}
 use Rattle.rules.specs.Reading.{FirstLine, aLine, noLine, firstLine, RecordRule, keeps, breaks, recordRule, Reading, accepted, refused, read, step}
 use Rattle.rules.specs.Answers.{view, refusalOfView, startOfView, viewed, listedOfView, judge, refusalOfJudgement, totalsOfJudgement, numbersOfJudgement, write, refusalOfWriting, bytesOfWriting, refusalOfReading, recordsOfReading, respeltOfReading, over}
@@ -48,8 +48,9 @@ pub data Question : Type 0 where
   isValidWith : (Log → Log) → Text → Question
   -- of a log and a slice of so many bytes: number, line, field and verdicts
   isJudged : ℕ → Text → Question
-  -- of a log: the twelve totals; what the desk program writes
+  -- of a log: the twelve totals; the eleven counts of modes, and all of them together; what the desk program writes
   comesTo : Text → Question
+  comesBy : Text → Question
   isShown : Text → Question
   -- of a log and a slice of so many bytes: number, line, field, and the bytes written
   isWritten : ℕ → Text → Question
@@ -138,7 +139,7 @@ unfolding read base render strike totalsOfLog verdictsOfLog verdictNumber
 afterStrike struck log = ofLog judgedIn (read base (render (strike struck log)))
 
 unfoldable pub answer : Question → List ℕ
-unfolding firstLine step dayExists fullYear sameButCase meets recordRule read refusalOfReading recordsOfReading respeltOfReading valid render judge refusalOfJudgement numbersOfJudgement totalsOfJudgement desk write refusalOfWriting bytesOfWriting over unclaimed view refusalOfView startOfView viewed listedOfView afterStrike writtenBack strike struckWorth declared verdictsOfLog placeAfter mendedText changes mend refusalOfMending bytesOfMending kindsOfMending linesOfMending paired base
+unfolding firstLine step dayExists fullYear sameButCase meets recordRule read refusalOfReading recordsOfReading respeltOfReading valid render judge refusalOfJudgement numbersOfJudgement totalsOfJudgement modeNumbers modesTogether desk write refusalOfWriting bytesOfWriting over unclaimed view refusalOfView startOfView viewed listedOfView afterStrike writtenBack strike struckWorth declared verdictsOfLog placeAfter mendedText changes mend refusalOfMending bytesOfMending kindsOfMending linesOfMending paired base
 answer (hasLine s) = lineIn (firstLine base s)
 answer (leads due l) = nextIn (step base due l)
 answer (isYear yy) = fullYear yy ∷ []
@@ -153,6 +154,8 @@ answer (isLog s) = ofLog (λ log. truth (valid base log) ++ render log) (read ba
 answer (isValidWith change s) = ofLog (λ log. truth (valid base (change log))) (read base s)
 answer (isJudged room s) = let j = judge base room s in paper (refusalOfJudgement j) ++ numbersOfJudgement j
 answer (comesTo s) = sums (totalsOfJudgement (judge base 999 s))
+answer (comesBy s) =
+    let m = (totalsOfJudgement (judge base 999 s)) .modes in modeNumbers m ++ modesTogether m ∷ []
 answer (isShown s) = desk base s
 answer (isWritten room s) = let w = write base room s in paper (refusalOfWriting w) ++ bytesOfWriting w
 answer (leavesJudging slice s) = over (numbersOfJudgement (judge base (length slice) s)) slice

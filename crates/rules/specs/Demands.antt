@@ -5,8 +5,8 @@ use Prim.Native.Nat.{ℕ, zero, suc, _+_, _*_, _-_, _^_, _≤_, _<_}
 use Prim.Native.String.{String}
 use mathlib.Core.Path.{_≡_}
 use mathlib.Core.Logic.{_⊎_, _↔_}
-use mathlib.Core.Bool.{Bool, false, cond, not}
-use mathlib.Core.List.{List, [], _∷_}
+use mathlib.Core.Bool.{Bool, false, cond, not, _&&_}
+use mathlib.Core.List.{List, [], _∷_, map}
 use lib.Dec.{T}
 use lib.ListN.{length, getD, take, drop}
 use Rattle.rules.specs.declared.Refusal.{Refusal}
@@ -19,7 +19,7 @@ use Rattle.rules.specs.Rules.{Rules, base}
 use Rattle.rules.specs.Fields.{Qso, isError, fieldsOf}
 use Rattle.rules.specs.Arguments.{entries, among}
 use Rattle.rules.specs.Log.{Log, argument, keywordsOf, keywordRules, valid, render, IsWrittenAs, FollowsTheFormat}
-use Rattle.rules.specs.Judging.{Declared, is, claimsPoints, claimsDuplicate, sameCall, square, exchangeOf, claimsCountry, verdicts, multipliers, declared, verdictsOfLog, totalsOfLog, zeroTotals}
+use Rattle.rules.specs.Judging.{Declared, is, claimsPoints, claimsDuplicate, sameCall, square, exchangeOf, claimsCountry, verdicts, modeNumbers, modesTogether, multipliers, declared, verdictsOfLog, totalsOfLog, zeroTotals}
 use Rattle.rules.specs.Writing.{writtenBack, unclaimed}
 use Rattle.rules.specs.Reading.{accepted, refused, refusal, lines, read}
 use Rattle.rules.specs.Answers.{recordsOfReading, respeltOfReading, unseen, view, startOfView, viewed, listedOfView, unjudged, judge, totalsOfJudgement, numbersOfJudgement, written, unwritten, write, bytesOfWriting, over}
@@ -219,6 +219,27 @@ pub record SpellingsAreTold (R : Rules) (s : Text) (log : Log) : Type 0 where
 abbrev pub SpellingsAreCounted : Rules → Type 0
 SpellingsAreCounted R = (s : Text) (log : Log) → read R s ≡ accepted log → SpellingsAreTold R s log
 
+-- The modes: "codes 0 to 9 and then blank".
+unfoldable pub theModes : List Text
+theModes =
+    bytes "0"
+    ∷ bytes "1"
+    ∷ bytes "2"
+    ∷ bytes "3"
+    ∷ bytes "4"
+    ∷ bytes "5"
+    ∷ bytes "6"
+    ∷ bytes "7"
+    ∷ bytes "8"
+    ∷ bytes "9"
+    ∷ bytes ""
+    ∷ []
+
+-- W4: "a count of credited records for each mode code and for a blank mode".
+abbrev pub creditedBy : Rules → List Qso → Text → ℕ
+creditedBy R qs mode =
+    howMany (length qs) (λ j. is Credited (classAt R qs j) && same ((qsoAt qs j) .mode) mode)
+
 -- "So four counts, each defined over the list of records"; "Countries are counted by the claimed New-DXCC marks on credited records. P is the
 -- sum of credited points. A bonus is the number of new ones times the declared bonus. Total = (P + three bonuses) x the three declared
 -- multipliers of CWWLs, CExcs and CDXCs".
@@ -239,6 +260,7 @@ pub record TotalsAre (R : Rules) (d : Declared) (qs : List Qso) (t : Totals) : T
       t .total
       ≡ (t .points + t .squarebonus + t .exchangebonus + t .countrybonus)
       * (d .squareMultiplier * d .exchangeMultiplier * d .countryMultiplier)
+  pub modes : modeNumbers (t .modes) ≡ map (creditedBy R qs) theModes
 
 -- "CWWLs, CExcs, CDXCs: count, bonus, multiplier"
 abbrev pub Declares : Log → String → ℕ → ℕ → Type 0
@@ -265,6 +287,15 @@ FourCountsAddUp R =
     + (totalsOfLog R log) .duplicates
     + (totalsOfLog R log) .errors
     ≡ length (log .records)
+
+-- W4: "They add up to the credited count wherever totals are made or kept": in the totals of every log that keeps the rules, and in every answer
+-- of judging, whatever is handed over and however long the slice is; a refusal has zeros.
+abbrev pub AddUp : Totals → Type 0
+AddUp t = modesTogether (t .modes) ≡ t .credited
+
+pub record ModesAddUp (R : Rules) : Type 0 where
+  pub ofLogs : (log : Log) → T (valid R log) → AddUp (totalsOfLog R log)
+  pub ofAnswers : (s : Text) (room : ℕ) → AddUp (totalsOfJudgement (judge R room s))
 
 -- The most that so many records can come to, each with the most points and all three bonuses at their most, times three multipliers.
 unfoldable pub mostTotal : Rules → ℕ
@@ -452,6 +483,7 @@ pub record TheThreeDemands (R : Rules) : Type 0 where
   pub classesAndMarksAsDefined : ClassesAndMarksAsDefined R
   pub totalsAsDefined : TotalsAsDefined R
   pub fourCountsAddUp : FourCountsAddUp R
+  pub modesAddUp : ModesAddUp R
   pub totalIsBounded : TotalIsBounded R
   pub writingChangesOnlyTheNamed : WritingChangesOnlyTheNamed R
   pub writingSetsTheNamed : WritingSetsTheNamed R

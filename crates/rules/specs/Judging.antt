@@ -8,6 +8,7 @@ use lib.ListN.{length, take}
 use Rattle.rules.specs.declared.Class.{Class}
 use Rattle.rules.specs.declared.Class.the-variants.{Credited, Void, Duplicate, Error}
 use Rattle.rules.specs.declared.Verdict.{Verdict}
+use Rattle.rules.specs.declared.Modes.{Modes}
 use Rattle.rules.specs.declared.Totals.{Totals}
 use Rattle.rules.specs.Text.{Text, bytes, same, empty, value}
 use Rattle.rules.specs.Rules.{Rules}
@@ -128,12 +129,68 @@ unfoldable pub countOf : (Verdict → Bool) → List Verdict → ℕ
 countOf f [] = 0
 countOf f (v ∷ vs) = cond (f v) 1 0 + countOf f vs
 
+-- The sum of a number over the credited records.
+unfoldable pub creditedSum : (Qso → ℕ) → List Qso → List Verdict → ℕ
+unfolding is
+creditedSum f [] vs = 0
+creditedSum f (q ∷ qs) [] = 0
+creditedSum f (q ∷ qs) (v ∷ vs) = cond (is Credited (v .class)) (f q) 0 + creditedSum f qs vs
+
 -- "P is the sum of credited points."
-unfoldable pub creditedPoints : List Qso → List Verdict → ℕ
-unfolding is value
-creditedPoints [] vs = 0
-creditedPoints (q ∷ qs) [] = 0
-creditedPoints (q ∷ qs) (v ∷ vs) = cond (is Credited (v .class)) (value (q .points)) 0 + creditedPoints qs vs
+abbrev pub creditedPoints : List Qso → List Verdict → ℕ
+creditedPoints qs vs = creditedSum (λ q. value (q .points)) qs vs
+
+-- W4: "a count of credited records for each mode code and for a blank mode": how many of them have this mode.
+abbrev pub creditedIn : Text → List Qso → List Verdict → ℕ
+creditedIn mode qs vs = creditedSum (λ q. cond (same (q .mode) mode) 1 0) qs vs
+
+unfoldable pub modesOf : List Qso → List Verdict → Modes
+unfolding creditedSum same
+modesOf qs vs =
+    record {
+      code0 = creditedIn (bytes "0") qs vs;
+      code1 = creditedIn (bytes "1") qs vs;
+      code2 = creditedIn (bytes "2") qs vs;
+      code3 = creditedIn (bytes "3") qs vs;
+      code4 = creditedIn (bytes "4") qs vs;
+      code5 = creditedIn (bytes "5") qs vs;
+      code6 = creditedIn (bytes "6") qs vs;
+      code7 = creditedIn (bytes "7") qs vs;
+      code8 = creditedIn (bytes "8") qs vs;
+      code9 = creditedIn (bytes "9") qs vs;
+      blank = creditedIn (bytes "") qs vs;
+    }
+
+-- "eleven numbers in all .. codes 0 to 9 and then blank"
+unfoldable pub modeNumbers : Modes → List ℕ
+modeNumbers m =
+    m .code0
+    ∷ m .code1
+    ∷ m .code2
+    ∷ m .code3
+    ∷ m .code4
+    ∷ m .code5
+    ∷ m .code6
+    ∷ m .code7
+    ∷ m .code8
+    ∷ m .code9
+    ∷ m .blank
+    ∷ []
+
+-- All eleven together.
+unfoldable pub modesTogether : Modes → ℕ
+modesTogether m =
+    m .code0
+    + m .code1
+    + m .code2
+    + m .code3
+    + m .code4
+    + m .code5
+    + m .code6
+    + m .code7
+    + m .code8
+    + m .code9
+    + m .blank
 
 -- The bonuses and multipliers of "CWWLs, CExcs, CDXCs: count, bonus, multiplier".
 pub record Declared : Type 0 where
@@ -170,7 +227,7 @@ totalBy R d p squares exchanges countries =
 
 -- "A bonus is the number of new ones times the declared bonus."
 unfoldable pub totalsOf : Rules → Declared → List Qso → List Verdict → Totals
-unfolding multipliers countOf is creditedPoints
+unfolding multipliers countOf is creditedSum value modesOf
 totalsOf R d qs vs =
     let p = creditedPoints qs vs in
     let squares = countOf (λ v. v .square) vs in
@@ -189,6 +246,7 @@ totalsOf R d qs vs =
       exchangebonus = exchanges * d .exchangeBonus;
       countrybonus = countries * d .countryBonus;
       total = totalBy R d p squares exchanges countries;
+      modes = modesOf qs vs;
     }
 
 unfoldable pub totals : Rules → Declared → List Qso → Totals
@@ -205,7 +263,24 @@ unfolding totals declared
 totalsOfLog R log = totals R (declared log) (log .records)
 
 -- What nothing comes to.
+unfoldable pub zeroModes : Modes
+zeroModes =
+    record {
+      code0 = 0;
+      code1 = 0;
+      code2 = 0;
+      code3 = 0;
+      code4 = 0;
+      code5 = 0;
+      code6 = 0;
+      code7 = 0;
+      code8 = 0;
+      code9 = 0;
+      blank = 0;
+    }
+
 unfoldable pub zeroTotals : Totals
+unfolding zeroModes
 zeroTotals =
     record {
       credited = 0;
@@ -220,4 +295,5 @@ zeroTotals =
       exchangebonus = 0;
       countrybonus = 0;
       total = 0;
+      modes = zeroModes;
     }

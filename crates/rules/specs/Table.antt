@@ -4,7 +4,7 @@ use mathlib.Core.List.{List, _++_}
 use Rattle.rules.specs.Cases.{Case}
 use Rattle.rules.specs.TableArguments.{lineCases, argumentCases, argumentCharacterCases, bandCases, keywordCases, dueCases, spellingCases}
 use Rattle.rules.specs.TableFields.{fieldCases, fieldCharacterCases, calendarCases}
-use Rattle.rules.specs.TableLogs.{case12Cases, readingCases, lendingCases, oldSpellingCases, squareCases, wrongTurnCases, secondTryCases, wideCases, samenessCases, valueCases, limitCases}
+use Rattle.rules.specs.TableLogs.{case12Cases, readingCases, lendingCases, oldSpellingCases, squareCases, wrongTurnCases, secondTryCases, modeCases, wideCases, samenessCases, valueCases, limitCases}
 use Rattle.rules.specs.TableMending.{lineEndCases, spaceCases, countCases, placeCases, mendedCases, mendingRefusedCases, mendingRoomCases, mendingLimitCases}
 
 unfoldable pub table : List Case
@@ -26,6 +26,7 @@ table =
     ++ squareCases
     ++ wrongTurnCases
     ++ secondTryCases
+    ++ modeCases
     ++ wideCases
     ++ samenessCases
     ++ valueCases

@@ -1,6 +1,6 @@
 -- The table's cases of whole logs.
 -- Assumes nothing.
-use Prim.Native.Nat.{ℕ, zero, suc, _-_, _+_}
+use Prim.Native.Nat.{ℕ, zero, suc, _-_, _+_, _*_}
 use Prim.Native.String.{String}
 use mathlib.Core.Bool.{Bool, true, false, _||_}
 use mathlib.Core.List.{List, [], _∷_, _++_, map}
@@ -11,7 +11,7 @@ use Rattle.rules.specs.Fields.{Qso, qsoOf}
 use Rattle.rules.specs.Log.{Log}
 use Rattle.rules.specs.Striking.{Places}
 use Rattle.rules.specs.TableArguments.{turned}
-use Rattle.rules.specs.Cases.{Case, case, texts, isRead, respells, spellsAsListed, isLog, isValidWith, isJudged, comesTo, isShown, isWritten, leavesJudging, leavesWriting, isUnclaimed, isViewed, isStruck, isWrittenAndStruck, isStruckTo, isWorth, comesToStand}
+use Rattle.rules.specs.Cases.{Case, case, texts, isRead, respells, spellsAsListed, isLog, isValidWith, isJudged, comesTo, comesBy, isShown, isWritten, leavesJudging, leavesWriting, isUnclaimed, isViewed, isStruck, isWrittenAndStruck, isStruckTo, isWorth, comesToStand}
 
 -- The text of these lines. The table puts its lines together itself, and rests on no definition that it asks about.
 unfoldable pub lined : List Text → Text
@@ -113,18 +113,25 @@ case12Written =
     ∷ "240302;1420;SM5CC;1;53;005;;;;;0;;;;"
     ∷ [])
 
+-- W4: the desk program's seventeen lines of it, "in whole".
+unfoldable pub case12Shown : Text
+case12Shown =
+    bytes "QSOS 2\nPOINTS 200\nWWLS 1\nEXCHANGES 0\nDXCCS 2\nTOTAL 700\n"
+    ++ bytes "MODE 0 0\nMODE 1 2\nMODE 2 0\nMODE 3 0\nMODE 4 0\nMODE 5 0\nMODE 6 0\nMODE 7 0\nMODE 8 0\nMODE 9 0\nMODE - 0\n"
+
 abbrev first : Places
 first zero = true
 first (suc n) = false
 
 unfoldable pub case12Cases : List Case
-unfolding case12 case12Written
+unfolding case12 case12Written case12Shown
 case12Cases =
     case (isRead case12) (0 ∷ 0 ∷ 0 ∷ 5 ∷ [])
     ∷ case (isLog case12) (1 ∷ case12)
     ∷ case (isJudged 5 case12) (0 ∷ 0 ∷ 0 ∷ 96 ∷ 64 ∷ 3 ∷ 2 ∷ 1 ∷ [])
     ∷ case (comesTo case12) (2 ∷ 1 ∷ 1 ∷ 1 ∷ 200 ∷ 1 ∷ 0 ∷ 2 ∷ 500 ∷ 0 ∷ 0 ∷ 700 ∷ [])
-    ∷ case (isShown case12) (bytes "QSOS 2\nPOINTS 200\nWWLS 1\nEXCHANGES 0\nDXCCS 2\nTOTAL 700\n")
+    ∷ case (comesBy case12) (0 ∷ 2 ∷ 0 ∷ 0 ∷ 0 ∷ 0 ∷ 0 ∷ 0 ∷ 0 ∷ 0 ∷ 0 ∷ 2 ∷ [])
+    ∷ case (isShown case12) case12Shown
     ∷ case (isWritten 65535 case12) (0 ∷ 0 ∷ 0 ∷ case12Written)
     ∷ case (isWritten 65535 case12Written) (0 ∷ 0 ∷ 0 ∷ case12Written)
     ∷ case (isJudged 999 case12Written) (0 ∷ 0 ∷ 0 ∷ 96 ∷ 64 ∷ 3 ∷ 2 ∷ 1 ∷ [])
@@ -300,7 +307,7 @@ case12Unclaimed =
 
 -- They are read as they are spelt, come to what case 12 comes to, and are written back in the listed spelling; a strike leaves the spelling.
 unfoldable pub oldSpellingCases : List Case
-unfolding case12 case12Written case12Unclaimed oldCase12 oldStruck turnedCase12 emptyLog
+unfolding case12 case12Written case12Shown case12Unclaimed oldCase12 oldStruck turnedCase12 emptyLog
 oldSpellingCases =
     reads 0 0 0 5 oldCase12
     ∷ reads 0 0 0 5 turnedCase12
@@ -313,7 +320,7 @@ oldSpellingCases =
     ∷ case (isJudged 5 oldCase12) (0 ∷ 0 ∷ 0 ∷ 96 ∷ 64 ∷ 3 ∷ 2 ∷ 1 ∷ [])
     ∷ case (comesTo oldCase12) (2 ∷ 1 ∷ 1 ∷ 1 ∷ 200 ∷ 1 ∷ 0 ∷ 2 ∷ 500 ∷ 0 ∷ 0 ∷ 700 ∷ [])
     ∷ case (comesTo turnedCase12) (2 ∷ 1 ∷ 1 ∷ 1 ∷ 200 ∷ 1 ∷ 0 ∷ 2 ∷ 500 ∷ 0 ∷ 0 ∷ 700 ∷ [])
-    ∷ case (isShown oldCase12) (bytes "QSOS 2\nPOINTS 200\nWWLS 1\nEXCHANGES 0\nDXCCS 2\nTOTAL 700\n")
+    ∷ case (isShown oldCase12) case12Shown
     ∷ case (isWritten 65535 oldCase12) (0 ∷ 0 ∷ 0 ∷ case12Written)
     ∷ case (isWritten (length case12Written) turnedCase12) (0 ∷ 0 ∷ 0 ∷ case12Written)
     ∷ case (isUnclaimed case12) case12Unclaimed
@@ -545,7 +552,9 @@ unfolding secondTry secondTryWritten claimedD claimedDWritten tries triesWritten
 secondTryCases =
     case (isJudged 5 secondTry) (0 ∷ 0 ∷ 0 ∷ 112 ∷ 1 ∷ 112 ∷ 2 ∷ 1 ∷ [])
     ∷ case (comesTo secondTry) (2 ∷ 2 ∷ 1 ∷ 0 ∷ 200 ∷ 2 ∷ 2 ∷ 2 ∷ 1000 ∷ 0 ∷ 0 ∷ 1200 ∷ [])
-    ∷ case (isShown secondTry) (bytes "QSOS 2\nPOINTS 200\nWWLS 2\nEXCHANGES 2\nDXCCS 2\nTOTAL 1200\n")
+    ∷ case (isShown secondTry)
+    (bytes "QSOS 2\nPOINTS 200\nWWLS 2\nEXCHANGES 2\nDXCCS 2\nTOTAL 1200\n"
+    ++ bytes "MODE 0 0\nMODE 1 2\nMODE 2 0\nMODE 3 0\nMODE 4 0\nMODE 5 0\nMODE 6 0\nMODE 7 0\nMODE 8 0\nMODE 9 0\nMODE - 0\n")
     ∷ case (isWritten 65535 secondTry) (0 ∷ 0 ∷ 0 ∷ secondTryWritten)
     ∷ case (isWritten 65535 secondTryWritten) (0 ∷ 0 ∷ 0 ∷ secondTryWritten)
     ∷ case (isJudged 5 secondTryWritten) (0 ∷ 0 ∷ 0 ∷ 112 ∷ 1 ∷ 112 ∷ 2 ∷ 1 ∷ [])
@@ -577,6 +586,107 @@ secondTryCases =
     ∷ case (isWrittenAndStruck second tries) (620 ∷ 96 ∷ 2 ∷ 2 ∷ 1 ∷ [])
     ∷ case (isStruck third tries) (620 ∷ 96 ∷ 1 ∷ 2 ∷ 1 ∷ [])
     ∷ []
+
+-- W4: "a count of credited records for each mode code and for a blank mode". By Morse, 2, two count, and by 1, 0 and 9 one each, and two with a
+-- blank mode, some of them with no report and no number; an ERROR and a void contact by codes of their own, a repeat by another code than the
+-- contact, and a blank ERROR and repeat count for none.
+unfoldable pub mixedRecords : List String
+mixedRecords =
+    "240302;1401;DK1AA;2;599;001;599;004;;JO40AA;120;;N;N;"
+    ∷ "240302;1402;OZ1BB;1;59;002;59;010;;JO40BC;80;;;N;"
+    ∷ "240302;1403;ERROR;2;;003;;;;;0;;;;"
+    ∷ "240302;1404;DK1AA;1;59;004;59;009;;JO40AA;120;;;;"
+    ∷ "240302;1405;SM5CC;3;53;005;;;;;0;;;;"
+    ∷ "240302;1406;SM5CC;;53;006;51;001;;JO41AA;30;;;;"
+    ∷ "240302;1407;LA2DD;;;;;;;;40;;;;"
+    ∷ "240302;1408;SM5CC;;;008;;;;;0;;;;D"
+    ∷ "240302;1409;PA0EE;0;59;009;59;003;;;10;;;;"
+    ∷ "240302;1410;PA0FF;9;;;;;;;10;;;;"
+    ∷ "240302;1411;PA0GG;2;599;011;599;005;;;10;;;;"
+    ∷ ";1412;ERROR;;;;;;;;0;;;;"
+    ∷ "240302;1413;PA0HH;0;59;013;;;;;0;;;;"
+    ∷ []
+
+unfoldable pub mixedModes : Text
+unfolding textOf plain mixedRecords
+mixedModes = textOf plain ("[QSORecords;13]" ∷ mixedRecords)
+
+unfoldable pub mixedModesWritten : Text
+unfolding textOf opening
+mixedModesWritten =
+    textOf (opening ("7;1" ∷ "300" ∷ "2;500;1" ∷ "1000" ∷ "0;0;1" ∷ "0" ∷ "2;0;1" ∷ "0" ∷ "1300" ∷ []))
+    ("[QSORecords;13]"
+    ∷ "240302;1401;DK1AA;2;599;001;599;004;;JO40AA;120;;N;N;"
+    ∷ "240302;1402;OZ1BB;1;59;002;59;010;;JO40BC;80;;;N;"
+    ∷ "240302;1403;ERROR;2;;003;;;;;0;;;;"
+    ∷ "240302;1404;DK1AA;1;59;004;59;009;;JO40AA;0;;;;D"
+    ∷ "240302;1405;SM5CC;3;53;005;;;;;0;;;;"
+    ∷ "240302;1406;SM5CC;;53;006;51;001;;JO41AA;30;;N;;"
+    ∷ "240302;1407;LA2DD;;;;;;;;40;;;;"
+    ∷ "240302;1408;SM5CC;;;008;;;;;0;;;;D"
+    ∷ "240302;1409;PA0EE;0;59;009;59;003;;;10;;;;"
+    ∷ "240302;1410;PA0FF;9;;;;;;;10;;;;"
+    ∷ "240302;1411;PA0GG;2;599;011;599;005;;;10;;;;"
+    ∷ ";1412;ERROR;;;;;;;;0;;;;"
+    ∷ "240302;1413;PA0HH;0;59;013;;;;;0;;;;"
+    ∷ [])
+
+-- It without the contact by Morse that is repeated by 1: the repeat counts, by its own mode.
+unfoldable pub mixedModesStruck : Text
+unfolding textOf plain mixedRecords
+mixedModesStruck = textOf plain ("[QSORecords;12]" ∷ drop 1 mixedRecords)
+
+-- A log of one contact by this mode; what is counted by it, and what is shown.
+unfoldable pub oneBy : Text → Text
+unfolding lined plain
+oneBy mode =
+    lined
+    (plain
+    ++ bytes "[QSORecords;1]"
+    ∷ (bytes "240302;1401;DK1AA;" ++ mode ++ bytes ";59;001;59;004;;JO40AA;120;;N;N;")
+    ∷ [])
+
+abbrev counted : ℕ → List ℕ
+counted place = set (replicate 11 0) place 1 ++ 1 ∷ []
+
+abbrev shownBy : ℕ → Text
+shownBy place =
+    bytes "QSOS 1\nPOINTS 120\nWWLS 1\nEXCHANGES 0\nDXCCS 1\nTOTAL 620\n"
+    ++ set (bytes "MODE 0 0\nMODE 1 0\nMODE 2 0\nMODE 3 0\nMODE 4 0\nMODE 5 0\nMODE 6 0\nMODE 7 0\nMODE 8 0\nMODE 9 0\nMODE - 0\n") (9 * place + 7) 49
+
+-- What is asked of each mode, by its place among the eleven.
+abbrev oneMode : ℕ → Text → List Case
+oneMode place mode =
+    case (comesBy (oneBy mode)) (counted place) ∷ case (isShown (oneBy mode)) (shownBy place) ∷ []
+
+unfoldable pub modeCases : List Case
+unfolding mixedModes mixedModesWritten mixedModesStruck oneBy emptyLog
+modeCases =
+    case (isJudged 13 mixedModes) (0 ∷ 0 ∷ 0 ∷ 96 ∷ 64 ∷ 3 ∷ 2 ∷ 1 ∷ 32 ∷ 0 ∷ 2 ∷ 0 ∷ 0 ∷ 0 ∷ 3 ∷ 1 ∷ [])
+    ∷ case (comesTo mixedModes) (7 ∷ 2 ∷ 2 ∷ 2 ∷ 300 ∷ 2 ∷ 0 ∷ 2 ∷ 1000 ∷ 0 ∷ 0 ∷ 1300 ∷ [])
+    ∷ case (comesBy mixedModes) (1 ∷ 1 ∷ 2 ∷ 0 ∷ 0 ∷ 0 ∷ 0 ∷ 0 ∷ 0 ∷ 1 ∷ 2 ∷ 7 ∷ [])
+    ∷ case (isShown mixedModes)
+    (bytes "QSOS 7\nPOINTS 300\nWWLS 2\nEXCHANGES 0\nDXCCS 2\nTOTAL 1300\n"
+    ++ bytes "MODE 0 1\nMODE 1 1\nMODE 2 2\nMODE 3 0\nMODE 4 0\nMODE 5 0\nMODE 6 0\nMODE 7 0\nMODE 8 0\nMODE 9 1\nMODE - 2\n")
+    ∷ case (isWritten 65535 mixedModes) (0 ∷ 0 ∷ 0 ∷ mixedModesWritten)
+    ∷ case (comesBy mixedModesWritten) (1 ∷ 1 ∷ 2 ∷ 0 ∷ 0 ∷ 0 ∷ 0 ∷ 0 ∷ 0 ∷ 1 ∷ 2 ∷ 7 ∷ [])
+    ∷ case (isStruckTo first mixedModes) mixedModesStruck
+    ∷ case (comesBy mixedModesStruck) (1 ∷ 2 ∷ 1 ∷ 0 ∷ 0 ∷ 0 ∷ 0 ∷ 0 ∷ 0 ∷ 1 ∷ 2 ∷ 7 ∷ [])
+    -- no records, and a refusal
+    ∷ case (comesBy emptyLog) (0 ∷ 0 ∷ 0 ∷ 0 ∷ 0 ∷ 0 ∷ 0 ∷ 0 ∷ 0 ∷ 0 ∷ 0 ∷ 0 ∷ [])
+    ∷ case (comesBy (mixedModes ++ bytes "x")) (0 ∷ 0 ∷ 0 ∷ 0 ∷ 0 ∷ 0 ∷ 0 ∷ 0 ∷ 0 ∷ 0 ∷ 0 ∷ 0 ∷ [])
+    ∷ case (isShown (mixedModes ++ bytes "x")) (bytes "REFUSED 6 53 0\n")
+    ∷ oneMode 0 (bytes "0")
+    ++ oneMode 1 (bytes "1")
+    ++ oneMode 2 (bytes "2")
+    ++ oneMode 3 (bytes "3")
+    ++ oneMode 4 (bytes "4")
+    ++ oneMode 5 (bytes "5")
+    ++ oneMode 6 (bytes "6")
+    ++ oneMode 7 (bytes "7")
+    ++ oneMode 8 (bytes "8")
+    ++ oneMode 9 (bytes "9")
+    ++ oneMode 10 (bytes "")
 
 -- A log in which no two numbers are the same: the counts of the four classes and of what is new, the bonuses and the multipliers, and what
 -- is claimed. Every argument holds something of its own. Each class of record has marks that are false, and what repeats of a void or an
@@ -710,7 +820,10 @@ wideCases =
     ∷ case (isLog wideLog) (1 ∷ wideLog)
     ∷ case (isJudged 13 wideLog) (0 ∷ 0 ∷ 0 ∷ 112 ∷ 3 ∷ 1 ∷ 112 ∷ 2 ∷ 80 ∷ 3 ∷ 32 ∷ 64 ∷ 2 ∷ 3 ∷ 112 ∷ 96 ∷ [])
     ∷ case (comesTo wideLog) (7 ∷ 1 ∷ 2 ∷ 3 ∷ 754328 ∷ 5 ∷ 4 ∷ 6 ∷ 2500 ∷ 1200 ∷ 600 ∷ 22758840 ∷ [])
-    ∷ case (isShown wideLog) (bytes "QSOS 7\nPOINTS 754328\nWWLS 5\nEXCHANGES 4\nDXCCS 6\nTOTAL 22758840\n")
+    ∷ case (comesBy wideLog) (0 ∷ 2 ∷ 1 ∷ 0 ∷ 1 ∷ 0 ∷ 1 ∷ 1 ∷ 1 ∷ 0 ∷ 0 ∷ 7 ∷ [])
+    ∷ case (isShown wideLog)
+    (bytes "QSOS 7\nPOINTS 754328\nWWLS 5\nEXCHANGES 4\nDXCCS 6\nTOTAL 22758840\n"
+    ++ bytes "MODE 0 0\nMODE 1 2\nMODE 2 1\nMODE 3 0\nMODE 4 1\nMODE 5 0\nMODE 6 1\nMODE 7 1\nMODE 8 1\nMODE 9 0\nMODE - 0\n")
     ∷ case (isWritten 65535 wideLog) (0 ∷ 0 ∷ 0 ∷ wideWritten)
     ∷ case (isWritten 65535 wideWritten) (0 ∷ 0 ∷ 0 ∷ wideWritten)
     ∷ case (isJudged 13 wideWritten) (0 ∷ 0 ∷ 0 ∷ 112 ∷ 3 ∷ 1 ∷ 112 ∷ 2 ∷ 80 ∷ 3 ∷ 32 ∷ 64 ∷ 2 ∷ 3 ∷ 112 ∷ 96 ∷ [])
@@ -856,6 +969,8 @@ longLog =
 unfoldable pub limitCases : List Case
 unfolding fullLog longLog
 limitCases =
-    case (isShown fullLog) (bytes "QSOS 0\nPOINTS 0\nWWLS 0\nEXCHANGES 0\nDXCCS 0\nTOTAL 0\n")
+    case (isShown fullLog)
+    (bytes "QSOS 0\nPOINTS 0\nWWLS 0\nEXCHANGES 0\nDXCCS 0\nTOTAL 0\n"
+    ++ bytes "MODE 0 0\nMODE 1 0\nMODE 2 0\nMODE 3 0\nMODE 4 0\nMODE 5 0\nMODE 6 0\nMODE 7 0\nMODE 8 0\nMODE 9 0\nMODE - 0\n")
     ∷ case (isWritten 70000 longLog) (8 ∷ 0 ∷ 0 ∷ [])
     ∷ []

@@ -10,6 +10,21 @@ pub struct Refusal {
     pub field: u32,
 }
 
+// How many credited records there are by each mode: by its code, and with none.
+pub struct Modes {
+    pub code0: u64,
+    pub code1: u64,
+    pub code2: u64,
+    pub code3: u64,
+    pub code4: u64,
+    pub code5: u64,
+    pub code6: u64,
+    pub code7: u64,
+    pub code8: u64,
+    pub code9: u64,
+    pub blank: u64,
+}
+
 // What a judged log comes to.
 pub struct Totals {
     pub credited: u64,
@@ -24,6 +39,7 @@ pub struct Totals {
     pub exchangebonus: u64,
     pub countrybonus: u64,
     pub total: u64,
+    pub modes: Modes,
 }
 
 // What a record is worth.

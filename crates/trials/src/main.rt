@@ -1,6 +1,6 @@
-// Runs the library on the logs of data/ and prints what it answers: the fourteen cases of document 01, the samples of its sources, chewed logs, and
-// second tries. What has to come out stands in the file stdout. The comments below say where each answer comes from; tests/reference holds every one
-// of them to the second judge (tests/trials.rs there).
+// Runs the library on the logs of data/ and prints what it answers: the fourteen cases of document 01, the samples of its sources, chewed logs,
+// second tries, and contacts in all modes. What has to come out stands in the file stdout. The comments below say where each answer comes from;
+// tests/reference holds every one of them to the second judge (tests/trials.rs there).
 
 ghost use Prim.Native.Nat.{_≤_};
 ghost use lib.ListN.{length};
@@ -52,6 +52,17 @@ fn show_read(log: &[u8]) -> usize {
     }
 }
 
+// The credited records of each mode: the codes 0 to 9, and then blank.
+fn show_modes(numbers: &[u64; judge::MODES]) {
+    say(b"  modes:");
+    let mut i = 0;
+    while i < judge::MODES {
+        show(b" ", numbers[i]);
+        i += 1;
+    }
+    say(b"\n");
+}
+
 fn show_totals(t: Totals) {
     show(b" credited ", t.credited);
     show(b" voids ", t.voids);
@@ -66,6 +77,9 @@ fn show_totals(t: Totals) {
     show(b" ", t.countrybonus);
     show(b" total ", t.total);
     say(b"\n");
+    let modes = t.modes;
+    let numbers = judge::mode_numbers(modes);
+    show_modes(&numbers);
 }
 
 fn show_verdict(verdict: u8) {
@@ -255,7 +269,7 @@ fn cases() {
     answers(b"03-count-999.edi");
     answers(b"03-count-1000.edi");
     // All 999 records, each with a call, a square and an exchange of its own, a country, and as many points as there can be; bonuses of 9999 and
-    // multipliers of 99: so the total is the largest, 998,404,684,715,196.
+    // multipliers of 99: so the total is the largest, 998,404,684,715,196. None has a mode.
     answers(b"03-999-records.edi");
     // 75 characters are accepted, 76 are refused 2.
     answers(b"04-remark-75.edi");
@@ -278,12 +292,13 @@ fn cases() {
     // 6, at the line of the record that is missing, and of the first byte too many.
     answers(b"11-one-of-two.edi");
     answers(b"11-three-of-two.edi");
-    // Verdicts 96, 64, 3, 2, 1; total 700. What it is written back as has the same verdicts and total.
+    // Verdicts 96, 64, 3, 2, 1; total 700. Both credited records have mode 1, and those that are not credited, by 1 and 2 and with none, count for
+    // no mode. What it is written back as has the same verdicts and totals.
     answers(b"12-spring.edi");
     answers(b"12-written.edi");
-    // The same log with every keyword in another spelling: the same verdicts and total.
+    // The same log with every keyword in another spelling: the same verdicts and totals.
     answers(b"12-respelt.edi");
-    // The first record struck: the repeat is credited, total 700. Written back first, and then struck: total 580.
+    // The first record struck: the repeat is credited, and counts for mode 2; total 700. Written back first, and then struck: total 580.
     answers(b"13-struck.edi");
     answers(b"13-written-struck.edi");
     // 24 credited, 11579 points, 19 squares, 7 countries.
@@ -386,6 +401,24 @@ fn second_tries() {
     answers(b"w3-written-struck.edi");
 }
 
+// The credited records of each mode; they add up to the credited count.
+fn modes() {
+    // Contacts in all eleven modes: three by code 2, two by 1, two with no mode, and one by each other code. For no mode count a void record by 9 and
+    // one by 2, a duplicate by 2 that claims points and one by 1 that claims a D, an ERROR by 5 and one with none. Seven squares and 1095 points
+    // make 4595. What it is written back as has the same.
+    answers(b"w4-modes.edi");
+    answers(b"w4-written.edi");
+    written(b"w4-modes.edi", b"w4-written.edi");
+    written(b"w4-written.edi", b"w4-written.edi");
+    // Two contacts struck, one by 1 and one with no mode. The repeat of the first is credited, so that 2 has one more; written back it claimed no
+    // points, and is void. The repeat of the second claims a D alone, and is void either way.
+    answers(b"w4-struck.edi");
+    answers(b"w4-written-struck.edi");
+    // A smaller log: three by Morse, two by SSB, one by SSB with Morse coming back, one with no mode. The duplicate by SSB, the void record and the
+    // ERROR by Morse count for no mode.
+    answers(b"w4-morse.edi");
+}
+
 fn main() {
     cases();
     views();
@@ -393,4 +426,5 @@ fn main() {
     samples();
     chewed();
     second_tries();
+    modes();
 }

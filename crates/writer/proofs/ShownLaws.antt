@@ -9,12 +9,15 @@ use Rattle.judge.specs.Judge.{judgedBy, judgedOf}
 use Rattle.judge.specs.declared.Judged.the-variants as Judged
 use Rattle.judge.specs.declared.Judged.{Judged}
 use Rattle.rules.specs.Answers.{Judgement, judged, unjudged, judge, over}
-use Rattle.rules.specs.Desk.{shownTotals, shownRefusal, shown, desk}
+use Rattle.rules.specs.Desk.{shownLine, shownModes, shownTotals, shownRefusal, shown, desk}
+use Rattle.rules.specs.Judging.{modeNumbers}
 use Rattle.rules.specs.Rules.{Rules}
 use Rattle.rules.specs.Text.{Text, bytes, digits}
 use Rattle.rules.specs.declared.Refusal.{Refusal}
+use Rattle.rules.specs.declared.Modes.{Modes}
 use Rattle.rules.specs.declared.Totals.{Totals}
-use Rattle.writer.specs.Written.{Puts}
+use Rattle.writer.specs.Shown.{modeMarks, modeLine, modeLineAt, modeLines}
+use Rattle.writer.specs.Written.{texts, Puts}
 use Rattle.writer.proofs.WrittenLaws.{puts-as, front-end, front-laid}
 
 -- A refusal's line is three numbers, each with what stands in front of it and one byte behind it.
@@ -28,6 +31,15 @@ refusal-parts r =
     let second : Text = first ++ digits (r .line) ++ bytes " " in
     ap (λ (t : Text). t ++ part [] (r .field) 10) (sym (append-assoc first (digits (r .line)) (bytes " ")))
     ∙ sym (append-assoc second (digits (r .field)) (bytes "\n"))
+
+-- All the lines of the modes, one behind the other, are those that are to be shown.
+pub all-modes : (modes : List ℕ) {d e : List ℕ} {at n i : ℕ} → i ≡ 11 → Puts d at (texts (modeLineAt modes) i) e n → Puts d at (modeLines modes) e n
+unfolding modeLines
+all-modes modes h p = rw h at p
+
+pub modes-shown : (m : Modes) → modeLines (modeNumbers m) ≡ shownModes m
+unfolding modeLines modeLineAt modeLine modeMarks modeNumbers texts shownModes shownLine
+modes-shown m = refl
 
 -- What is shown of each answer of the judge.
 shownBy : Judged → Text

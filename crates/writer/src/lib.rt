@@ -20,6 +20,7 @@ ghost use Rattle.writer.specs.Respelling.{KeywordsLie, relisted};
 ghost use Rattle.writer.specs.Given.{ClaimsBegin, ClaimsLie, RecordLies, RecordsLie, Writable};
 ghost use Rattle.writer.specs.LogText.{wroteOf, writtenAfterwards};
 ghost use Rattle.writer.specs.RecordText.{saysDuplicate, markText, marksText, zeroText, recordText, recordsText};
+ghost use Rattle.writer.specs.Shown.{modeLine, modeLines};
 ghost use Rattle.writer.specs.Written.{Puts, hasRoom, written};
 use judge::Judged;
 use judge::Weighed;
@@ -479,8 +480,9 @@ pub fn write(log: &[u8], out: &mut [u8]) -> Wrote
 
 // # What the desk program shows
 
-// Room for what is shown of any log: six words of ten bytes at most, and behind each a number of twenty digits at most and the line's end.
-pub const SHOWN: usize = 256;
+// Room for what is shown of any log: six words of ten bytes at most and eleven of seven, and behind each a number of twenty digits at most and the
+// line's end.
+pub const SHOWN: usize = 512;
 
 // A word, a number and one byte more.
 fn put_word(out: &mut [u8], at: usize, word: &[u8], n: u64, last: u8) -> usize
@@ -493,7 +495,36 @@ fn put_word(out: &mut [u8], at: usize, word: &[u8], n: u64, last: u8) -> usize
     put_byte(out, end, last)
 }
 
-// The six lines of a judged log.
+// What stands for each mode: the codes, and a dash for none.
+const MODE_MARKS: [u8; judge::MODES] = *b"0123456789-";
+
+// The line of one mode, by its mark.
+fn put_mode(out: &mut [u8], at: usize, mark: u8, n: u64) -> usize
+    requires { ⌜ at + 28 ≤ length (now out) ⌝ }
+    ensures text { λ r. ⌜ Puts (now (out .entry)) at (modeLine mark n) (now (out .exit)) r ⌝ }
+    ensures end { λ r. ⌜ r ≤ at + 28 ⌝ }
+{
+    let mut word = *b"MODE - ";
+    word[5] = mark;
+    put_word(out, at, &word, n, 10)
+}
+
+// The eleven lines of the modes.
+fn put_modes(out: &mut [u8], at: usize, modes: &[u64; judge::MODES]) -> usize
+    requires { ⌜ at + 308 ≤ length (now out) ⌝ }
+    ensures { λ r. ⌜ Puts (now (out .entry)) at (modeLines (now (modes .entry))) (now (out .exit)) r ⌝ }
+{
+    let marks = MODE_MARKS;
+    let mut end = at;
+    let mut i = 0;
+    while i < judge::MODES {
+        end = put_mode(out, end, marks[i], modes[i]);
+        i += 1;
+    }
+    end
+}
+
+// The seventeen lines of a judged log.
 fn show_totals(t: Totals, out: &mut [u8; SHOWN]) -> usize
     ensures { λ r. ⌜ Puts (now (out .entry)) 0 (shownTotals t) (now (out .exit)) r ⌝ }
 {
@@ -502,7 +533,9 @@ fn show_totals(t: Totals, out: &mut [u8; SHOWN]) -> usize
     let fourth = put_word(out, third, b"WWLS ", t.squares, 10);
     let fifth = put_word(out, fourth, b"EXCHANGES ", t.exchanges, 10);
     let sixth = put_word(out, fifth, b"DXCCS ", t.countries, 10);
-    put_word(out, sixth, b"TOTAL ", t.total, 10)
+    let seventh = put_word(out, sixth, b"TOTAL ", t.total, 10);
+    let modes = t.modes;
+    put_modes(out, seventh, &judge::mode_numbers(modes))
 }
 
 // The one line of a refusal.

@@ -140,6 +140,9 @@ pub fn is_mode(text: &[u8]) -> bool {
     text.len() <= 1 && all_digits(text)
 }
 
+/// What a mode can be: the codes 0 to 9, and then blank.
+pub const MODES: [&str; 11] = ["0", "1", "2", "3", "4", "5", "6", "7", "8", "9", ""];
+
 pub fn is_report(text: &[u8]) -> bool {
     match text.len() {
         0 => true,

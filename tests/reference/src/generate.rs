@@ -4,6 +4,7 @@
 use crate::chewing::{Outcome, CHEWED};
 use crate::draft::{self, Draft, Wish};
 use crate::faults::{self, Expectation, Fault};
+use crate::fields::MODES;
 use crate::mending::{mend_text, Rooms};
 use crate::random::Random;
 use crate::reading::{read, LONGEST_LOG};
@@ -48,6 +49,7 @@ const VALID: &[(&str, usize, Maker)] = &[
     ("valid/second-tries", 8, second_tries),
     ("valid/second-tries-struck", 3, second_tries_struck),
     ("valid/second-tries-every-order", 1, second_tries_every_order),
+    ("valid/modes", 6, modes),
     ("valid/remarks", 3, many_remarks),
     ("valid/longest-lines", 2, longest_lines),
     ("valid/shortest-lines", 2, shortest_lines),
@@ -62,6 +64,8 @@ const VALID: &[(&str, usize, Maker)] = &[
     ("valid/full", 1, full),
     ("valid/full-of-repeats", 1, full_of_repeats),
     ("valid/full-of-second-tries", 1, full_of_second_tries),
+    ("valid/full-of-one-mode", 1, full_of_one_mode),
+    ("valid/full-of-all-modes", 1, full_of_all_modes),
     ("valid/greatest-total", 1, greatest_total),
     ("valid/65535-bytes", 1, longest_log),
     ("valid/written-65535-bytes", 1, grows_to_the_limit),
@@ -356,6 +360,21 @@ fn second_tries_every_order(random: &mut Random) -> Vec<u8> {
     made.bytes()
 }
 
+/// All eleven modes on records of all classes, ERRORs too: only the credited
+/// ones count.
+fn modes(random: &mut Random) -> Vec<u8> {
+    let mut made = draft::draft(random, Wish { records: 0, calls: 1, compact: false });
+    let calls: Vec<Vec<u8>> = (0..random.between(2, 40)).map(|_| values::call_alike(random)).collect();
+    for _ in 0..random.between(11, 60) {
+        let (call, claims) = (random.pick(&calls), *random.pick(&CLAIMS));
+        push_try(random, &mut made, call, claims);
+    }
+    for record in &mut made.records {
+        record[3] = random.pick(&MODES).as_bytes().to_vec();
+    }
+    made.bytes()
+}
+
 fn many_remarks(random: &mut Random) -> Vec<u8> {
     let mut made = draft::small(random);
     for _ in 0..random.between(5, 60) {
@@ -503,6 +522,28 @@ fn full_of_second_tries(random: &mut Random) -> Vec<u8> {
         }
     }
     made.bytes()
+}
+
+/// 999 contacts, each with a call of its own and the mode for its place.
+fn full_of_contacts(random: &mut Random, mode: impl Fn(usize) -> &'static str) -> Vec<u8> {
+    let mut made = draft::draft(random, Wish { records: 0, calls: 1, compact: true });
+    for place in 0..999 {
+        let mut record = draft::plain_record(random, format!("DK{place:03}").as_bytes(), true);
+        record[3] = mode(place).as_bytes().to_vec();
+        made.records.push(record);
+    }
+    made.bytes()
+}
+
+fn full_of_one_mode(random: &mut Random) -> Vec<u8> {
+    let mode = *random.pick(&MODES);
+    full_of_contacts(random, |_| mode)
+}
+
+/// The modes in turn: 90 or 91 contacts in each.
+fn full_of_all_modes(random: &mut Random) -> Vec<u8> {
+    let first = random.below(MODES.len());
+    full_of_contacts(random, |place| MODES[(first + place) % MODES.len()])
 }
 
 /// 999 credited records that are new in every way, with the highest points,

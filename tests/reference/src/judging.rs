@@ -1,6 +1,6 @@
 //! Classes, marks and sums of the records of an accepted log.
 
-use crate::fields;
+use crate::fields::{self, MODES};
 use crate::reading::{read, Log, Refusal};
 
 pub const CREDITED: u8 = 0;
@@ -25,10 +25,13 @@ pub struct Totals {
     pub exchange_bonus: u64,
     pub country_bonus: u64,
     pub total: u64,
+    /// How many credited records have each of `MODES`.
+    pub modes: [u64; 11],
 }
 
 impl Totals {
-    /// The twelve numbers in the order in which they are declared.
+    /// The twelve numbers in front of the modes, in the order in which they are
+    /// declared.
     pub fn as_list(&self) -> [u64; 12] {
         [
             self.credited,
@@ -50,6 +53,7 @@ impl Totals {
 /// What judging looks at in one record.
 struct Entry<'a> {
     call: &'a [u8],
+    mode: &'a [u8],
     exchange: &'a [u8],
     /// The first four characters of the locator, nothing if it is empty.
     square: &'a [u8],
@@ -65,6 +69,7 @@ fn entries<'a>(log: &Log<'a>) -> Vec<Entry<'a>> {
             let locator = log.text(record[9]);
             Entry {
                 call: log.text(record[2]),
+                mode: log.text(record[3]),
                 exchange: log.text(record[8]),
                 square: &locator[..locator.len().min(4)],
                 points: fields::points(log.text(record[10])).expect("points were read"),
@@ -149,12 +154,10 @@ pub fn judge_log(log: &Log) -> (Totals, Vec<u8>) {
     let verdicts = verdicts_of(&entries);
     let in_class = |wanted| verdicts.iter().filter(|&&v| class(v) == wanted).count() as u64;
     let marked = |mark| verdicts.iter().filter(|&&v| has_mark(v, mark)).count() as u64;
-    let points = entries
-        .iter()
-        .zip(&verdicts)
-        .filter(|(_, &verdict)| class(verdict) == CREDITED)
-        .map(|(entry, _)| entry.points)
-        .sum();
+    let judged = entries.iter().zip(&verdicts);
+    let credited: Vec<&Entry> = judged.filter(|(_, &verdict)| class(verdict) == CREDITED).map(|(entry, _)| entry).collect();
+    let points = credited.iter().map(|entry| entry.points).sum();
+    let by_mode = |mode: &str| credited.iter().filter(|entry| entry.mode == mode.as_bytes()).count() as u64;
 
     let (per_square, by_squares) = declared(log, "CWWLs");
     let (per_exchange, by_exchanges) = declared(log, "CExcs");
@@ -168,6 +171,7 @@ pub fn judge_log(log: &Log) -> (Totals, Vec<u8>) {
         squares: marked(NEW_SQUARE),
         exchanges: marked(NEW_EXCHANGE),
         countries: marked(NEW_COUNTRY),
+        modes: MODES.map(by_mode),
         ..Totals::default()
     };
     totals.square_bonus = totals.squares * per_square;

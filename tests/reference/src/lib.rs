@@ -17,6 +17,7 @@ pub mod striking;
 pub mod values;
 pub mod writing;
 
+pub use fields::MODES;
 pub use judging::{judge, Totals};
 pub use mending::{mend, Change, Mended, Rooms};
 pub use reading::{read, view, Log, Refusal, View};
@@ -27,7 +28,7 @@ pub fn desk(bytes: &[u8]) -> String {
     match read(bytes) {
         Ok(log) => {
             let (totals, _) = judging::judge_log(&log);
-            format!(
+            let mut lines = format!(
                 "QSOS {}\nPOINTS {}\nWWLS {}\nEXCHANGES {}\nDXCCS {}\nTOTAL {}\n",
                 totals.credited,
                 totals.points,
@@ -35,7 +36,12 @@ pub fn desk(bytes: &[u8]) -> String {
                 totals.exchanges,
                 totals.countries,
                 totals.total
-            )
+            );
+            for (mode, number) in MODES.iter().zip(totals.modes) {
+                let name = if mode.is_empty() { "-" } else { mode };
+                lines += &format!("MODE {name} {number}\n");
+            }
+            lines
         }
         Err(refusal) => {
             format!("REFUSED {} {} {}\n", refusal.number, refusal.line, refusal.field)

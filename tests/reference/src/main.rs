@@ -11,7 +11,7 @@
 //! between the parts and nothing after the last trial:
 //!
 //! ```text
-//! stream   8 bytes "SQTRIAL3", u64 seed, u32 number of trials, the trials
+//! stream   8 bytes "SQTRIAL4", u64 seed, u32 number of trials, the trials
 //! trial    u32 index
 //!          bytes tag              (ASCII, for messages)
 //!          bytes log
@@ -24,7 +24,7 @@
 //!          read:  answer, u32 records, u32 respelt
 //!          view:  answer, u32 start, u32 length, u32 listed
 //!          u64 listed             of keyword k bit k - 1: whether it is listed
-//!          judge: answer, 12 x u64 totals, bytes verdicts
+//!          judge: answer, 12 x u64 totals, 11 x u64 modes, bytes verdicts
 //!          write: answer, bytes result
 //!          mend:  answer, bytes result, bytes kinds, and a u32 line for each
 //! bytes    u32 length, then that many bytes
@@ -33,11 +33,12 @@
 //!
 //! The totals come in the order credited, voids, duplicates, errors, points,
 //! squares, exchanges, countries, square bonus, exchange bonus, country bonus,
-//! total. `respelt` is how many keywords stand in another spelling than the
-//! listed one, and `listed` is 1 where the one asked for stands in that. After
-//! a refusal every number behind the answer is 0 and every `bytes` is empty;
-//! what was lent must then be unchanged. The bits of all keywords are 0 for a
-//! log that is refused.
+//! total; the modes are the credited records of each code, 0 to 9, and then
+//! those of a blank mode. `respelt` is how many keywords stand in another
+//! spelling than the listed one, and `listed` is 1 where the one asked for
+//! stands in that. After a refusal every number behind the answer is 0 and every
+//! `bytes` is empty; what was lent must then be unchanged. The bits of all
+//! keywords are 0 for a log that is refused.
 
 use reference::generate::{Generator, Trial};
 use reference::reading::{KEYWORDS, LONGEST_LOG};
@@ -98,7 +99,7 @@ fn show_tags() -> io::Result<()> {
 
 fn write_trials(seed: u64, count: u32) -> io::Result<()> {
     let mut out = BufWriter::with_capacity(1 << 16, io::stdout().lock());
-    out.write_all(b"SQTRIAL3")?;
+    out.write_all(b"SQTRIAL4")?;
     put_u64(&mut out, seed)?;
     put_u32(&mut out, count)?;
     let generator = Generator::new(seed);
@@ -138,7 +139,7 @@ fn put_trial(out: &mut impl Write, index: u32, trial: &Trial) -> io::Result<()> 
     let answer = judge(&trial.log, trial.verdicts_len);
     put_answer(out, &answer)?;
     let (totals, verdicts) = answer.unwrap_or((Totals::default(), Vec::new()));
-    for number in totals.as_list() {
+    for number in totals.as_list().into_iter().chain(totals.modes) {
         put_u64(out, number)?;
     }
     put_bytes(out, &verdicts)?;

@@ -134,8 +134,10 @@ fn case_12_verdicts_and_desk() {
     let (totals, verdicts) = judge(&log, 5).unwrap();
     assert_eq!(verdicts, [96, 64, 3, 2, 1]);
     assert_eq!(totals.as_list(), [2, 1, 1, 1, 200, 1, 0, 2, 500, 0, 0, 700]);
+    assert_eq!(totals.modes, [0, 2, 0, 0, 0, 0, 0, 0, 0, 0, 0]);
     let lines = "QSOS 2\nPOINTS 200\nWWLS 1\nEXCHANGES 0\nDXCCS 2\nTOTAL 700\n";
-    assert_eq!(desk(&log), lines);
+    let modes = "MODE 0 0\nMODE 1 2\nMODE 2 0\nMODE 3 0\nMODE 4 0\nMODE 5 0\nMODE 6 0\nMODE 7 0\nMODE 8 0\nMODE 9 0\nMODE - 0\n";
+    assert_eq!(desk(&log), format!("{lines}{modes}"));
 }
 
 #[test]

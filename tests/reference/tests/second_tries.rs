@@ -50,7 +50,8 @@ fn an_aurora_try_is_void() {
     let totals = judge(&log_of(&[WORKED, BROKEN]), 2).unwrap().0;
     assert_eq!(totals.as_list(), [1, 1, 0, 0, 120, 1, 0, 1, 500, 0, 0, 620]);
     let lines = "QSOS 1\nPOINTS 120\nWWLS 1\nEXCHANGES 0\nDXCCS 1\nTOTAL 620\n";
-    assert_eq!(desk(&log_of(&[WORKED, BROKEN])), lines);
+    let modes = "MODE 0 0\nMODE 1 1\nMODE 2 0\nMODE 3 0\nMODE 4 0\nMODE 5 0\nMODE 6 0\nMODE 7 0\nMODE 8 0\nMODE 9 0\nMODE - 0\n";
+    assert_eq!(desk(&log_of(&[WORKED, BROKEN])), format!("{lines}{modes}"));
 }
 
 /// However often she tries, and whoever is worked in between.

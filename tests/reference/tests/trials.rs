@@ -44,6 +44,10 @@ fn totals_told(totals: &Totals) -> String {
     text
 }
 
+fn modes_told(totals: &Totals) -> String {
+    totals.modes.iter().map(|number| format!(" {number}")).collect()
+}
+
 fn verdicts_told(verdicts: &[u8]) -> String {
     let shown = verdicts.iter().take(VERDICTS_SHOWN);
     let mut text: String = shown.map(|verdict| format!(" {verdict}")).collect();
@@ -81,7 +85,8 @@ fn answers(log: &[u8]) -> String {
     };
     text += &match judge(log, 999) {
         Ok((totals, verdicts)) => {
-            format!("  judged:{}\n  verdicts:{}\n", totals_told(&totals), verdicts_told(&verdicts))
+            let (modes, verdicts) = (modes_told(&totals), verdicts_told(&verdicts));
+            format!("  judged:{}\n  modes:{modes}\n  verdicts:{verdicts}\n", totals_told(&totals))
         }
         Err(refusal) => refused("judged", refusal),
     };
@@ -166,6 +171,7 @@ fn copies_are_the_same() {
         ("w2-chewed.edi", "samples/chewed.edi"),
         ("000-list.edi", "samples/old-spelling.edi"),
         ("w3-tries.edi", "samples/second-tries.edi"),
+        ("w4-morse.edi", "samples/modes.edi"),
         ("001.edi", "tests/reference/samples/region1-1995.edi"),
     ] {
         assert_eq!(log_named(name), fs::read(kept(copy)).unwrap(), "{copy}");

@@ -1,7 +1,11 @@
 -- What a record adds is told by its class.
 use native.Mathlib.Omega.{arith}
+use mathlib.Core.Path.{refl}
 use borrow.Author.Needs.{needs}
-use Rattle.judge.proofs.CountLaws.{countable-small, void-sums, duplicate-sums, error-sums}
+use denote.Ref.{now}
+use Rattle.rules.specs.Judging.{classNumber, is}
+use Rattle.judge.specs.Count.{tallied}
+use Rattle.judge.proofs.CountLaws.{countable-small, void-sums, duplicate-sums, error-sums, other-list}
 use Rattle.judge.proofs.add_record.Statement.{statement}
 use Rattle.judge.proofs.add_record.Tie as tie
 
@@ -33,13 +37,31 @@ returns : tie.Need-returns
 returns c = search needs
 
 returns-2 : tie.Need-returns-2
-returns-2 c = let start = c .before .before .before in void-sums (start .args .t) (start .args .worth) (start .args .v) (start .pre) (c .before .enum-told2 .given .1)
+unfolding is classNumber
+returns-2 c =
+    let start = c .before .before .before in
+    let a = start .args in
+    let h = start .pre in
+    let class = c .before .enum-told2 .given .1 in
+    (void-sums (tallied (a .t) (now (a .modes))) (a .worth) (a .mode) (a .v) (h .exchange) (h .square) (h .country) class, other-list (now (a .modes)) (a .mode) (a .v) class refl)
 
 returns-3 : tie.Need-returns-3
-returns-3 c = let start = c .before .before .before in duplicate-sums (start .args .t) (start .args .worth) (start .args .v) (start .pre) (c .before .enum-told3 .given .1)
+unfolding is classNumber
+returns-3 c =
+    let start = c .before .before .before in
+    let a = start .args in
+    let h = start .pre in
+    let class = c .before .enum-told3 .given .1 in
+    (duplicate-sums (tallied (a .t) (now (a .modes))) (a .worth) (a .mode) (a .v) (h .exchange) (h .square) (h .country) class, other-list (now (a .modes)) (a .mode) (a .v) class refl)
 
 returns-4 : tie.Need-returns-4
-returns-4 c = let start = c .before .before .before in error-sums (start .args .t) (start .args .worth) (start .args .v) (start .pre) (c .before .enum-told4 .given .1)
+unfolding is classNumber
+returns-4 c =
+    let start = c .before .before .before in
+    let a = start .args in
+    let h = start .pre in
+    let class = c .before .enum-told4 .given .1 in
+    (error-sums (tallied (a .t) (now (a .modes))) (a .worth) (a .mode) (a .v) (h .exchange) (h .square) (h .country) class, other-list (now (a .modes)) (a .mode) (a .v) class refl)
 
 pub add-record-spec : {M : Type 1} → statement M
 add-record-spec =

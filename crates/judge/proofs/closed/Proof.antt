@@ -1,6 +1,7 @@
 -- The bonuses and the total are made of the sums, and none runs over.
 use native.Mathlib.Omega.{arith}
-use mathlib.Core.Path.{refl}
+use borrow.Author.Needs.{needs}
+use denote.Ref.{now}
 use Rattle.judge.specs.Count.{closing}
 use Rattle.judge.proofs.CountLaws.{Closes, closes}
 use Rattle.judge.proofs.closed.Statement.{statement}
@@ -11,7 +12,7 @@ abbrev multiplied : tie.After-struct-known6 → tie.Start
 multiplied c = c .before .before .before .before .before .before
 
 bounds : (c : tie.Start) → Closes (c .args .t) (c .args .d)
-bounds c = closes (c .args .t) (c .args .d) (c .pre)
+bounds c = closes (c .args .t) (now (c .args .modes)) (c .args .d) (c .pre)
 
 mul-squares : tie.Need-mul-squares
 mul-squares c = omega (arith, bounds (c .before .before))
@@ -28,21 +29,24 @@ mul-multipliers c = omega (arith, bounds (multiplied (c .before)))
 mul-multipliers-2 : tie.Need-mul-multipliers-2
 mul-multipliers-2 c = omega (arith, bounds (multiplied (c .before .before)))
 
-add-t7 : tie.Need-add-t7
-add-t7 c = omega (arith, bounds (multiplied (c .before .before .before)))
-
 add-t8 : tie.Need-add-t8
 add-t8 c = omega (arith, bounds (multiplied (c .before .before .before)))
 
 add-t9 : tie.Need-add-t9
 add-t9 c = omega (arith, bounds (multiplied (c .before .before .before)))
 
-mul-t10 : tie.Need-mul-t10
-mul-t10 c = omega (arith, bounds (multiplied (c .before .before .before)))
+add-t10 : tie.Need-add-t10
+add-t10 c = omega (arith, bounds (multiplied (c .before .before .before)))
+
+mul-t11 : tie.Need-mul-t11
+mul-t11 c = omega (arith, bounds (multiplied (c .before .before .before)))
+
+modes-in-requires : tie.Need-modes-in-requires
+modes-in-requires c κs = search needs
 
 returns : tie.Need-returns
 unfolding closing
-returns c = refl
+returns c = rw (c .modes-in .ensures)
 
 pub closed-spec : {M : Type 1} → statement M
 closed-spec =
@@ -53,8 +57,9 @@ closed-spec =
     mul-countries
     mul-multipliers
     mul-multipliers-2
-    add-t7
     add-t8
     add-t9
-    mul-t10
+    add-t10
+    mul-t11
+    modes-in-requires
     returns)

@@ -70,7 +70,7 @@ cast-calls : tie.Need-cast-calls
 cast-calls c = search needs
 
 mul-calls : tie.Need-mul-calls
-mul-calls c = omega (arith, start (c .before) .pre .callRoom, start (c .before) .good .1 .1 .1 .0)
+mul-calls c = omega (arith, start (c .before) .pre .callRoom, start (c .before) .good .1 .1 .1 .1 .0)
 
 slice-write-calls : tie.Need-slice-write-calls
 slice-write-calls c = search needs
@@ -78,24 +78,24 @@ slice-write-calls c = search needs
 verdict-by-requires : tie.Need-verdict-by-requires
 verdict-by-requires c κs = search needs
 
-add-t22 : tie.Need-add-t22
-add-t22 c = omega (arith, start (c .before .before) .pre .callRoom, start (c .before .before) .good .1 .1 .1 .0)
+add-t23 : tie.Need-add-t23
+add-t23 c = omega (arith, start (c .before .before) .pre .callRoom, start (c .before .before) .good .1 .1 .1 .1 .0)
 
 one-if-requires : tie.Need-one-if-requires
 one-if-requires c κs = search needs
 
-add-t26 : tie.Need-add-t26
-add-t26 c =
+add-t27 : tie.Need-add-t27
+add-t27 c =
     let country = c .before .before .before .before in
-    omega (arith, start country .pre .squareRoom, start country .good .1 .1 .1 .1 .1 .1 .0, c .before .one-if .ensures, worth-most (claimed country .new-square .result) 1)
+    omega (arith, start country .pre .squareRoom, start country .good .1 .1 .1 .1 .1 .1 .1 .0, c .before .one-if .ensures, worth-most (claimed country .new-square .result) 1)
 
 one-if-requires-2 : tie.Need-one-if-requires-2
 one-if-requires-2 c κs = search needs
 
-add-t28 : tie.Need-add-t28
-add-t28 c =
+add-t29 : tie.Need-add-t29
+add-t29 c =
     let country = c .before .before .before .before .before .before in
-    omega (arith, start country .pre .exchangeKeyRoom, start country .good .1 .1 .1 .1 .1 .0, c .before .one-if2 .ensures, worth-most (squared (claimed country) .new-part .result) 1)
+    omega (arith, start country .pre .exchangeKeyRoom, start country .good .1 .1 .1 .1 .1 .1 .0, c .before .one-if2 .ensures, worth-most (squared (claimed country) .new-part .result) 1)
 
 worth-at-requires : tie.Need-worth-at-requires
 worth-at-requires c κs = search needs
@@ -119,7 +119,7 @@ returns c =
     let square = claimed country in
     let part = squared square in
     let a = start country .args in
-    credits base (now (a .s)) (a .p) (a .kept) (now (a .calls)) (now (a .exchanges)) (now (a .exchangekeys)) (now (a .squares)) (said .verdict-by .ensures) (parted part .part-end .ensures) (part .new-part .ensures) (square .new-square .ensures) (country .claims-country .ensures) (c .worth-at .ensures) (c .before .before .before .before .one-if .ensures) (c .before .before .one-if2 .ensures)
+    credits base (now (a .s)) (a .p) (a .mode) (a .kept) (now (a .calls)) (now (a .exchanges)) (now (a .exchangekeys)) (now (a .squares)) (said .verdict-by .ensures) (parted part .part-end .ensures) (part .new-part .ensures) (square .new-square .ensures) (country .claims-country .ensures) (c .worth-at .ensures) (c .before .before .before .before .one-if .ensures) (c .before .before .one-if2 .ensures)
 
 pub credited-next-spec : {M : Type 1} → statement M
 credited-next-spec =
@@ -135,11 +135,11 @@ credited-next-spec =
     mul-calls
     slice-write-calls
     verdict-by-requires
-    add-t22
+    add-t23
     one-if-requires
-    add-t26
+    add-t27
     one-if-requires-2
-    add-t28
+    add-t29
     worth-at-requires
     same-length
     same-length-2

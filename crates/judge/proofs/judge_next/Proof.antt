@@ -1,14 +1,16 @@
 -- One step: the key of the call stands behind those that are kept, the class is found, and a credited record is kept.
-use Prim.Native.Nat.{ℕ}
+use Prim.Native.Nat.{ℕ, _+_}
 use native.Mathlib.Omega.{arith}
 use mathlib.Core.Path.{_≡_, ap, _∙_}
+use lib.ListN.{getD}
 use borrow.Author.Needs.{needs}
 use denote.Ref.{now}
 use Rattle.rules.specs.Rules.{base}
 use Rattle.reader.specs.Contact.{between}
+use Rattle.judge.specs.Count.{modePlace}
 use Rattle.judge.specs.Parts.{keyOf}
 use Rattle.judge.specs.Step.{callNoted}
-use Rattle.judge.proofs.ToldLaws.{call-inside, call-size}
+use Rattle.judge.proofs.ToldLaws.{call-inside, call-size, mode-inside}
 use Rattle.judge.proofs.RememberLaws.{home-base}
 use Rattle.judge.proofs.StepLaws.{classed, steps-credited, steps-other}
 use Rattle.judge.proofs.judge_next.Statement.{statement}
@@ -23,6 +25,10 @@ begun c = known (c .before .before)
 
 abbrev keyed : tie.After-class-number → tie.After-key-of
 keyed c = c .before .before .before .before
+
+-- Where a record was found to be credited, from where its mode is known.
+abbrev taken : tie.After-mode-place → tie.Then1
+taken c = c .before .before
 
 key-is : (c : tie.After-key-of) → c .key-of .result ≡ keyOf (callNoted (now (begun c .args .s)) (begun c .args .p))
 key-is c =
@@ -53,9 +59,22 @@ class-of-requires c κs =
 class-number-requires : tie.Need-class-number-requires
 class-number-requires c κs = search needs
 
+add-mode-place : tie.Need-add-mode-place
+add-mode-place c =
+    let key = keyed (c .before) in
+    omega (arith, key .before .part-end .ensures, mode-inside (begun key .pre .told))
+
+shared-slice-read-mode-place : tie.Need-shared-slice-read-mode-place
+shared-slice-read-mode-place c =
+    let key = keyed (c .before .before) in
+    omega (arith, key .before .part-end .ensures, mode-inside (begun key .pre .told))
+
+mode-place-requires : tie.Need-mode-place-requires
+mode-place-requires c κs = search needs
+
 credited-next-requires : tie.Need-credited-next-requires
 credited-next-requires c κs =
-    let ready = begun (keyed (c .before .before .before .before .before)) .pre in
+    let ready = begun (keyed (taken (c .before .before .before .before) .before)) .pre in
     record {
       q = ready .q;
       told = ready .told;
@@ -87,11 +106,12 @@ returns : tie.Need-returns
 returns c =
     let back = c .before .before .before .before in
     let credited = back .before .before .before .before in
-    let taken = credited .before .before .before .before .before in
-    let number = taken .before in
+    let placed = credited .before .before .before .before .before in
+    let number = taken placed .before in
     let key = keyed number in
     let a = begun key .args in
-    steps-credited base home-base (now (a .s)) (a .p) (a .kept) (now (a .calls)) (now (a .callkeys)) (now (a .exchanges)) (now (a .exchangekeys)) (now (a .squares)) (begun key .pre) (key-is key) (number .before .class-of .ensures) (number .class-number .ensures) (taken .if1 .taken) (credited .credited-next .ensures)
+    let mode = placed .mode-place .ensures ∙ ap (λ (n : ℕ). modePlace (getD (now (a .s)) (n + 1) 0)) (key .before .part-end .ensures) in
+    steps-credited base home-base (now (a .s)) (a .p) (a .kept) (now (a .calls)) (now (a .callkeys)) (now (a .exchanges)) (now (a .exchangekeys)) (now (a .squares)) (begun key .pre) (key-is key) (number .before .class-of .ensures) (number .class-number .ensures) (taken placed .if1 .taken) mode (credited .credited-next .ensures)
 
 verdict-by-requires : tie.Need-verdict-by-requires
 verdict-by-requires c κs = search needs
@@ -119,6 +139,9 @@ judge-next-spec =
     slice-write-callkeys
     class-of-requires
     class-number-requires
+    add-mode-place
+    shared-slice-read-mode-place
+    mode-place-requires
     credited-next-requires
     same-length
     same-length-2

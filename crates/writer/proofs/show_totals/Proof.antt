@@ -1,8 +1,12 @@
--- `writer::show_totals` meets its contract: six lines, each behind what was written before it.
+-- `writer::show_totals` meets its contract: six lines and those of the modes, each behind what was written before it.
 -- Assumes nothing.
+use native.Mathlib.Omega.{arith}
+use mathlib.Core.Path.{ap, _∙_}
 use borrow.Author.Needs.{needs}
 use Rattle.rules.specs.Desk.{shownLine, shownTotals}
-use Rattle.writer.proofs.WrittenLaws.{puts-then}
+use Rattle.writer.specs.Shown.{modeLines}
+use Rattle.writer.proofs.ShownLaws.{modes-shown}
+use Rattle.writer.proofs.WrittenLaws.{puts-as, puts-then}
 use Rattle.writer.proofs.show_totals.Statement.{statement}
 use Rattle.writer.proofs.show_totals.Tie as tie
 
@@ -21,6 +25,9 @@ fourth c = c .before .before .before
 
 abbrev fifth : tie.After-put-word6 → tie.After-put-word5
 fifth c = c .before .before .before
+
+abbrev sixth : tie.After-put-modes-arg2 → tie.After-put-word6
+sixth c = c .before .before .before .before
 
 slice-aggregate-put-word : tie.Need-slice-aggregate-put-word
 slice-aggregate-put-word c = search needs
@@ -58,16 +65,39 @@ slice-aggregate-put-word-6 c = search needs
 put-word-requires-6 : tie.Need-put-word-requires-6
 put-word-requires-6 c κs = search needs
 
+mode-numbers-requires : tie.Need-mode-numbers-requires
+mode-numbers-requires c κs = search needs
+
+put-modes-requires : tie.Need-put-modes-requires
+put-modes-requires c κs =
+    let p6 = sixth c in
+    let p5 = fifth p6 in
+    let p4 = fourth p5 in
+    let p3 = third p4 in
+    let p2 = second p3 in
+    omega (
+      arith,
+      p6 .put-word6 .ensures .1,
+      p5 .put-word5 .ensures .1,
+      p4 .put-word4 .ensures .1,
+      p3 .put-word3 .ensures .1,
+      p2 .put-word2 .ensures .1,
+      first p2 .put-word .ensures .1,
+      c .before .before .put-modes-arg .given,
+    )
+
 returns : tie.Need-returns
 unfolding shownLine shownTotals
 returns c =
-    let p5 = fifth c in
+    let p6 = sixth (c .before) in
+    let p5 = fifth p6 in
     let p4 = fourth p5 in
     let p3 = third p4 in
     let p2 = second p3 in
     let two = puts-then (first p2 .put-word .ensures .0) (p2 .put-word2 .ensures .0) in
     let four = puts-then (puts-then two (p3 .put-word3 .ensures .0)) (p4 .put-word4 .ensures .0) in
-    puts-then (puts-then four (p5 .put-word5 .ensures .0)) (c .put-word6 .ensures .0)
+    let six = puts-then (puts-then four (p5 .put-word5 .ensures .0)) (p6 .put-word6 .ensures .0) in
+    puts-then six (puts-as (c .put-modes .ensures) (ap modeLines (c .before .before .mode-numbers .ensures) ∙ modes-shown _))
 
 pub show-totals-spec : {M : Type 1} → statement M
 show-totals-spec =
@@ -85,4 +115,6 @@ show-totals-spec =
     put-word-requires-5
     slice-aggregate-put-word-6
     put-word-requires-6
+    mode-numbers-requires
+    put-modes-requires
     returns)
