@@ -1,8 +1,9 @@
 -- The three demands, all of them: what `specs/Demands.antt` states is proved, of any rules under which the claims that are recomputed have room
--- in their places, and so of the base rules; and with them what is asked of the mender.
+-- in their places, and so of the base rules; and with them what is asked of the mender and of a session.
 -- Assumes nothing.
 use Rattle.rules.specs.Rules.{Rules, base}
 use Rattle.rules.specs.Demands.{TheThreeDemands, TheBaseKeepsThem}
+use Rattle.rules.specs.SessionDemands.{TheSession}
 use Rattle.rules.proofs.Bounds.{total-is-bounded, the-most-total}
 use Rattle.rules.proofs.Classes.{four-counts, calls-byte-for-byte, classes-as-defined}
 use Rattle.rules.proofs.Falls.{striking-rule}
@@ -13,6 +14,7 @@ use Rattle.rules.proofs.ModeLaws.{modes-add-up}
 use Rattle.rules.proofs.PremiseNeeded.{premise-is-needed}
 use Rattle.rules.proofs.Refusals.{every-input, refused-with, refused-reading, refused-judging, refused-writing, refused-view}
 use Rattle.rules.proofs.Respelt.{either-case, spellings-counted}
+use Rattle.rules.proofs.SessionKept.{the-session}
 use Rattle.rules.proofs.Struck.{struck-is-accepted}
 use Rattle.rules.proofs.TotalLaws.{totals-as-defined}
 use Rattle.rules.proofs.WritingLaws.{writing-changes}
@@ -59,3 +61,7 @@ the-three-demands =
       premiseIsNeeded = premise-is-needed;
       theMender = the-mender base;
     }
+
+-- `SessionDemands` rests on `Demands`, so that it is joined here and not there.
+pub the-base-session : TheSession base
+the-base-session = the-session base

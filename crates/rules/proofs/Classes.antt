@@ -31,7 +31,7 @@ one-class Error = refl
 abbrev pub ofClass : Class → List Verdict → ℕ
 ofClass class vs = countOf (λ v. is class (v .class)) vs
 
-counts-add-up : (vs : List Verdict) → ofClass Credited vs + ofClass Void vs + ofClass Duplicate vs + ofClass Error vs ≡ length vs
+pub counts-add-up : (vs : List Verdict) → ofClass Credited vs + ofClass Void vs + ofClass Duplicate vs + ofClass Error vs ≡ length vs
 unfolding countOf
 counts-add-up [] = refl
 counts-add-up (v ∷ vs) = omega (arith, one-class (v .class), counts-add-up vs)

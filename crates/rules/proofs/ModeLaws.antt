@@ -113,7 +113,7 @@ credited-once true t h = one-mode t h
 credited-once false t h = refl
 
 module _ (R : Rules) where
-  together : (qs : List Qso) (vs : List Verdict) → length vs ≡ length qs → T (recordRules R qs) → modesTogether (modesOf qs vs) ≡ ofClass Credited vs
+  pub together : (qs : List Qso) (vs : List Verdict) → length vs ≡ length qs → T (recordRules R qs) → modesTogether (modesOf qs vs) ≡ ofClass Credited vs
   unfolding modesTogether modesOf creditedSum countOf recordRules
   together [] [] e t = refl
   together [] (v ∷ vs) e t = absurd (omega arith)

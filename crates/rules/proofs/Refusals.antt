@@ -34,7 +34,7 @@ every-input R s = by (read R s) refl
 abbrev Numbered : ℕ → ℕ → Type 0
 Numbered number field = (2 ≤ number) × (number ≤ 6) × (field ≤ 15) × ((number ≡ 5 → ⊥) → field ≡ 0)
 
-abbrev FieldIsOne : RecordRule → Type 0
+abbrev pub FieldIsOne : RecordRule → Type 0
 FieldIsOne keeps = Unit {0}
 FieldIsOne (breaks field) = field ≤ 15
 
@@ -69,7 +69,7 @@ six : Numbered 6 0
 six = no-field 6 (omega arith) (omega arith)
 
 module _ (R : Rules) where
-  rule-field : (l : Text) → FieldIsOne (recordRule R l)
+  pub rule-field : (l : Text) → FieldIsOne (recordRule R l)
   unfolding recordRule
   rule-field l = by (eqb (length (parts l)) 15)
     where

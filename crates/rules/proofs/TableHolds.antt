@@ -10,6 +10,7 @@ use Rattle.rules.specs.TableArguments.{lineCases, argumentCases, argumen
 use Rattle.rules.specs.TableFields.{fieldCases, fieldCharacterCases, calendarCases}
 use Rattle.rules.specs.TableLogs.{case12Cases, readingCases, lendingCases, oldSpellingCases, squareCases, wrongTurnCases, secondTryCases, modeCases, wideCases, samenessCases, valueCases, limitCases}
 use Rattle.rules.specs.TableMending.{lineEndCases, spaceCases, countCases, placeCases, mendedCases, mendingRefusedCases, mendingRoomCases, mendingLimitCases}
+use Rattle.rules.specs.TableSession.{takingCases, givingCases, sessionRefusedCases}
 use Rattle.rules.specs.Table.{table}
 
 -- Each case of the list is answered as it says.
@@ -152,6 +153,18 @@ mendingLimitCases-hold : answers mendingLimitCases ≡ says mendingLimitCases
 unfolding answer mendingLimitCases
 mendingLimitCases-hold = refl
 
+takingCases-hold : answers takingCases ≡ says takingCases
+unfolding answer takingCases
+takingCases-hold = refl
+
+givingCases-hold : answers givingCases ≡ says givingCases
+unfolding answer givingCases
+givingCases-hold = refl
+
+sessionRefusedCases-hold : answers sessionRefusedCases ≡ says sessionRefusedCases
+unfolding answer sessionRefusedCases
+sessionRefusedCases-hold = refl
+
 pub table-holds : Holds table
 unfolding table
 table-holds =
@@ -185,3 +198,6 @@ table-holds =
     also computed mendingRefusedCases mendingRefusedCases-hold
     also computed mendingRoomCases mendingRoomCases-hold
     also computed mendingLimitCases mendingLimitCases-hold
+    also computed takingCases takingCases-hold
+    also computed givingCases givingCases-hold
+    also computed sessionRefusedCases sessionRefusedCases-hold

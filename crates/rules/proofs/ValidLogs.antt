@@ -3,9 +3,10 @@
 use Prim.Native.Nat.{ℕ, zero, suc, _≤_, _<_}
 use native.Mathlib.Nat.{le-of-suc-le-suc, not-suc-le-zero}
 use mathlib.Core.Logic.{⊎-elim}
+use mathlib.Core.Path.{_≡_}
 use mathlib.Core.Bool.{Bool, true, not, _||_}
 use mathlib.Core.List.{List, [], _∷_}
-use lib.Dec.{T}
+use lib.Dec.{T, leb}
 use lib.ListN.{length, getD}
 use borrow.Author.Tests.{leb-true}
 use Rattle.rules.specs.Text.{bytes, same, value, valueAfter, numberOf}
@@ -24,6 +25,13 @@ unfolding conjunction
 rule-at [] n t = tt
 rule-at (b ∷ bs) zero t = first b (conjunction bs) t
 rule-at (b ∷ bs) (suc n) t = rule-at bs n (second b (conjunction bs) t)
+
+-- The same as an equation, and of a test that is a bound.
+pub test-at : (bs : List Bool) (n : ℕ) → conjunction bs ≡ true → getD bs n true ≡ true
+test-at bs n e = so (getD bs n true) (rule-at bs n (holds e))
+
+pub at-most : {m n : ℕ} → leb m n ≡ true → m ≤ n
+at-most {m} {n} e = leb-true m n e
 
 module _ (R : Rules) where
   -- The rules of a record of a log.

@@ -4,7 +4,7 @@ use Prim.Native.Nat.{ℕ}
 use Prim.Native.String.{String}
 use mathlib.Core.Bool.{Bool, true, false}
 use mathlib.Core.List.{List, [], _∷_, _++_, map, flatMap}
-use lib.ListN.{length, set}
+use lib.ListN.{length, set, replicate}
 use Rattle.rules.specs.declared.Refusal.{Refusal}
 use Rattle.rules.specs.declared.Totals.{Totals}
 use Rattle.rules.specs.declared.Due.{Due}
@@ -12,14 +12,15 @@ use Rattle.rules.specs.declared.Next.{Next}
 use Rattle.rules.specs.declared.Next.the-variants.{Goes, Stops}
 use Rattle.rules.specs.Text.{Text, bytes, sameButCase}
 use Rattle.rules.specs.Rules.{base}
-use Rattle.rules.specs.Fields.{dayExists, fullYear}
+use Rattle.rules.specs.Fields.{dayExists, fullYear, qsoOf}
 use Rattle.rules.specs.Arguments.{Rule, meets}
 use Rattle.rules.specs.Log.{Log, render, valid}
-use Rattle.rules.specs.Judging.{declared, verdictNumber, verdictsOfLog, modeNumbers, modesTogether, totalsOfLog}
+use Rattle.rules.specs.Judging.{Declared, declared, verdictNumber, verdictsOfLog, modeNumbers, modesTogether, totalsOfLog}
 use Rattle.rules.specs.Writing.{writtenBack, unclaimed}
 use Rattle.rules.specs.Reading.{FirstLine, aLine, noLine, firstLine, RecordRule, keeps, breaks, recordRule, Reading, accepted, refused, read, step}
 use Rattle.rules.specs.Answers.{view, refusalOfView, startOfView, viewed, listedOfView, judge, refusalOfJudgement, totalsOfJudgement, numbersOfJudgement, write, refusalOfWriting, bytesOfWriting, refusalOfReading, recordsOfReading, respeltOfReading, over}
 use Rattle.rules.specs.Mending.{mendedText, Change, changes, Rooms, mend, refusalOfMending, bytesOfMending, kindsOfMending, linesOfMending}
+use Rattle.rules.specs.Session.{Session, session, Call, Reply, sessionVerdicts, sessionTotals, hasPlace, sessionAfter, repliesTo}
 use Rattle.rules.specs.Striking.{Places, strike, placeAfter, struckWorth}
 use Rattle.rules.specs.Desk.{desk}
 
@@ -76,6 +77,13 @@ pub data Question : Type 0 where
   isMended : ℕ → ℕ → ℕ → Text → Question
   -- of a text and slices that hold this: what the three hold after mending, one behind the other
   leavesMending : List ℕ → List ℕ → List ℕ → Text → Question
+  -- of calls of a session with room for so many records, one behind the other: of each call number, line and field, and then the total and the
+  -- verdicts
+  plays : ℕ → List Call → Question
+  -- the same: at the end the twelve totals and the eleven counts of modes
+  endsWith : ℕ → List Call → Question
+  -- of so many records present and room for so many: 1 where there is a place for one more, else 0
+  hasPlaceAfter : ℕ → ℕ → Question
 
 abbrev truth : Bool → List ℕ
 truth true = 1 ∷ []
@@ -130,6 +138,25 @@ abbrev ofLog : (Log → List ℕ) → Reading → List ℕ
 ofLog f (accepted log) = f log
 ofLog f (refused r) = paper r
 
+-- A session that was not started, and one with so many records.
+abbrev undeclared : Declared
+undeclared =
+    record {
+      squareBonus = 0;
+      squareMultiplier = 0;
+      exchangeBonus = 0;
+      exchangeMultiplier = 0;
+      countryBonus = 0;
+      countryMultiplier = 0;
+    }
+
+abbrev unstarted : Session
+unstarted = session undeclared []
+
+abbrev replyIn : Reply → List ℕ
+replyIn r =
+    paper (r .refusal) ++ (sessionTotals base (r .session)) .total ∷ sessionVerdicts base (r .session)
+
 abbrev judgedIn : Log → List ℕ
 judgedIn log = (totalsOfLog base log) .total ∷ map verdictNumber (verdictsOfLog base log)
 
@@ -139,7 +166,7 @@ unfolding read base render strike totalsOfLog verdictsOfLog verdictNumber
 afterStrike struck log = ofLog judgedIn (read base (render (strike struck log)))
 
 unfoldable pub answer : Question → List ℕ
-unfolding firstLine step dayExists fullYear sameButCase meets recordRule read refusalOfReading recordsOfReading respeltOfReading valid render judge refusalOfJudgement numbersOfJudgement totalsOfJudgement modeNumbers modesTogether desk write refusalOfWriting bytesOfWriting over unclaimed view refusalOfView startOfView viewed listedOfView afterStrike writtenBack strike struckWorth declared verdictsOfLog placeAfter mendedText changes mend refusalOfMending bytesOfMending kindsOfMending linesOfMending paired base
+unfolding firstLine step dayExists fullYear sameButCase meets recordRule read refusalOfReading recordsOfReading respeltOfReading valid render judge refusalOfJudgement numbersOfJudgement totalsOfJudgement modeNumbers modesTogether desk write refusalOfWriting bytesOfWriting over unclaimed view refusalOfView startOfView viewed listedOfView afterStrike writtenBack strike struckWorth declared verdictsOfLog placeAfter mendedText changes mend refusalOfMending bytesOfMending kindsOfMending linesOfMending paired sessionTotals sessionVerdicts repliesTo sessionAfter hasPlace flatMap base
 answer (hasLine s) = lineIn (firstLine base s)
 answer (leads due l) = nextIn (step base due l)
 answer (isYear yy) = fullYear yy ∷ []
@@ -176,6 +203,10 @@ answer (isMended out kinds lines s) =
 answer (leavesMending out kinds lines s) =
     let m = mend base (roomsFor (length out) (length kinds) (length lines)) s in
     over (bytesOfMending m) out ++ over (kindsOfMending m) kinds ++ over (linesOfMending m) lines
+answer (plays room cs) = flatMap replyIn (repliesTo base room unstarted cs)
+answer (endsWith room cs) =
+    let t = sessionTotals base (sessionAfter base room unstarted cs) in sums t ++ modeNumbers (t .modes)
+answer (hasPlaceAfter n room) = truth (hasPlace base room (session undeclared (replicate n (qsoOf []))))
 
 -- A question and what is to be answered.
 pub record Case : Type 0 where

@@ -11,6 +11,7 @@ pub struct Refusal {
 }
 
 // How many credited records there are by each mode: by its code, and with none.
+#[repr(C)]
 pub struct Modes {
     pub code0: u64,
     pub code1: u64,
