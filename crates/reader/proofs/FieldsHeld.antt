@@ -2,11 +2,12 @@
 -- Assumes nothing.
 use Prim.Native.Nat.{ℕ, zero, suc, _+_, _≤_, _<_}
 use native.Mathlib.Omega.{arith}
+use native.Mathlib.Nat.{add-zero}
 use mathlib.Core.Path.{_≡_, refl, sym, ap, ap₂, _∙_}
 use mathlib.Core.Bool.{Bool, true}
 use mathlib.Core.List.{List, [], _∷_, _++_, append-assoc}
 use lib.ListN.{length, take, drop, getD, length-append}
-use lib.Seq.{drop-cons, drop-drop, drop-append-add, take-append-seam}
+use lib.Seq.{drop-cons, drop-drop, drop-append-add, getD-append-seam, getD-drop, take-append-seam}
 use Rattle.rules.specs.Text.{Text, semicolon, all, joined, parts}
 use Rattle.rules.specs.Arguments.{every}
 use Rattle.rules.proofs.TextLaws.{joined-parts, parts-some, plain, span-run}
@@ -37,6 +38,10 @@ module _ (s : Text) where
   unfolding fieldStart
   start-after a zero = refl
   start-after a (suc n) = ap (λ (i : ℕ). endOf s i + 1) (start-after a n)
+
+  -- A byte of the text that stands at a place.
+  pub byte-held : (a i : ℕ) {t : Text} → drop a s ≡ t → getD s (a + i) 0 ≡ getD t i 0
+  byte-held a i e = sym (getD-drop a s i 0) ∙ ap (λ (t : Text). getD t i 0) e
 
   -- A semicolon ends the field, and the text goes on behind it.
   module _ (a : ℕ) (t rest : Text) (p : all plain t ≡ true) (e : drop a s ≡ t ++ semicolon ∷ rest) where
@@ -73,11 +78,36 @@ module _ (s : Text) where
         (every-at (all plain) ts k (omega arith) p)
         (starts-held k (omega arith) ∙ two-more k h)
 
+    -- A field but the last: its text, and the semicolon behind it.
+    field-held : (k : ℕ) → suc k < length ts → drop (fieldStart s a k) s ≡ getD ts k [] ++ semicolon ∷ (joined (drop (suc k) ts) ++ rest)
+    field-held k h = starts-held k (omega arith) ∙ two-more k h
+
     pub texts-held : (k : ℕ) → suc k < length ts → textAt s (fieldStart s a k) ≡ getD ts k []
     texts-held k h =
         text-held (fieldStart s a k) (getD ts k []) (joined (drop (suc k) ts) ++ rest)
         (every-at (all plain) ts k (omega arith) p)
-        (starts-held k (omega arith) ∙ two-more k h)
+        (field-held k h)
+
+    ends-held : (k : ℕ) → suc k < length ts → endOf s (fieldStart s a k) ≡ fieldStart s a k + length (getD ts k [])
+    ends-held k h =
+        end-held (fieldStart s a k) (getD ts k []) (joined (drop (suc k) ts) ++ rest)
+        (every-at (all plain) ts k (omega arith) p)
+        (field-held k h)
+
+    -- It begins with its first byte, or, where it is blank, with the semicolon that ends it.
+    pub first-held : (k : ℕ) → suc k < length ts → getD s (fieldStart s a k) 0 ≡ getD (getD ts k []) 0 semicolon
+    first-held k h =
+        ap (λ (i : ℕ). getD s i 0) (sym (add-zero (fieldStart s a k))) ∙ byte-held (fieldStart s a k) 0 (field-held k h) ∙ by (getD ts k [])
+      where
+        by : (t : Text) → getD (t ++ semicolon ∷ (joined (drop (suc k) ts) ++ rest)) 0 0 ≡ getD t 0 semicolon
+        by [] = refl
+        by (c ∷ t) = refl
+
+    pub semicolon-held : (k : ℕ) → suc k < length ts → getD s (endOf s (fieldStart s a k)) 0 ≡ semicolon
+    semicolon-held k h =
+        ap (λ (i : ℕ). getD s i 0) (ends-held k h)
+        ∙ byte-held (fieldStart s a k) (length (getD ts k [])) (field-held k h)
+        ∙ getD-append-seam (getD ts k []) semicolon (joined (drop (suc k) ts) ++ rest) 0
 
     -- So many bytes lie from a field's start to the end of the texts.
     pub starts-measured : (k : ℕ) → k < length ts → fieldStart s a k + length (joined (drop k ts)) ≡ a + length (joined ts)
@@ -85,12 +115,11 @@ module _ (s : Text) where
     starts-measured zero h = refl
     starts-measured (suc k) h =
         let g : k < length ts = omega arith in
-        let held : drop (fieldStart s a k) s ≡ getD ts k [] ++ semicolon ∷ (joined (drop (suc k) ts) ++ rest) = starts-held k g ∙ two-more k h in
         let size : length (joined (drop k ts) ++ rest) ≡ length (getD ts k [] ++ semicolon ∷ (joined (drop (suc k) ts) ++ rest)) = ap length (two-more k h) in
         omega (
           arith,
           starts-measured k g,
-          end-held (fieldStart s a k) (getD ts k []) (joined (drop (suc k) ts) ++ rest) (every-at (all plain) ts k g p) held,
+          ends-held k h,
           size,
           length-append (joined (drop k ts)) rest,
           length-append (getD ts k []) (semicolon ∷ (joined (drop (suc k) ts) ++ rest)),

@@ -9,6 +9,7 @@ pub mod RecordsHeld
 pub mod FirstLaws
 pub mod RecordLaws
 pub mod ParseLaws
+pub mod LineHeld
 pub mod ReadLaws
 pub mod WholeLaws
 pub mod HeadLaws

@@ -32,7 +32,7 @@ use Rattle.reader.specs.declared.RecordRead.the-variants as RecordRead
 use Rattle.reader.specs.Record.{brokenAt, brokenFrom, dueAt, fieldsFrom, lineless, parsedAt, parsedBy, qsoAt, recordAt, recordOn, rulesAt, toldBy}
 use Rattle.reader.proofs.DueLaws.{kept-told}
 use Rattle.reader.proofs.LineLaws.{ends-within, missed, stood}
-use Rattle.reader.proofs.PlaceLaws.{last-behind}
+use Rattle.reader.proofs.PlaceLaws.{last-behind, no-letter}
 use Rattle.reader.proofs.FieldsHeld.{fields-held, fields-joined, starts-held, starts-measured}
 
 -- # What is told of the fields
@@ -276,7 +276,7 @@ module _ (R : Rules) (s : Text) (at : ℕ) where
 
 -- Of a line by itself.
 module _ (R : Rules) (l : Text) where
-  told-alone : {r : RecordRule} → recordRule R l ≡ r → toldBy (contactAt R l 0) r ≡ recordOn R l
+  pub told-alone : {r : RecordRule} → recordRule R l ≡ r → toldBy (contactAt R l 0) r ≡ recordOn R l
   unfolding recordOn
   told-alone e = ap (toldBy (contactAt R l 0)) (sym e)
 
@@ -304,15 +304,11 @@ fifteen : (R : Rules) (l : Text) → recordRule R l ≡ keeps → length (parts 
 unfolding recordRule
 fifteen R l k = eqb-true (length (parts l)) 15 (picked (eqb (length (parts l)) 15) k no-break .0)
 
-kept-is : (c : Contact) {d : Contact} → toldBy c keeps ≡ RecordRead.Kept d → c ≡ d
+pub kept-is : (c : Contact) {d : Contact} → toldBy c keeps ≡ RecordRead.Kept d → c ≡ d
 unfolding toldBy
 kept-is c e = cc
 
 -- Of the place of a log where a record is due.
-no-letter : (rest : Text) → begins duplicateMark (crlf ++ rest) ≡ false
-unfolding duplicateMark crlf begins
-no-letter rest = refl
-
 module _ (R : Rules) (s : Text) (at : ℕ) where
   abbrev ofLine : Text → RecordRead
   ofLine l = toldBy (contactAt R s at) (recordRule R l)

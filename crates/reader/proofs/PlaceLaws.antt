@@ -4,7 +4,7 @@ use Prim.Native.Nat.{ℕ, zero, suc, _+_, _-_, _≤_, _<_, max}
 use native.Mathlib.Omega.{arith}
 use native.Mathlib.Nat.{add-zero, add-suc}
 use native.Mathlib.Numerals.{add-one}
-use mathlib.Core.List.{List, [], _∷_}
+use mathlib.Core.List.{List, [], _∷_, _++_}
 use mathlib.Core.Path.{_≡_, refl, sym, ap, _∙_}
 use mathlib.Core.Bool.{Bool, false, and-true}
 use lib.Dec.{eqb}
@@ -13,6 +13,7 @@ use borrow.Author.Tests.{eq-eqb, ne-eqb}
 use Rattle.rules.specs.Text.{Text, begins, span, same}
 use Rattle.rules.specs.Rules.{Rules}
 use Rattle.rules.specs.Fields.{Qso, duplicateMark, errorCall, newMark}
+use Rattle.rules.specs.Log.{crlf}
 use Rattle.rules.proofs.TextLaws.{span-short, same-apart}
 use Rattle.fields.specs.Field.{inField, textAt, endOf}
 use Rattle.fields.proofs.FieldLaws.{next}
@@ -114,6 +115,11 @@ module _ (s : Text) where
   pub held-within : (R : Rules) (qs : List Qso) (at : ℕ) → Holds R s at qs → at ≤ length s
   held-within R [] at h = omega arith
   held-within R (q ∷ qs) at h = omega (arith, ends-behind-start R at, held-within R qs (behind (contactAt R s at)) (h .1))
+
+-- The end of a line is no letter of a duplicate.
+pub no-letter : (rest : Text) → begins duplicateMark (crlf ++ rest) ≡ false
+unfolding duplicateMark crlf begins
+no-letter rest = refl
 
 -- The last field, of which a `D` is told by its one character.
 module _ (s : Text) (a : ℕ) where

@@ -1,14 +1,17 @@
 -- What is told of a record: by its fields where they lie, of a line by itself, and of the place of a log where a record is due.
 -- Assumes nothing.
-use Prim.Native.Nat.{ℕ, zero, suc, _+_}
-use mathlib.Core.Bool.{Bool, cond, not, _&&_, _||_}
+use Prim.Native.Nat.{ℕ, zero, suc, _+_, _-_, _≤_, _<_}
+use mathlib.Core.Path.{_≡_}
+use mathlib.Core.Bool.{Bool, true, cond, not, _&&_, _||_}
 use mathlib.Core.List.{List, [], _∷_}
 use lib.Dec.{eqb, ltb}
-use lib.ListN.{length, take, drop}
-use Rattle.rules.specs.Text.{Text, bytes, numberOf, parts, same}
+use lib.ListN.{length, take, drop, getD}
+use Rattle.rules.specs.Text.{Text, bytes, numberOf, parts, same, semicolon}
 use Rattle.rules.specs.Rules.{Rules}
 use Rattle.rules.specs.Fields.{Qso, dateRule, fieldRules, qsoOf}
 use Rattle.rules.specs.Reading.{FirstLine, RecordRule, aLine, breaks, firstBroken, firstLine, keeps, noLine, recordRule}
+use Rattle.rules.specs.Log.{conjunction}
+use Rattle.rules.specs.Judging.{claimsDuplicate}
 use Rattle.fields.specs.Field.{endOf, textAt}
 use Rattle.reader.specs.declared.Contact.{Contact}
 use Rattle.reader.specs.declared.DatedRead.{DatedRead}
@@ -17,7 +20,7 @@ use Rattle.reader.specs.declared.Parsed.{Parsed}
 use Rattle.reader.specs.declared.Parsed.the-variants as Parsed
 use Rattle.reader.specs.declared.RecordRead.{RecordRead}
 use Rattle.reader.specs.declared.RecordRead.the-variants as RecordRead
-use Rattle.reader.specs.Contact.{contactAt}
+use Rattle.reader.specs.Contact.{contactAt, Describes}
 
 -- # The fields where they lie
 
@@ -90,3 +93,18 @@ recordAt R s at = dueAt (λ l. toldBy (contactAt R s at) (recordRule R l)) s at 
 unfoldable pub brokenFrom : Rules → Text → ℕ → ℕ → RecordRead
 unfolding dueAt brokenAt firstLine
 brokenFrom R s at field = dueAt (λ l. brokenAt l field) s at (firstLine R (drop at s))
+
+-- # A record in a line by itself
+
+-- The line is a record, whose parts lie at these places: this is told where one is kept.
+pub record Alone (R : Rules) (l : Text) (c : Contact) : Type 0 where
+  pub rules : conjunction (fieldRules R (qsoOf (parts l))) ≡ true
+  pub describes : Describes l c (qsoOf (parts l))
+  pub call : c .call ≤ c .callend
+  pub callInside : c .callend + 1 < length l
+  pub modeBegins : getD l (c .callend + 1) 0 ≡ getD ((qsoOf (parts l)) .mode) 0 semicolon
+  pub exchange : c .exchange ≤ c .exchangeend
+  pub exchangeInside : c .exchangeend ≤ length l
+  pub locator : c .locator ≤ c .locatorend
+  pub locatorInside : c .locatorend ≤ length l
+  pub lastClaims : eqb (getD l (length l - 1) 0) 68 ≡ claimsDuplicate (qsoOf (parts l))
