@@ -2,6 +2,7 @@
 pub mod Said
 pub mod Count
 pub mod Bounds
+pub mod Sums
 pub mod Parts
 pub mod Memory
 pub mod Step

@@ -1,23 +1,26 @@
 // The judge of an accepted log: the class and the marks of each record, and what they come to. It looks at no byte but through the places
 // that are noted of each record.
 
-ghost use Prim.Native.Nat.{_+_, _-_, _*_, _%_, _<_, _≤_};
+ghost use Prim.Native.Nat.{_+_, _-_, _*_, _/_, _%_, _<_, _≤_};
 ghost use mathlib.Core.Bool.{true};
 ghost use mathlib.Core.Path.{_≡_};
+ghost use lib.Dec.{eqb, leb};
 ghost use lib.ListN.{drop, getD, length, replicate, set, take};
 ghost use Rattle.rules.specs.Arguments.{among};
 ghost use Rattle.rules.specs.Fields.{emptyOr, errorCall, locator, newMark};
-ghost use Rattle.rules.specs.Judging.{classNumber, modeNumbers, verdictNumber, zeroModes, zeroTotals};
+ghost use Rattle.rules.specs.Judging.{classNumber, modeNumbers, modesTogether, verdictNumber, zeroModes, zeroTotals};
 ghost use Rattle.rules.specs.Rules.{base};
+ghost use Rattle.rules.specs.Session.{declaredRule, rateRule};
 ghost use Rattle.rules.specs.Text.{numberOf, same};
 ghost use Rattle.fields.specs.Field.{textAt, endOf};
 ghost use Rattle.reader.specs.Contact.{between, claimedAt, fieldStart, valueBy};
 ghost use Rattle.reader.specs.Noted.{contactsRead, listed};
 ghost use Rattle.judge.specs.Bounds.{Closable, Countable};
-ghost use Rattle.judge.specs.Count.{addRecord, closing, modePlace, modesAfter, modesIn, noTally, tallied, worthIf};
+ghost use Rattle.judge.specs.Count.{addRecord, asDeclared, closing, modePlace, modesAfter, modesIn, noTally, tallied, worthIf};
 ghost use Rattle.judge.specs.Judge.{judgedOf, verdictsAfterwards, weighedOf};
 ghost use Rattle.judge.specs.Parts.{Ahead, First, Keyed, Lying, keyOf, keptTexts, numberOfSquare, partBy, seek, squareThere};
 ghost use Rattle.judge.specs.Said.{classBy, verdictBy};
+ghost use Rattle.judge.specs.Sums.{classIn, countsMore, moreSums, noSums, recordsCounted, soundSums, totalsKept, verdictIn};
 ghost use Rattle.judge.specs.Weigh.{Accepts, Listings, Weighable, Weighs};
 ghost use Rattle.judge.specs.Step.{Classed, CreditReady, Credits, NewPart, NewSquare, Ready, Steps, classNoted};
 use figures::NumberRead;
@@ -171,7 +174,7 @@ pub const MODES: usize = 11;
 const BLANK: usize = 10;
 
 // Where a mode is counted, by the character at which its field begins: its code, or the semicolon behind a blank one.
-fn mode_place(first: u8) -> usize
+pub fn mode_place(first: u8) -> usize
     ensures { λ r. ⌜ r ≡ modePlace first ⌝ }
 {
     if fields::is_digit(first) {
@@ -451,15 +454,16 @@ fn judge_next(
 // # The totals
 
 // What the records come to so far, but for their modes. These are counted in a list beside it.
-struct Tally {
-    credited: u64,
-    voids: u64,
-    duplicates: u64,
-    errors: u64,
-    points: u64,
-    squares: u64,
-    exchanges: u64,
-    countries: u64,
+#[repr(C)]
+pub struct Tally {
+    pub credited: u64,
+    pub voids: u64,
+    pub duplicates: u64,
+    pub errors: u64,
+    pub points: u64,
+    pub squares: u64,
+    pub exchanges: u64,
+    pub countries: u64,
 }
 
 // The sums after one more credited record; its mode is counted.
@@ -504,7 +508,7 @@ fn add_record(t: Tally, modes: &mut [u64; MODES], worth: u64, mode: usize, v: Ve
 }
 
 // The counts in the list, by their names.
-fn modes_in(n: &[u64; MODES]) -> Modes
+pub fn modes_in(n: &[u64; MODES]) -> Modes
     ensures { λ r. ⌜ r ≡ modesIn (now (n .entry)) ⌝ }
 {
     Modes {
@@ -605,8 +609,8 @@ pub fn mode_numbers(m: Modes) -> [u64; MODES]
     ]
 }
 
-// What no record comes to.
-fn no_tally() -> Tally
+// The eight sums of no record.
+pub fn no_tally() -> Tally
     ensures { λ r. ⌜ r ≡ noTally ⌝ }
 {
     Tally {
@@ -619,6 +623,201 @@ fn no_tally() -> Tally
         exchanges: 0,
         countries: 0,
     }
+}
+
+// # Sums that a caller keeps
+
+// The sums and the modes beside them.
+#[repr(C)]
+pub struct Sums {
+    pub tally: Tally,
+    pub modes: Modes,
+}
+
+// What no record comes to.
+pub fn no_sums() -> Sums
+    ensures { λ r. ⌜ r ≡ noSums ⌝ }
+{
+    Sums {
+        tally: no_tally(),
+        modes: no_modes(),
+    }
+}
+
+// The counts of the modes are so many together.
+fn come_to(m: Modes, n: u64) -> bool
+    ensures { λ r. ⌜ r ≡ eqb (modesTogether m) n ⌝ }
+{
+    let list = mode_numbers(m);
+    let mut left = n;
+    let mut k = 0;
+    while k < MODES {
+        if left < list[k] {
+            return false;
+        }
+        left -= list[k];
+        k += 1;
+    }
+    left == 0
+}
+
+// The most that a record is worth.
+const MOST_WORTH: u64 = 999999;
+
+// The counts of the classes are no more than there may be records. Each is looked at before they are added up.
+fn are_few(t: Tally) -> bool
+    ensures { λ r. ⌜ r ≡ leb (recordsCounted t) (base .mostRecords) ⌝ }
+{
+    let most = rules::most_records() as u64;
+    if most < t.credited {
+        return false;
+    }
+    if most < t.voids {
+        return false;
+    }
+    if most < t.duplicates {
+        return false;
+    }
+    if most < t.errors {
+        return false;
+    }
+    t.credited + t.voids + t.duplicates + t.errors <= most
+}
+
+// Some records come to these sums.
+pub fn are_sums(s: Sums) -> bool
+    ensures { λ r. ⌜ r ≡ soundSums base s ⌝ }
+{
+    let t = s.tally;
+    if !are_few(t) {
+        return false;
+    }
+    if t.points < t.credited {
+        return false;
+    }
+    if t.credited * MOST_WORTH < t.points {
+        return false;
+    }
+    if t.credited < t.squares {
+        return false;
+    }
+    if t.credited < t.exchanges {
+        return false;
+    }
+    if t.credited < t.countries {
+        return false;
+    }
+    if !come_to(s.modes, t.credited) {
+        return false;
+    }
+    if t.duplicates == 0 {
+        return true;
+    }
+    1 <= t.credited
+}
+
+// A bonus and a multiplier keep their rules.
+fn is_rate(bonus: u64, multiplier: u64) -> bool
+    ensures { λ r. ⌜ r ≡ rateRule base bonus multiplier ⌝ }
+{
+    if rules::most_bonus() < bonus {
+        return false;
+    }
+    if multiplier < 1 {
+        return false;
+    }
+    multiplier <= rules::most_multiplier()
+}
+
+// The bonuses and multipliers keep their rules.
+pub fn is_declared(d: Declared) -> bool
+    ensures { λ r. ⌜ r ≡ declaredRule base (asDeclared d) ⌝ }
+{
+    if !is_rate(d.squarebonus, d.squaremultiplier) {
+        return false;
+    }
+    if !is_rate(d.exchangebonus, d.exchangemultiplier) {
+        return false;
+    }
+    is_rate(d.countrybonus, d.countrymultiplier)
+}
+
+// The class of which the last two bits of a verdict's number tell.
+fn class_in(bits: u8) -> Class
+    ensures { λ r. ⌜ r ≡ classIn bits ⌝ }
+{
+    if bits == 0 {
+        return Class::Credited;
+    }
+    if bits == 1 {
+        return Class::Void;
+    }
+    if bits == 2 {
+        return Class::Duplicate;
+    }
+    Class::Error
+}
+
+// The verdict of which a number tells.
+pub fn verdict_in(number: u8) -> Verdict
+    ensures { λ r. ⌜ r ≡ verdictIn number ⌝ }
+{
+    verdict_by(
+        class_in(number % 4),
+        number / 16 % 2 == 1,
+        number / 32 % 2 == 1,
+        number / 64 % 2 == 1,
+    )
+}
+
+// One record more can be counted, worth so much.
+fn counts_more(s: Sums, worth: u64) -> bool
+    ensures { λ r. ⌜ r ≡ countsMore base s worth ⌝ }
+{
+    if !are_sums(s) {
+        return false;
+    }
+    let t = s.tally;
+    if rules::most_records() as u64 <= t.credited + t.voids + t.duplicates + t.errors {
+        return false;
+    }
+    worth <= MOST_WORTH
+}
+
+// The sums after one record more: what it is worth, the first character of its mode, and the number of its verdict. Where it cannot be counted,
+// nothing is.
+pub fn one_more(s: Sums, worth: u64, mode: u8, number: u8) -> Sums
+    ensures { λ r. ⌜ r ≡ moreSums base s worth mode number ⌝ }
+{
+    if !counts_more(s, worth) {
+        return s;
+    }
+    let mut list = mode_numbers(s.modes);
+    let tally = add_record(
+        s.tally,
+        &mut list,
+        worth,
+        mode_place(mode),
+        verdict_in(number),
+    );
+    Sums {
+        tally,
+        modes: modes_in(&list),
+    }
+}
+
+// The totals of such sums, with what was declared. They are zero where there can be no such records, or nothing like it be declared.
+pub fn totals_kept(s: Sums, d: Declared) -> Totals
+    ensures { λ r. ⌜ r ≡ totalsKept base s d ⌝ }
+{
+    if !are_sums(s) {
+        return no_totals();
+    }
+    if !is_declared(d) {
+        return no_totals();
+    }
+    let list = mode_numbers(s.modes);
+    closed(s.tally, &list, d)
 }
 
 // # All the records

@@ -21,6 +21,7 @@ use reader::field_end;
 use rules::Refusal;
 
 // The bonuses and multipliers that a log declares.
+#[repr(C)]
 pub struct Declared {
     pub squarebonus: u64,
     pub squaremultiplier: u64,
