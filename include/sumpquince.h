@@ -1,4 +1,4 @@
-/* Sumpquince: a reader, judge, writer and mender of REG1TEST version 1 contest logs.
+/* Sumpquince: a reader, judge, writer and mender of REG1TEST version 1 contest logs, and a session that judges records as they come.
  *
  * A log is a run of bytes: the line "[REG1TEST;1]", 36 keyword lines, "[Remarks]", any remark lines, "[QSORecords;N]" and N records, each line
  * ended by CR LF. Five functions take such a log where it lies in memory:
@@ -9,22 +9,31 @@
  *     sumpquince_write   the log again, with the right claims and marks in it, and each keyword in the listed spelling
  *     sumpquince_mend    a log that was spoilt on its way, with its line ends and its count put right, and a list of what was done
  *
+ * Four others keep the classes and the totals of records that come one by one, with no log around them:
+ *
+ *     sumpquince_session_start       begins anew, with the bonuses and multipliers
+ *     sumpquince_session_take        takes one record more
+ *     sumpquince_session_give_back   drops the last record
+ *     sumpquince_session_totals      the totals of the records now present
+ *
  * Each either accepts or refuses. A refusal says why by a number, a line and a field; all other numbers of the answer are then 0, and no byte
- * of the memory that was lent for results has been changed. Every input gets an answer: there is nothing to check before a call, but for what
- * stands under "Pointers".
+ * of the memory that was lent for results has been changed; a session that refuses keeps its totals. Every input gets an answer: there is nothing to
+ * check before a call, but for what stands under "Pointers".
  *
  * Keywords: a keyword is read with each of its letters in either case, so that "SAnth" and "santh" are both SAntH. Its listed spelling is the one in
  * the list at sumpquince_view. All else stands as it is given here, letter for letter.
  *
  * Sizes: a log has at most 65,535 bytes and at most 999 records, and a log that is written or mended has at most 65,535 bytes. A longer log may be
- * handed over; it is refused with number 1.
+ * handed over; it is refused with number 1. A session has at most 999 records: the 1,000th is refused with number 11.
  *
  * Pointers: a pointer must be valid for its length. Where the length is 0 it may be NULL, since nothing is then read or written through it. Bytes
- * need no alignment; `lines` of sumpquince_mend is aligned as uint32_t is. The log and the slices that are lent for results must not overlap. The
- * functions read the `log_len` bytes at `log` and no others, never write to them, and write nowhere but in the lent slices.
+ * need no alignment; `lines` of sumpquince_mend is aligned as uint32_t is, and a session as uint64_t is. The log, a record's line, a session and the
+ * slices that are lent must not overlap. The functions read the `log_len` bytes at `log` and no others, or the `line_len` bytes at `line`, never
+ * write to them, and write nowhere but in the session and the lent slices. `session` is never NULL.
  *
  * State: the functions allocate nothing, keep nothing between calls, and have no variables outside the stack. So they may be called from several
- * threads at once and from a signal handler, as long as no slice that one of them writes is used by another call or thread at the time.
+ * threads at once and from a signal handler, as long as no slice and no session that one of them writes is used by another call or thread at the
+ * time. What a session knows is in the caller's memory alone: in its struct and in the two slices that go with it.
  *
  * The library, target/staticlib/libpad.a, is built by `rt staticlib pad`. It is for x86-64 and the calling convention of System V (Linux), uses no
  * instruction beyond those that every x86-64 processor has, and may be loaded at any address. Of C it needs
@@ -71,6 +80,10 @@ extern "C" {
  *              mending: the result exceeds the output slice                                  0                             0
  *     9        viewing: the keyword number is not 1 to 36                                    0                             0
  *     10       mending: one of the two list slices is shorter than the list                  0                             0
+ *     4        starting a session: a bonus is not 0 to 9,999, or a multiplier not 1 to 99     0                             0
+ *     5        taking a record into a session: it breaks a rule                              0                             0 to 15
+ *     11       taking a record: the session is full                                          0                             0
+ *     12       giving a record back: there is none                                           0                             0
  *
  * Lines are counted from 1, the identifier's. In 5 the field is the first of the record that breaks its rule: 1 date, 2 time, 3 call, 4 mode, 5 sent
  * report, 6 sent number, 7 received report, 8 received number, 9 received exchange, 10 received locator, 11 points, 12 new exchange, 13 new square,
@@ -78,9 +91,9 @@ extern "C" {
  *
  * The first thing wrong is the one reported: 9, then 1, then the lines from the first to the last, and 7, 10 or 8 only of a log that follows the
  * format, 10 before 8. Of an empty log that is number 2 in line 1. In mending, 2 to 6 are about the mended log, whose lines are those of the log that
- * was handed over, and 1 is about either of the two. */
+ * was handed over, and 1 is about either of the two. A session knows no lines, and tells 5 before 11. */
 typedef struct {
-    uint32_t number; /* 0 for accepted, or 1 to 10 */
+    uint32_t number; /* 0 for accepted, or 1 to 12 */
     uint32_t line;   /* as in the table above */
     uint32_t field;  /* as in the table above */
 } SumpquinceRefusal; /* 12 bytes */
@@ -112,7 +125,7 @@ typedef struct {
 #define SUMPQUINCE_MODES 11
 #define SUMPQUINCE_BLANK_MODE 10 /* behind the codes 0 to 9 */
 
-/* The answer of sumpquince_judge. Every number is 0 on refusal. */
+/* The answer of sumpquince_judge and of sumpquince_session_totals. Every number is 0 on refusal. */
 typedef struct {
     SumpquinceRefusal refusal;
     /* How many records are of each class: they add up to the number of records. */
@@ -126,11 +139,12 @@ typedef struct {
     uint64_t squares;   /* how many different first four characters their locators have */
     uint64_t exchanges; /* how many different exchanges they have, empty ones left out */
     uint64_t countries; /* how many of them claim a new country (New-DXCC) */
-    /* Each of these three numbers times the bonus that the log declares for it. */
+    /* Each of these three numbers times the bonus that the log, or the start of the session, declares for it. */
     uint64_t square_bonus;
     uint64_t exchange_bonus;
     uint64_t country_bonus;
-    /* The points and the three bonuses, times the multipliers that CWWLs, CExcs and CDXCs declare. At most 998,404,684,715,196. */
+    /* The points and the three bonuses, times the multipliers that CWWLs, CExcs and CDXCs, or the start of the session, declare. At most
+     * 998,404,684,715,196. */
     uint64_t total;
     /* How many credited records have each mode: modes[0] to modes[9] those with the code 0 to 9, modes[SUMPQUINCE_BLANK_MODE] those where it is left
      * blank. They add up to `credited`. */
@@ -152,6 +166,36 @@ typedef struct {
     /* How many entries the list has, from kinds[0] and lines[0] on: 0 where the log was accepted as it is. 0 on refusal too. */
     uint64_t changes;
 } SumpquinceMended; /* 32 bytes */
+
+/* What a session is started with: what CWWLs, CExcs and CDXCs declare in a log. */
+typedef struct {
+    uint32_t square_bonus;        /* 0 to 9,999 */
+    uint32_t square_multiplier;   /* 1 to 99 */
+    uint32_t exchange_bonus;      /* 0 to 9,999 */
+    uint32_t exchange_multiplier; /* 1 to 99 */
+    uint32_t country_bonus;       /* 0 to 9,999 */
+    uint32_t country_multiplier;  /* 1 to 99 */
+} SumpquinceDeclared; /* 24 bytes */
+
+/* A session: what it was started with, and the counts of the records now present. It is numbers alone, with no pointer and no padding, so it may be
+ * copied, compared and stored as it is; a copy is worth something together with copies of the two slices. The caller declares one, starts it, and
+ * leaves its numbers alone: only reading them is of use. There is nothing to end.
+ *
+ * Whatever bytes are in it, each call answers. A session that no run of calls can have made is one where a bonus is over 9,999, a multiplier is 0 or
+ * over 99, the four classes have more than 999 records together, the points are fewer than the credited records or more than 999,999 for each of
+ * them, the squares, exchanges or countries are more than the credited records, the modes do not add up to them, or there are duplicates and no
+ * credited record. Such a session, as one of zeros that was never started, takes no record (11), gives none back (12) and has zero totals;
+ * starting it makes it a good one. */
+typedef struct {
+    /* As declared at the start: each bonus is that of one, and not, as in a judgement, of all of them. */
+    uint64_t square_bonus, square_multiplier, exchange_bonus, exchange_multiplier, country_bonus, country_multiplier;
+    /* As in a judgement. The four classes add up to the number of records, 0 to 999. */
+    uint64_t credited, voids, duplicates, errors, points, squares, exchanges, countries;
+    uint64_t modes[SUMPQUINCE_MODES];
+} SumpquinceSession; /* 200 bytes */
+
+/* How many bytes of the slice `kept` go with each record of a session. */
+#define SUMPQUINCE_KEPT_BYTES 28
 
 /* A verdict is one byte: one of the four classes, and on a credited record the marks that it earns, added. So 96 is a credited record with a new
  * square and a new country. (verdict & SUMPQUINCE_CLASS) is the class. */
@@ -221,6 +265,41 @@ SumpquinceWritten sumpquince_write(const uint8_t *log, size_t log_len, uint8_t *
  * Refusals: 1 for the log as it is handed over; 1 to 6 for the mended one; then 10, then 8. Nothing in the three slices is then changed. */
 SumpquinceMended sumpquince_mend(const uint8_t *log, size_t log_len, uint8_t *out, size_t out_len, uint8_t *kinds, size_t kinds_len,
                                  uint32_t *lines, size_t lines_len);
+
+/* Starts a session anew: it has no records, whatever it held before, and the bonuses and multipliers that are declared. Refusals: 4 where one is out
+ * of its range; no byte of the session is then changed. */
+SumpquinceRefusal sumpquince_session_start(SumpquinceSession *session, SumpquinceDeclared declared);
+
+/* Takes one record more. `line` is a record's line as a log has it, without its CR LF, and is judged as the next record of a log that has the records
+ * taken before it.
+ *
+ * With n records present before, verdicts[n] becomes the record's verdict, and the 28 bytes from kept[28 * n] on become what is kept of it: of a
+ * credited record its call in 14 bytes, its square, which is the first four characters of its locator, in 4, and its exchange in 6, each filled up
+ * with zero bytes behind; its points in 3, the least significant first; and its mode in 1, the digit as a character, or 0 where it is blank. Of any
+ * other record zero bytes are kept. No other byte of the two slices is changed. What they have of the records before is read, so the caller lends the
+ * same two slices to each call and leaves what is in them alone. They need not be cleared before the first record.
+ *
+ * `verdicts_len` and `kept_len` are the lengths of the slices in bytes: 999 and 27,972 are enough for every session.
+ *
+ * Refusals: 5 where the line breaks a rule of a record, with the field 0 where it has not exactly 14 semicolons, as an empty line, and else the first
+ * bad field, 1 to 15. A byte outside 32 to 127 makes its field a bad one, and of more than 75 characters some field has too many. Then 11 where the
+ * session has 999 records, or one of the slices has no place for one more, or no run of calls can have made the session. No byte of the session and
+ * of the two slices is then changed. */
+SumpquinceRefusal sumpquince_session_take(SumpquinceSession *session, const uint8_t *line, size_t line_len, uint8_t *verdicts, size_t verdicts_len,
+                                          uint8_t *kept, size_t kept_len);
+
+/* Drops the record that was taken last: the session is as it was before, and its place is free. The two slices are those that were lent to take it;
+ * they are read and not changed, so what they have behind the records now present means nothing.
+ *
+ * Refusals: 12 where the session has no records, or one of the slices is shorter than its records take, or no run of calls can have made the session,
+ * or what the slices have of the last record cannot be taken off its numbers, as after another session's records. No byte of the session is then
+ * changed. */
+SumpquinceRefusal sumpquince_session_give_back(SumpquinceSession *session, const uint8_t *verdicts, size_t verdicts_len, const uint8_t *kept,
+                                               size_t kept_len);
+
+/* The totals of the records now present, as sumpquince_judge tells them of a log with these records and these declared numbers. The refusal is
+ * always 0 0 0; of a session that no run of calls can have made every number is 0. */
+SumpquinceJudgement sumpquince_session_totals(SumpquinceSession session);
 
 #ifdef __cplusplus
 }

@@ -4,7 +4,7 @@ use Prim.Native.Nat.{ℕ, _≤_, _<_}
 use native.Mathlib.Omega.{arith}
 use mathlib.Core.Bool.{Bool, true, false}
 use mathlib.Core.Logic.{_⊎_, _↔_, inl, inr, ⊎-elim}
-use mathlib.Core.Path.{_≡_, refl}
+use mathlib.Core.Path.{_≡_, refl, sym, ap, _∙_}
 use mathlib.Core.List.{List, map}
 use lib.Dec.{leb}
 use lib.ListN.{length, getD, length-map}
@@ -15,7 +15,7 @@ use Rattle.rules.specs.declared.Totals.{Totals}
 use Rattle.rules.specs.Judging.{modeNumbers, modesTogether, zeroTotals}
 use Rattle.rules.specs.Demands.{sumOver, AddUp}
 use Rattle.rules.specs.Reading.{Reading, accepted, refused, read}
-use Rattle.rules.specs.Answers.{respeltOfReading, Viewing, seen, unseen, view, listedOfView, Judgement, judged, unjudged, judge, totalsOfJudgement, numbersOfJudgement, Writing, written, unwritten, write, bytesOfWriting, over}
+use Rattle.rules.specs.Answers.{noRefusal, respeltOfReading, Viewing, seen, unseen, view, listedOfView, Judgement, judged, unjudged, judge, totalsOfJudgement, numbersOfJudgement, Writing, written, unwritten, write, bytesOfWriting, over}
 use Rattle.rules.proofs.Format.{accepted-when-written}
 use Rattle.rules.proofs.Refusals.{refused-reading}
 use Rattle.rules.proofs.ModeLaws.{modes-add-up}
@@ -24,9 +24,19 @@ use Rattle.rules.proofs.GivenCalls.{zero-when-accepted, line-and-field-told}
 use Rattle.rules.specs.Mending.{Mending, mended, unmended, mendedText, changes, mend, bytesOfMending, kindsOfMending, linesOfMending}
 use Rattle.rules.specs.MendingDemands.{ListIsTooLong}
 use Rattle.rules.proofs.MendingGiven.{given-by-mending, mend-all}
+use Rattle.rules.specs.Session.{declaredRule}
+use Rattle.rules.proofs.Tests.{clash}
+use Rattle.rules.proofs.SessionLaws.{in-range, range-kept}
 use Rattle.mender.specs.Answer.{roomsOf}
-use Rattle.pad.specs.Face.{oneIf, readingFace, viewFace, totalsFace, judgementFace, writtenFace, mendedFace}
-use Rattle.pad.specs.Caller.{Accepts, ToldByRead, ToldByView, ToldByJudge, ToldByWrite, ListFits, ToldByMend, ForTheCaller}
+use Rattle.judge.specs.Count.{asDeclared}
+use Rattle.session.specs.declared.Session.{Session}
+use Rattle.session.specs.declared.Replied.{Replied}
+use Rattle.session.specs.Session.{totalsNow, started, refusedBy}
+use Rattle.session.specs.Keeping.{Holding, Calling, repliedTo, holdingAfter}
+use Rattle.session.proofs.KeepingLaws.{started-not, started-anew, the-base-session-keeps}
+use Rattle.pad.specs.declared.SumpquinceDeclared.{SumpquinceDeclared}
+use Rattle.pad.specs.Face.{refusalFace, oneIf, readingFace, viewFace, totalsFace, judgementFace, writtenFace, mendedFace, declaredFace, sessionFace}
+use Rattle.pad.specs.Caller.{Accepts, ToldByRead, ToldByView, ToldByJudge, ToldByWrite, ListFits, ToldByMend, ToldBySession, ToldByStart, ToldByTotals, ForTheCaller}
 
 -- # What a refused call leaves
 
@@ -143,6 +153,50 @@ told-by-mend s out kinds lines =
       refused = no-mending (mend base rooms s) out kinds lines;
     }
 
+-- # The session
+
+told-by-session : (h : Holding) (c : Calling) → ToldBySession h c (refusalFace ((repliedTo base h c) .refusal)) (holdingAfter base h c)
+unfolding refusalFace
+told-by-session h c =
+    record {
+      told = (the-base-session-keeps .refusedByNumber) h c;
+      refused = (the-base-session-keeps .refusedLeaves) h c;
+    }
+
+told-by-start : (s : Session) (d : SumpquinceDeclared) → ToldByStart d (refusalFace ((started base s (declaredFace d)) .refusal))
+unfolding refusalFace refusedBy
+told-by-start s d = by (declaredRule base (asDeclared (declaredFace d))) refl
+  where
+    by : (b : Bool) → declaredRule base (asDeclared (declaredFace d)) ≡ b → ToldByStart d (refusalFace ((started base s (declaredFace d)) .refusal))
+    by true e =
+        record {
+          accepted = (
+            λ a. in-range base (asDeclared (declaredFace d)) e,
+            λ r. ap (λ (x : Replied). x .refusal .number) (started-anew base s (declaredFace d) e),
+          );
+        }
+    by false e =
+        record {
+          accepted = (
+            λ a. let z : _≡_ {A = ℕ} 4 0 = sym (ap (λ (x : Replied). x .refusal .number) (started-not base s (declaredFace d) e)) ∙ a in absurd (omega arith),
+            λ r. clash (range-kept base (asDeclared (declaredFace d)) r) e,
+          );
+        }
+
+told-by-totals : (s : Session) → ToldByTotals (sessionFace s)
+unfolding sessionFace totalsFace refusalFace noRefusal
+told-by-totals s =
+    record { accepted = refl; modes = modes-told (totalsNow base s) ((the-base-session-keeps .keptModesAddUp) s) }
+
 pub for-the-caller : ForTheCaller
 for-the-caller =
-    record { reading = told-by-read; viewing = told-by-view; judging = told-by-judge; writing = told-by-write; mending = told-by-mend }
+    record {
+      reading = told-by-read;
+      viewing = told-by-view;
+      judging = told-by-judge;
+      writing = told-by-write;
+      mending = told-by-mend;
+      calling = told-by-session;
+      starting = told-by-start;
+      totalling = told-by-totals;
+    }

@@ -1,4 +1,4 @@
--- What a caller in C may rely on, of any log, any keyword number and any lent slice: demand 1 over the answers of include/sumpquince.h.
+-- What a caller in C may rely on, of any log, any keyword number, any session and any lent slice: demand 1 over the answers of include/sumpquince.h.
 -- Assumes nothing.
 use Prim.Native.Nat.{ℕ, _≤_}
 use mathlib.Core.Path.{_≡_}
@@ -17,14 +17,20 @@ use Rattle.rules.specs.Answers.{view, judge, numbersOfJudgement, write, bytesOf
 use Rattle.rules.specs.Mending.{mendedText, changes, mend, bytesOfMending, kindsOfMending, linesOfMending}
 use Rattle.rules.specs.Demands.{sumOver}
 use Rattle.rules.specs.Given.{LineAndField}
+use Rattle.rules.specs.SessionDemands.{InRange}
 use Rattle.mender.specs.Answer.{roomsOf}
+use Rattle.judge.specs.Count.{asDeclared}
+use Rattle.session.specs.declared.Session.{Session}
+use Rattle.session.specs.Session.{started}
+use Rattle.session.specs.Keeping.{Holding, Calling, repliedTo, holdingAfter, ToldFor}
 use Rattle.pad.specs.declared.SumpquinceRefusal.{SumpquinceRefusal}
 use Rattle.pad.specs.declared.SumpquinceReading.{SumpquinceReading}
 use Rattle.pad.specs.declared.SumpquinceView.{SumpquinceView}
 use Rattle.pad.specs.declared.SumpquinceJudgement.{SumpquinceJudgement}
 use Rattle.pad.specs.declared.SumpquinceWritten.{SumpquinceWritten}
 use Rattle.pad.specs.declared.SumpquinceMended.{SumpquinceMended}
-use Rattle.pad.specs.Face.{readingFace, viewFace, totalsFace, judgementFace, writtenFace, mendedFace}
+use Rattle.pad.specs.declared.SumpquinceDeclared.{SumpquinceDeclared}
+use Rattle.pad.specs.Face.{refusalFace, readingFace, viewFace, totalsFace, judgementFace, writtenFace, mendedFace, declaredFace, sessionFace}
 
 -- The struct of a refusal, as document 01 has it.
 abbrev pub refusalIn : SumpquinceRefusal → Refusal
@@ -96,6 +102,21 @@ pub record ToldByMend (s : Text) (out kinds lines : List ℕ) (m : SumpquinceMen
       (Accepts (m .refusal) → ⊥) →
       (m .length ≡ 0) × (m .changes ≡ 0) × (out' ≡ out) × (kinds' ≡ kinds) × (lines' ≡ lines)
 
+-- sumpquince_session_start, _take and _give_back, with what the caller has before the call and afterwards, the session and the two slices: "Refusals,
+-- session and its kept totals unchanged .., line 0". What a start declares goes by C's struct.
+pub record ToldBySession (h : Holding) (c : Calling) (r : SumpquinceRefusal) (afterwards : Holding) : Type 0 where
+  pub told : ToldFor c (refusalIn r)
+  pub refused : (Accepts r → ⊥) → afterwards ≡ h
+
+-- A start is accepted exactly where each of the six numbers is in its range.
+pub record ToldByStart (d : SumpquinceDeclared) (r : SumpquinceRefusal) : Type 0 where
+  pub accepted : Accepts r ↔ InRange base (asDeclared (declaredFace d))
+
+-- sumpquince_session_totals: nothing is refused, and the eleven counts of modes add up to the credited ones, whatever the session is.
+pub record ToldByTotals (j : SumpquinceJudgement) : Type 0 where
+  pub accepted : Accepts (j .refusal)
+  pub modes : (length (j .modes) ≡ 11) × (sumOver 11 (λ k. getD (j .modes) k 0) ≡ j .credited)
+
 -- The answers and the slices are those of the contracts of src/lib.rt.
 pub record ForTheCaller : Type 0 where
   pub reading : (s : Text) → ToldByRead s (readingFace (read base s))
@@ -117,3 +138,10 @@ pub record ForTheCaller : Type 0 where
       (over (bytesOfMending (mend base (roomsOf out kinds lines) s)) out)
       (over (kindsOfMending (mend base (roomsOf out kinds lines) s)) kinds)
       (over (linesOfMending (mend base (roomsOf out kinds lines) s)) lines)
+  pub calling :
+      (h : Holding) (c : Calling) →
+      ToldBySession h c (refusalFace ((repliedTo base h c) .refusal)) (holdingAfter base h c)
+  pub starting :
+      (s : Session) (d : SumpquinceDeclared) →
+      ToldByStart d (refusalFace ((started base s (declaredFace d)) .refusal))
+  pub totalling : (s : Session) → ToldByTotals (sessionFace s)

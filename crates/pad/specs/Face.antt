@@ -7,12 +7,17 @@ use lib.ListN.{length}
 use Rattle.rules.specs.declared.Refusal.{Refusal}
 use Rattle.rules.specs.declared.Totals.{Totals}
 use Rattle.rules.specs.Judging.{modeNumbers}
+use Rattle.rules.specs.Rules.{base}
 use Rattle.rules.specs.Reading.{Reading}
-use Rattle.rules.specs.Answers.{Viewing, Judgement, refusalOfReading, recordsOfReading, respeltOfReading, refusalOfView, startOfView, viewed, listedOfView, refusalOfJudgement, totalsOfJudgement, Writing, refusalOfWriting, bytesOfWriting}
+use Rattle.places.specs.declared.Declared.{Declared}
+use Rattle.session.specs.declared.Session.{Session}
+use Rattle.session.specs.Session.{totalsNow}
+use Rattle.rules.specs.Answers.{noRefusal, Viewing, Judgement, refusalOfReading, recordsOfReading, respeltOfReading, refusalOfView, startOfView, viewed, listedOfView, refusalOfJudgement, totalsOfJudgement, Writing, refusalOfWriting, bytesOfWriting}
 use Rattle.pad.specs.declared.SumpquinceRefusal.{SumpquinceRefusal}
 use Rattle.pad.specs.declared.SumpquinceReading.{SumpquinceReading}
 use Rattle.pad.specs.declared.SumpquinceView.{SumpquinceView}
 use Rattle.pad.specs.declared.SumpquinceJudgement.{SumpquinceJudgement}
+use Rattle.pad.specs.declared.SumpquinceDeclared.{SumpquinceDeclared}
 use Rattle.rules.specs.Mending.{Mending, refusalOfMending, bytesOfMending, kindsOfMending}
 use Rattle.pad.specs.declared.SumpquinceWritten.{SumpquinceWritten}
 use Rattle.pad.specs.declared.SumpquinceMended.{SumpquinceMended}
@@ -77,3 +82,21 @@ mendedFace m =
       length = length (bytesOfMending m);
       changes = length (kindsOfMending m);
     }
+
+-- # The session
+
+unfoldable pub declaredFace : SumpquinceDeclared → Declared
+declaredFace d =
+    record {
+      squarebonus = d .squarebonus;
+      squaremultiplier = d .squaremultiplier;
+      exchangebonus = d .exchangebonus;
+      exchangemultiplier = d .exchangemultiplier;
+      countrybonus = d .countrybonus;
+      countrymultiplier = d .countrymultiplier;
+    }
+
+-- The totals of the records now present; nothing is refused.
+unfoldable pub sessionFace : Session → SumpquinceJudgement
+unfolding totalsFace refusalFace noRefusal totalsNow
+sessionFace s = totalsFace (refusalFace noRefusal) (totalsNow base s)

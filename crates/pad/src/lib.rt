@@ -8,13 +8,17 @@ ghost use Rattle.rules.specs.Reading.{read};
 ghost use Rattle.rules.specs.Answers.{noRefusal, view, judge, numbersOfJudgement, write, bytesOfWriting, over};
 ghost use Rattle.rules.specs.Mending.{mend, bytesOfMending, kindsOfMending, linesOfMending};
 ghost use Rattle.mender.specs.Answer.{roomsOf};
-ghost use Rattle.pad.specs.Face.{refusalFace, oneIf, readingFace, viewFace, totalsFace, judgementFace, writtenFace, mendedFace};
+ghost use Rattle.session.specs.Session.{givenBack, keptTaken, started, taken, verdictsTaken};
+ghost use Rattle.pad.specs.Face.{declaredFace, refusalFace, oneIf, readingFace, viewFace, totalsFace, judgementFace, writtenFace, mendedFace, sessionFace};
 use judge::Judged;
 use mender::MendAnswer;
+use places::Declared;
 use places::ViewRead;
 use reader::ReadAnswer;
 use rules::Refusal;
 use rules::Totals;
+use session::Replied;
+use session::Session;
 use writer::Wrote;
 
 #[repr(C)]
@@ -68,6 +72,16 @@ pub struct SumpquinceMended {
     pub refusal: SumpquinceRefusal,
     pub length: u64,
     pub changes: u64,
+}
+
+#[repr(C)]
+pub struct SumpquinceDeclared {
+    pub squarebonus: u32,
+    pub squaremultiplier: u32,
+    pub exchangebonus: u32,
+    pub exchangemultiplier: u32,
+    pub countrybonus: u32,
+    pub countrymultiplier: u32,
 }
 
 // Nothing is refused.
@@ -222,4 +236,87 @@ pub extern "C" fn sumpquince_mend(
             changes: 0,
         },
     }
+}
+
+// # The session, which is handed over by its address: its numbers are those of `session::Session`
+
+fn declared_face(d: SumpquinceDeclared) -> Declared
+    ensures { λ r. ⌜ r ≡ declaredFace d ⌝ }
+{
+    Declared {
+        squarebonus: d.squarebonus as u64,
+        squaremultiplier: d.squaremultiplier as u64,
+        exchangebonus: d.exchangebonus as u64,
+        exchangemultiplier: d.exchangemultiplier as u64,
+        countrybonus: d.countrybonus as u64,
+        countrymultiplier: d.countrymultiplier as u64,
+    }
+}
+
+// The session started with the bonuses and multipliers as C has them.
+fn session_started(s: Session, d: SumpquinceDeclared) -> Replied
+    ensures { λ r. ⌜ r ≡ started base s (declaredFace d) ⌝ }
+{
+    session::started(s, declared_face(d))
+}
+
+// Why a call was refused, if it was.
+fn reply_face(r: Replied) -> SumpquinceRefusal
+    ensures { λ f. ⌜ f ≡ refusalFace (r .refusal) ⌝ }
+{
+    refusal_face(r.refusal)
+}
+
+#[no_mangle]
+pub extern "C" fn sumpquince_session_start(
+    session: &mut Session,
+    declared: SumpquinceDeclared,
+) -> SumpquinceRefusal
+    ensures { λ r. ⌜ (now (session .exit) ≡ (started base (now (session .entry)) (declaredFace declared)) .session)
+        × (r ≡ refusalFace ((started base (now (session .entry)) (declaredFace declared)) .refusal)) ⌝ }
+{
+    let t = session_started(*session, declared);
+    let s = session::session_of(t);
+    *session = s;
+    reply_face(t)
+}
+
+#[no_mangle]
+pub extern "C" fn sumpquince_session_take(
+    session: &mut Session,
+    line: &[u8],
+    verdicts: &mut [u8],
+    kept: &mut [u8],
+) -> SumpquinceRefusal
+    ensures { λ r. ⌜ (now (session .exit) ≡ (taken base (now (session .entry)) (now (line .entry)) (now (verdicts .entry)) (now (kept .entry))) .session)
+        × (now (verdicts .exit) ≡ verdictsTaken base (now (session .entry)) (now (line .entry)) (now (verdicts .entry)) (now (kept .entry)))
+        × (now (kept .exit) ≡ keptTaken base (now (session .entry)) (now (line .entry)) (now (verdicts .entry)) (now (kept .entry)))
+        × (r ≡ refusalFace ((taken base (now (session .entry)) (now (line .entry)) (now (verdicts .entry)) (now (kept .entry))) .refusal)) ⌝ }
+{
+    let t = session::taken(*session, line, verdicts, kept);
+    let s = session::session_of(t);
+    *session = s;
+    reply_face(t)
+}
+
+#[no_mangle]
+pub extern "C" fn sumpquince_session_give_back(
+    session: &mut Session,
+    verdicts: &[u8],
+    kept: &[u8],
+) -> SumpquinceRefusal
+    ensures { λ r. ⌜ (now (session .exit) ≡ (givenBack base (now (session .entry)) (now (verdicts .entry)) (now (kept .entry))) .session)
+        × (r ≡ refusalFace ((givenBack base (now (session .entry)) (now (verdicts .entry)) (now (kept .entry))) .refusal)) ⌝ }
+{
+    let t = session::given_back(*session, verdicts, kept);
+    let s = session::session_of(t);
+    *session = s;
+    reply_face(t)
+}
+
+#[no_mangle]
+pub extern "C" fn sumpquince_session_totals(session: Session) -> SumpquinceJudgement
+    ensures { λ r. ⌜ r ≡ sessionFace session ⌝ }
+{
+    totals_face(no_refusal(), session::totals(session))
 }
