@@ -1,21 +1,31 @@
 /* Calls one function of sumpquince.h on one log, again and again, so that its cost can be counted from outside.
  *
  *     drive read|view|judge|write|mend LOG TIMES
+ *     drive take|give-back|totals LOG TIMES
+ *
+ * The second three are called on a session with the log's records: `take` takes the last of them behind all others, `give-back` gives it back. Since
+ * a call changes the session, each works on a copy of it, and all copies are made before the first call, as many for one as for several.
  *
  * Prints the last answer in short, so that whoever counts sees that two libraries did the same work. */
 #include "log.h"
+#include "session.h"
 #include "sumpquince.h"
 
 #include <stdio.h>
 #include <stdlib.h>
 #include <string.h>
 
-enum { MOST_RECORDS = 999, CTOSC = 35 };
+enum { CTOSC = 35, COPIES = 8 };
 
-static uint8_t verdicts[MOST_RECORDS];
 static uint8_t written[LONGEST_LOG];
 static uint8_t kinds[MOST_CHANGES];
 static uint32_t lines[MOST_CHANGES];
+static SumpquinceSession copies[COPIES];
+
+static _Noreturn void stop(const char *why) {
+    fprintf(stderr, "drive: %s\n", why);
+    exit(2);
+}
 
 static void show(SumpquinceRefusal refusal, const char *what, uint64_t value) {
     printf("refusal %u %u %u, %s %llu\n", refusal.number, refusal.line, refusal.field, what, (unsigned long long)value);
@@ -54,11 +64,58 @@ static void drive_mend(size_t length, unsigned long long times) {
     show(answer.refusal, "changes", answer.changes);
 }
 
+static SumpquinceSession prepared(size_t length, Line *last) {
+    SumpquinceSession session;
+    if (!session_without_last(length, &session, last)) stop("the log has no session");
+    return session;
+}
+
+static void copy(SumpquinceSession session, unsigned long long times) {
+    if (times < 1 || times > COPIES) stop("a session is called 1 to 8 times");
+    for (size_t i = 0; i < COPIES; i++) copies[i] = session;
+}
+
+static void show_session(SumpquinceRefusal refusal, SumpquinceSession session) {
+    SumpquinceJudgement answer = sumpquince_session_totals(session);
+    show(refusal, "credited", answer.credited);
+    show(refusal, "squares", answer.squares);
+    show(refusal, "exchanges", answer.exchanges);
+    show(refusal, "total", answer.total);
+}
+
+static void drive_take(size_t length, unsigned long long times) {
+    SumpquinceRefusal refusal = {0, 0, 0};
+    Line last;
+    copy(prepared(length, &last), times);
+    for (size_t i = 0; i < times; i++) refusal = take(&copies[i], last);
+    show_session(refusal, copies[times - 1]);
+    show(refusal, "verdict", verdicts[copies[0].credited - 1]); /* of a log with nothing but credited records */
+}
+
+static void drive_give_back(size_t length, unsigned long long times) {
+    SumpquinceRefusal refusal = {0, 0, 0};
+    Line last;
+    SumpquinceSession session = prepared(length, &last);
+    take(&session, last);
+    copy(session, times);
+    for (size_t i = 0; i < times; i++) refusal = sumpquince_session_give_back(&copies[i], verdicts, sizeof verdicts, kept, sizeof kept);
+    show_session(refusal, copies[times - 1]);
+}
+
+static void drive_totals(size_t length, unsigned long long times) {
+    SumpquinceJudgement answer = {{0, 0, 0}, 0, 0, 0, 0, 0, 0, 0, 0, 0, 0, 0, 0, {0}};
+    Line last;
+    copy(prepared(length, &last), times);
+    for (size_t i = 0; i < times; i++) answer = sumpquince_session_totals(copies[i]);
+    show(answer.refusal, "total", answer.total);
+}
+
 int main(int count, char **words) {
     static const struct {
         const char *name;
         void (*drive)(size_t, unsigned long long);
-    } functions[] = {{"read", drive_read}, {"view", drive_view}, {"judge", drive_judge}, {"write", drive_write}, {"mend", drive_mend}};
+    } functions[] = {{"read", drive_read}, {"view", drive_view}, {"judge", drive_judge},         {"write", drive_write},
+                     {"mend", drive_mend}, {"take", drive_take}, {"give-back", drive_give_back}, {"totals", drive_totals}};
     if (count == 4) {
         for (size_t i = 0; i < sizeof functions / sizeof functions[0]; i++) {
             if (strcmp(words[1], functions[i].name) != 0) continue;
@@ -66,6 +123,6 @@ int main(int count, char **words) {
             return 0;
         }
     }
-    fputs("usage: drive read|view|judge|write|mend LOG TIMES\n", stderr);
+    fputs("usage: drive read|view|judge|write|mend|take|give-back|totals LOG TIMES\n", stderr);
     return 2;
 }

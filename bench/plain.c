@@ -12,7 +12,10 @@ enum {
     KEYWORDS = 36,
     KEYWORD_LENGTH = 5, /* of every one of them */
     FIELDS = 15,
-    SQUARE_LENGTH = 4
+    SQUARE_LENGTH = 4,
+    HIGHEST_BONUS = 9999,
+    HIGHEST_MULTIPLIER = 99,
+    MOST_POINTS = 999999 /* of one record */
 };
 
 /* Places of keywords and of fields, counted from 0. */
@@ -22,6 +25,7 @@ enum { DATE, TIME, CALL, MODE, SENT_REPORT, SENT_NUMBER, GOT_REPORT, GOT_NUMBER,
 
 /* Reading and mending share the rules of a line. Each has them in its own code, as it would if it were alone. */
 #define INLINE inline __attribute__((always_inline))
+#define NOINLINE __attribute__((noinline))
 
 /* A part of a log. */
 typedef struct {
@@ -816,6 +820,179 @@ static void write_mended(const uint8_t *log, size_t length, const Survey *survey
     }
 }
 
+/* ---- The session ---- */
+
+/* What is kept of a credited record, as it lies in the lent slice. Of any other record it is zero, and no call is. */
+typedef struct {
+    uint8_t call[14], square[SQUARE_LENGTH], exchange[6], points[3], mode;
+} Kept;
+_Static_assert(sizeof(Kept) == SUMPQUINCE_KEPT_BYTES && _Alignof(Kept) == 1, "entries lie side by side, wherever the slice begins");
+
+static bool is_bonus(uint64_t value) { return value <= HIGHEST_BONUS; }
+static bool is_factor(uint64_t value) { return value >= 1 && value <= HIGHEST_MULTIPLIER; }
+
+/* Whether a run of calls could have made the session. No sum runs over: each part is held to the bound of its sum first. */
+static bool is_sound(const SumpquinceSession *session) {
+    uint64_t credited = session->credited, sum = 0;
+    if (!is_bonus(session->square_bonus) || !is_bonus(session->exchange_bonus) || !is_bonus(session->country_bonus)) return false;
+    if (!is_factor(session->square_multiplier) || !is_factor(session->exchange_multiplier) || !is_factor(session->country_multiplier)) return false;
+    if (credited > MOST_RECORDS || session->voids > MOST_RECORDS) return false;
+    if (session->duplicates > MOST_RECORDS || session->errors > MOST_RECORDS) return false;
+    if (credited + session->voids + session->duplicates + session->errors > MOST_RECORDS) return false;
+    if (session->points < credited || session->points > credited * MOST_POINTS) return false;
+    if (session->squares > credited || session->exchanges > credited || session->countries > credited) return false;
+    if (session->duplicates > 0 && credited == 0) return false;
+    for (size_t i = 0; i < SUMPQUINCE_MODES; i++) {
+        if (session->modes[i] > credited) return false;
+        sum += session->modes[i];
+    }
+    return sum == credited;
+}
+
+/* Of a sound session. */
+static size_t records_in(const SumpquinceSession *session) {
+    return (size_t)(session->credited + session->voids + session->duplicates + session->errors);
+}
+
+static bool all_allowed(Text text) {
+    for (size_t i = 0; i < text.length; i++) {
+        if (!is_between(text.at[i], 32, 127)) return false;
+    }
+    return true;
+}
+
+/* A line comes with no promise of what bytes it has. The exchange is the one field whose rule rests on that: all others name theirs. */
+static uint32_t first_bad_field_of_line(const Text *fields, bool error, uint64_t *points) {
+    uint32_t bad = first_bad_field(fields, error, points);
+    if ((bad == 0 || bad > EXCHANGE + 1) && !all_allowed(fields[EXCHANGE])) return EXCHANGE + 1;
+    return bad;
+}
+
+static void keep(Kept *entry, const Text *fields, uint64_t points) {
+    memset(entry, 0, sizeof *entry);
+    memcpy(entry->call, fields[CALL].at, fields[CALL].length);
+    if (fields[LOCATOR].length != 0) memcpy(entry->square, fields[LOCATOR].at, SQUARE_LENGTH);
+    memcpy(entry->exchange, fields[EXCHANGE].at, fields[EXCHANGE].length);
+    entry->points[0] = (uint8_t)points;
+    entry->points[1] = (uint8_t)(points >> 8);
+    entry->points[2] = (uint8_t)(points >> 16);
+    if (fields[MODE].length != 0) entry->mode = fields[MODE].at[0];
+}
+
+/* The first bytes of a part as one number. */
+static uint64_t eight_bytes(const uint8_t *at) {
+    uint64_t number;
+    memcpy(&number, at, sizeof number);
+    return number;
+}
+
+static uint32_t four_bytes(const uint8_t *at) {
+    uint32_t number;
+    memcpy(&number, at, sizeof number);
+    return number;
+}
+
+/* The three searches look for a part of the entry `last`, which stands behind all others, so that each ends there at the latest. Most calls and
+ * exchanges differ in the bytes that are compared first. Each search is a function of its own, where the compiler has registers enough. */
+static NOINLINE bool is_known_call(const Kept *entry, const Kept *last) {
+    const uint64_t first = eight_bytes(last->call);
+    while (eight_bytes(entry->call) != first || memcmp(entry->call + 8, last->call + 8, 6) != 0) entry++;
+    return entry != last;
+}
+
+static NOINLINE bool is_known_square(const Kept *entry, const Kept *last) {
+    const uint32_t square = four_bytes(last->square);
+    while (four_bytes(entry->square) != square) entry++;
+    return entry != last;
+}
+
+static NOINLINE bool is_known_exchange(const Kept *entry, const Kept *last) {
+    const uint32_t first = four_bytes(last->exchange);
+    while (four_bytes(entry->exchange) != first || memcmp(entry->exchange + 4, last->exchange + 4, 2) != 0) entry++;
+    return entry != last;
+}
+
+static size_t mode_kept(const Kept *entry) { return entry->mode == 0 ? SUMPQUINCE_BLANK_MODE : (size_t)(entry->mode - '0'); }
+
+static uint64_t points_kept(const Kept *entry) {
+    return (uint64_t)entry->points[0] | (uint64_t)entry->points[1] << 8 | (uint64_t)entry->points[2] << 16;
+}
+
+/* The marks of a credited record, whose entry stands behind those of the records before it. */
+static uint8_t marks_of(const Kept *first, const Kept *last, bool new_country) {
+    uint8_t marks = 0;
+    if (last->exchange[0] != 0 && !is_known_exchange(first, last)) marks |= SUMPQUINCE_NEW_EXCHANGE;
+    if (last->square[0] != 0 && !is_known_square(first, last)) marks |= SUMPQUINCE_NEW_SQUARE;
+    if (new_country) marks |= SUMPQUINCE_NEW_COUNTRY;
+    return marks;
+}
+
+static void count_credited(SumpquinceSession *session, uint8_t verdict, const Kept *entry) {
+    session->credited++;
+    session->points += points_kept(entry);
+    session->squares += (verdict & SUMPQUINCE_NEW_SQUARE) != 0;
+    session->exchanges += (verdict & SUMPQUINCE_NEW_EXCHANGE) != 0;
+    session->countries += (verdict & SUMPQUINCE_NEW_COUNTRY) != 0;
+    session->modes[mode_kept(entry)]++;
+}
+
+/* Puts the entry of a record that is known to have room, and gives its verdict. */
+static uint8_t take_record(SumpquinceSession *session, const Text *fields, bool error, uint64_t points, const Kept *first, Kept *last) {
+    uint8_t verdict = SUMPQUINCE_ERROR;
+    if (error) {
+        session->errors++;
+    } else if (points == 0 && fields[DUPLICATE].length == 0) {
+        verdict = SUMPQUINCE_VOID;
+        session->voids++;
+    } else {
+        keep(last, fields, points);
+        if (is_known_call(first, last)) {
+            verdict = SUMPQUINCE_DUPLICATE;
+            session->duplicates++;
+        } else if (points == 0) {
+            verdict = SUMPQUINCE_VOID;
+            session->voids++;
+        } else {
+            verdict = SUMPQUINCE_CREDITED | marks_of(first, last, fields[NEW_COUNTRY].length != 0);
+            count_credited(session, verdict, last);
+        }
+    }
+    if (class_of(verdict) != SUMPQUINCE_CREDITED) memset(last, 0, sizeof *last);
+    return verdict;
+}
+
+/* Takes what a credited record brought off the session, if that can be done. */
+static bool uncount_credited(SumpquinceSession *session, uint8_t verdict, const Kept *entry) {
+    uint64_t square = (verdict & SUMPQUINCE_NEW_SQUARE) != 0, exchange = (verdict & SUMPQUINCE_NEW_EXCHANGE) != 0;
+    uint64_t country = (verdict & SUMPQUINCE_NEW_COUNTRY) != 0, points = points_kept(entry);
+    size_t mode = mode_kept(entry);
+    if (session->credited == 0 || session->points < points || session->squares < square || session->exchanges < exchange) return false;
+    if (session->countries < country || mode >= SUMPQUINCE_MODES || session->modes[mode] == 0) return false;
+    session->credited--;
+    session->points -= points;
+    session->squares -= square;
+    session->exchanges -= exchange;
+    session->countries -= country;
+    session->modes[mode]--;
+    return true;
+}
+
+static bool uncount(uint64_t *count) {
+    if (*count == 0) return false;
+    (*count)--;
+    return true;
+}
+
+static bool uncount_record(SumpquinceSession *session, uint8_t verdict, const Kept *entry) {
+    switch (class_of(verdict)) {
+    case SUMPQUINCE_CREDITED: return uncount_credited(session, verdict, entry);
+    case SUMPQUINCE_VOID: return uncount(&session->voids);
+    case SUMPQUINCE_DUPLICATE: return uncount(&session->duplicates);
+    case SUMPQUINCE_ERROR: return uncount(&session->errors);
+    default: return false;
+    }
+}
+
 /* ---- The face ---- */
 
 SumpquinceReading sumpquince_read(const uint8_t *log, size_t log_len) {
@@ -893,5 +1070,66 @@ SumpquinceMended sumpquince_mend(const uint8_t *log, size_t log_len, uint8_t *ou
     }
     answer.length = survey.length;
     answer.changes = survey.changes;
+    return answer;
+}
+
+SumpquinceRefusal sumpquince_session_start(SumpquinceSession *session, SumpquinceDeclared declared) {
+    if (!is_bonus(declared.square_bonus) || !is_bonus(declared.exchange_bonus) || !is_bonus(declared.country_bonus)) return refuse(4, 0, 0);
+    if (!is_factor(declared.square_multiplier) || !is_factor(declared.exchange_multiplier) || !is_factor(declared.country_multiplier)) {
+        return refuse(4, 0, 0);
+    }
+    memset(session, 0, sizeof *session);
+    session->square_bonus = declared.square_bonus;
+    session->square_multiplier = declared.square_multiplier;
+    session->exchange_bonus = declared.exchange_bonus;
+    session->exchange_multiplier = declared.exchange_multiplier;
+    session->country_bonus = declared.country_bonus;
+    session->country_multiplier = declared.country_multiplier;
+    return ACCEPTED;
+}
+
+SumpquinceRefusal sumpquince_session_take(SumpquinceSession *session, const uint8_t *line, size_t line_len, uint8_t *verdicts, size_t verdicts_len,
+                                          uint8_t *kept, size_t kept_len) {
+    Text text = {line, line_len}, fields[FIELDS];
+    if (!cut_record(text, fields)) return refuse(5, 0, 0);
+    uint64_t points = 0;
+    bool error = is_error_call(fields[CALL]);
+    uint32_t bad = first_bad_field_of_line(fields, error, &points);
+    if (bad != 0) return refuse(5, 0, bad);
+    if (!is_sound(session)) return refuse(11, 0, 0);
+    size_t records = records_in(session);
+    if (records == MOST_RECORDS || verdicts_len <= records || kept_len < (records + 1) * sizeof(Kept)) return refuse(11, 0, 0);
+    Kept *entries = (Kept *)kept;
+    verdicts[records] = take_record(session, fields, error, points, entries, entries + records);
+    return ACCEPTED;
+}
+
+SumpquinceRefusal sumpquince_session_give_back(SumpquinceSession *session, const uint8_t *verdicts, size_t verdicts_len, const uint8_t *kept,
+                                               size_t kept_len) {
+    if (!is_sound(session)) return refuse(12, 0, 0);
+    size_t records = records_in(session);
+    if (records == 0 || verdicts_len < records || kept_len < records * sizeof(Kept)) return refuse(12, 0, 0);
+    const Kept *entries = (const Kept *)kept;
+    if (!uncount_record(session, verdicts[records - 1], entries + records - 1)) return refuse(12, 0, 0);
+    return ACCEPTED;
+}
+
+SumpquinceJudgement sumpquince_session_totals(SumpquinceSession session) {
+    SumpquinceJudgement answer = {ACCEPTED, 0, 0, 0, 0, 0, 0, 0, 0, 0, 0, 0, 0, {0}};
+    if (!is_sound(&session)) return answer;
+    answer.credited = session.credited;
+    answer.voids = session.voids;
+    answer.duplicates = session.duplicates;
+    answer.errors = session.errors;
+    answer.points = session.points;
+    answer.squares = session.squares;
+    answer.exchanges = session.exchanges;
+    answer.countries = session.countries;
+    answer.square_bonus = session.squares * session.square_bonus;
+    answer.exchange_bonus = session.exchanges * session.exchange_bonus;
+    answer.country_bonus = session.countries * session.country_bonus;
+    answer.total = (session.points + answer.square_bonus + answer.exchange_bonus + answer.country_bonus) * session.square_multiplier *
+                   session.exchange_multiplier * session.country_multiplier;
+    memcpy(answer.modes, session.modes, sizeof answer.modes);
     return answer;
 }

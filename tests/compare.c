@@ -1,27 +1,15 @@
-/* Compares the functions of sumpquince.h with the reference: reads the reference's stream of trials (tests/reference/src/main.rs says how it is
- * laid out) from standard input, calls the five functions on each log, and holds every answer, every byte written, and every byte that must stay
- * as it was to what the reference says. Besides, a mended log is mended once more, which must change nothing.
+/* Compares the functions of sumpquince.h that take a log with the reference: reads the reference's stream of trials (tests/reference/src/main.rs says
+ * how it is laid out) from standard input, calls the five functions on each log, and holds every answer, every byte written, and every byte that must
+ * stay as it was to what the reference says. Besides, a mended log is mended once more, which must change nothing.
  *
  *     compare [FOLDER] < TRIALS
  *
  * A difference is told in a line, 20 of them at most, and each log that such a line is about is saved to FOLDER as trial-INDEX.edi. The status is 0
  * where there is no difference, 1 where there is one, and 2 where the stream is broken. */
-#include "sumpquince.h"
+#define PROGRAM "compare"
+#include "stream.h"
 
-#include <stdbool.h>
-#include <stdio.h>
-#include <stdlib.h>
-#include <string.h>
-
-enum { MOST_LINES = 20, FENCE = 64, TOTALS = 12, KEYWORDS = 36 };
-
-/* No part of a stream is longer: a larger length means that the stream is broken, and asking for so much memory would hide that. */
-#define LONGEST_PART (1u << 26)
-
-typedef struct {
-    uint8_t *at;
-    uint32_t length;
-} Bytes;
+enum { KEYWORDS = 36 };
 
 /* A trial and the reference's answers to it. */
 typedef struct {
@@ -48,42 +36,7 @@ static struct {
     unsigned long long logs, differences;
 } run;
 
-static _Noreturn void stop(const char *why) {
-    fprintf(stderr, "compare: %s\n", why);
-    exit(2);
-}
-
-static void *allocate(size_t size) {
-    void *block = malloc(size == 0 ? 1 : size);
-    if (block == NULL) stop("out of memory");
-    return block;
-}
-
 /* ---- The stream ---- */
-
-static void take(void *to, size_t length) {
-    if (fread(to, 1, length, stdin) != length) stop("the stream of trials ends too soon");
-}
-
-static uint32_t take_u32(void) {
-    uint8_t b[4];
-    take(b, sizeof b);
-    return (uint32_t)b[0] | (uint32_t)b[1] << 8 | (uint32_t)b[2] << 16 | (uint32_t)b[3] << 24;
-}
-
-static uint64_t take_u64(void) {
-    uint64_t low = take_u32();
-    return low | (uint64_t)take_u32() << 32;
-}
-
-static Bytes take_bytes(void) {
-    Bytes bytes;
-    bytes.length = take_u32();
-    if (bytes.length > LONGEST_PART) stop("the stream of trials is broken");
-    bytes.at = allocate(bytes.length);
-    take(bytes.at, bytes.length);
-    return bytes;
-}
 
 static Bytes take_numbers(uint32_t count) {
     Bytes bytes;
@@ -94,14 +47,6 @@ static Bytes take_numbers(uint32_t count) {
         memcpy(bytes.at + i * sizeof number, &number, sizeof number);
     }
     return bytes;
-}
-
-static SumpquinceRefusal take_answer(void) {
-    SumpquinceRefusal refusal;
-    refusal.number = take_u32();
-    refusal.line = take_u32();
-    refusal.field = take_u32();
-    return refusal;
 }
 
 static void take_trial(Trial *trial) {
@@ -173,9 +118,6 @@ static void hold_refusal(const Trial *trial, const char *function, SumpquinceRef
 
 /* ---- Lent memory ---- */
 
-/* What lent memory is filled with. It changes from byte to byte, so that bytes moved within the slice are noticed too. */
-static uint8_t filling(size_t i) { return (uint8_t)(0xA5 ^ (i * 29)); }
-
 static Lent lend(size_t length) {
     Lent lent = {allocate(length + 2 * FENCE), length};
     for (size_t i = 0; i < length + 2 * FENCE; i++) lent.block[i] = filling(i);
@@ -233,11 +175,9 @@ static void try_spellings(const Trial *trial) {
 }
 
 static void hold_totals(const Trial *trial, const SumpquinceJudgement *got) {
-    static const char *const names[TOTALS] = {"credited", "voids", "duplicates", "errors", "points", "squares", "exchanges", "countries",
-                                              "square_bonus", "exchange_bonus", "country_bonus", "total"};
-    const uint64_t totals[TOTALS] = {got->credited, got->voids, got->duplicates, got->errors, got->points, got->squares, got->exchanges,
-                                     got->countries, got->square_bonus, got->exchange_bonus, got->country_bonus, got->total};
-    for (int i = 0; i < TOTALS; i++) hold(trial, "judge", names[i], totals[i], trial->totals[i]);
+    uint64_t totals[TOTALS];
+    list_totals(got, totals);
+    for (int i = 0; i < TOTALS; i++) hold(trial, "judge", total_names[i], totals[i], trial->totals[i]);
     for (int i = 0; i < SUMPQUINCE_MODES; i++) {
         char what[32];
         snprintf(what, sizeof what, "modes[%d]", i);
@@ -307,11 +247,8 @@ static void try_trial(const Trial *trial) {
 }
 
 int main(int count, char **words) {
-    uint8_t name[8];
     run.folder = count > 1 ? words[1] : NULL;
-    take(name, sizeof name);
-    if (memcmp(name, "SQTRIAL4", sizeof name) != 0) stop("standard input is no stream of trials");
-    take_u64(); /* the seed, which whoever asked for the trials knows */
+    take_name("SQTRIAL4");
     for (uint32_t left = take_u32(); left > 0; left--) {
         Trial trial;
         take_trial(&trial);
@@ -319,7 +256,7 @@ int main(int count, char **words) {
         free_trial(&trial);
         run.logs++;
     }
-    if (fread(name, 1, 1, stdin) != 0) stop("the stream of trials goes on after the last");
+    take_end();
     printf("%llu logs, %llu differences\n", run.logs, run.differences);
     return run.differences == 0 ? 0 : 1;
 }

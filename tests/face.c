@@ -1,5 +1,6 @@
 /* Tries what include/sumpquince.h says of its shapes and of empty slices: that the structs have the sizes that it gives, that the modes of a
- * judgement lie where it says and add up, and that a slice of length 0 may have a null pointer, for each function and each of its slices.
+ * judgement and the numbers of a session lie where it says and add up, that a slice of length 0 may have a null pointer, for each function and each
+ * of its slices, and that a session that no run of calls can have made is answered.
  *
  *     face < LOG
  *
@@ -16,10 +17,13 @@ _Static_assert(sizeof(SumpquinceView) == 40 && _Alignof(SumpquinceView) == 8, "a
 _Static_assert(sizeof(SumpquinceJudgement) == 200 && _Alignof(SumpquinceJudgement) == 8, "a judgement");
 _Static_assert(sizeof(SumpquinceWritten) == 24 && _Alignof(SumpquinceWritten) == 8, "a log written back");
 _Static_assert(sizeof(SumpquinceMended) == 32 && _Alignof(SumpquinceMended) == 8, "a log that was mended");
+_Static_assert(sizeof(SumpquinceDeclared) == 24 && _Alignof(SumpquinceDeclared) == 4, "what a session is started with");
+_Static_assert(sizeof(SumpquinceSession) == 200 && _Alignof(SumpquinceSession) == 8, "a session");
 
 enum { LONGEST_LOG = 65535, MOST_RECORDS = 999, MOST_CHANGES = 32767 };
 
 static uint8_t log[LONGEST_LOG], none[LONGEST_LOG], verdicts[MOST_RECORDS], out[LONGEST_LOG], kinds[MOST_CHANGES];
+static uint8_t kept[MOST_RECORDS * SUMPQUINCE_KEPT_BYTES];
 static uint32_t lines[MOST_CHANGES];
 static int tries, differences;
 
@@ -33,14 +37,26 @@ static void hold(const char *what, uint64_t got, uint64_t wanted) {
 /* A refusal as one number: 210 is number 2, line 1, field 0, and 1000 is number 10. */
 static uint64_t digits(SumpquinceRefusal refusal) { return refusal.number * 100 + refusal.line * 10 + refusal.field; }
 
+/* Where the count line begins. */
+static size_t count_line(size_t length) {
+    static const char start[] = "[QSORecords;";
+    size_t at = 0;
+    while (at < length && memcmp(log + at, start, sizeof start - 1) != 0) at++;
+    return at;
+}
+
 /* The log with no records: up to its count line, and `[QSORecords;0]`. */
 static size_t without_records(size_t length) {
-    static const char count_line[] = "[QSORecords;";
-    size_t start = 0;
-    while (start < length && memcmp(log + start, count_line, sizeof count_line - 1) != 0) start++;
+    size_t start = count_line(length);
     memcpy(none, log, start);
     memcpy(none + start, "[QSORecords;0]\r\n", 16);
     return start + 16;
+}
+
+/* Behind the CR LF that comes next. */
+static size_t line_behind(size_t at) {
+    while (log[at] != '\n') at++;
+    return at + 1;
 }
 
 /* Where the parts of the mender's answer lie in it. */
@@ -131,6 +147,79 @@ static void try_empty_lists(size_t length) {
     hold("whether a chewed log becomes another", memcmp(out, log, length) != 0, 0);
 }
 
+static size_t place_in(const SumpquinceSession *session, const uint64_t *number) {
+    return (size_t)((const uint8_t *)number - (const uint8_t *)session);
+}
+
+/* Each number of the start goes to its place, and a record of the log is counted where the header has it. */
+static void try_session_shape(const uint8_t *line, size_t length) {
+    const SumpquinceDeclared declared = {1, 2, 3, 4, 5, 6};
+    SumpquinceSession session;
+    hold("the refusal of a start", digits(sumpquince_session_start(&session, declared)), 0);
+    hold("the place of a session's first number", place_in(&session, &session.square_bonus), 0);
+    hold("the place of its credited records", place_in(&session, &session.credited), 48);
+    hold("the place of its points", place_in(&session, &session.points), 80);
+    hold("the place of its first mode", place_in(&session, &session.modes[0]), 112);
+    hold("the place of its blank mode", place_in(&session, &session.modes[SUMPQUINCE_BLANK_MODE]), 192);
+    const uint64_t numbers[] = {session.square_bonus,        session.square_multiplier, session.exchange_bonus,
+                                session.exchange_multiplier, session.country_bonus,     session.country_multiplier};
+    for (uint64_t i = 0; i < 6; i++) hold("a declared number", numbers[i], i + 1);
+    hold("the refusal of a record", digits(sumpquince_session_take(&session, line, length, verdicts, sizeof verdicts, kept, sizeof kept)), 0);
+    hold("the number of records", session.credited + session.voids + session.duplicates + session.errors, 1);
+    SumpquinceJudgement judgement = sumpquince_session_totals(session);
+    hold("the sum of a session's modes", sum_of_modes(&judgement), judgement.credited);
+    hold("the refusal of giving back", digits(sumpquince_session_give_back(&session, verdicts, sizeof verdicts, kept, sizeof kept)), 0);
+}
+
+/* A missing line has no semicolons, and missing slices have no place and no record. */
+static void try_session_without_slices(const uint8_t *line, size_t length) {
+    const SumpquinceDeclared declared = {0, 1, 0, 1, 0, 1}, wrong = {0, 0, 0, 1, 0, 1};
+    SumpquinceSession session, before;
+    sumpquince_session_start(&session, declared);
+    before = session;
+    hold("the refusal of a wrong start", digits(sumpquince_session_start(&session, wrong)), 400);
+    hold("the refusal of no line", digits(sumpquince_session_take(&session, NULL, 0, verdicts, sizeof verdicts, kept, sizeof kept)), 500);
+    hold("the refusal of no line into nothing", digits(sumpquince_session_take(&session, NULL, 0, NULL, 0, NULL, 0)), 500);
+    hold("the refusal of a record into nothing", digits(sumpquince_session_take(&session, line, length, NULL, 0, NULL, 0)), 1100);
+    hold("the refusal of a record without verdicts", digits(sumpquince_session_take(&session, line, length, NULL, 0, kept, sizeof kept)), 1100);
+    hold("the refusal of a record without kept bytes",
+         digits(sumpquince_session_take(&session, line, length, verdicts, sizeof verdicts, NULL, 0)), 1100);
+    hold("the refusal of giving nothing back", digits(sumpquince_session_give_back(&session, NULL, 0, NULL, 0)), 1200);
+    hold("whether refusals changed a session", memcmp(&session, &before, sizeof session) != 0, 0);
+    sumpquince_session_take(&session, line, length, verdicts, 1, kept, SUMPQUINCE_KEPT_BYTES);
+    before = session;
+    hold("the number of records", session.credited + session.voids + session.duplicates + session.errors, 1);
+    hold("the refusal of giving back from nothing", digits(sumpquince_session_give_back(&session, NULL, 0, NULL, 0)), 1200);
+    hold("the refusal of giving back without verdicts", digits(sumpquince_session_give_back(&session, NULL, 0, kept, sizeof kept)), 1200);
+    hold("the refusal of giving back without kept bytes", digits(sumpquince_session_give_back(&session, verdicts, sizeof verdicts, NULL, 0)), 1200);
+    hold("whether refusals changed a session", memcmp(&session, &before, sizeof session) != 0, 0);
+}
+
+/* Zeros, which no start makes, and a session with a mode too many. */
+static void try_impossible_sessions(const uint8_t *line, size_t length) {
+    const SumpquinceDeclared declared = {9999, 99, 9999, 99, 9999, 99};
+    SumpquinceSession sessions[2], before;
+    memset(sessions, 0, sizeof sessions);
+    sumpquince_session_start(&sessions[1], declared);
+    sessions[1].modes[SUMPQUINCE_BLANK_MODE] = 1;
+    for (int i = 0; i < 2; i++) {
+        SumpquinceSession *session = &sessions[i];
+        before = *session;
+        SumpquinceJudgement judgement = sumpquince_session_totals(*session);
+        hold("the refusal of an impossible session's totals", digits(judgement.refusal), 0);
+        hold("its total", judgement.total, 0);
+        hold("the sum of its modes", sum_of_modes(&judgement), 0);
+        hold("the refusal of a record for it",
+             digits(sumpquince_session_take(session, line, length, verdicts, sizeof verdicts, kept, sizeof kept)), 1100);
+        hold("the refusal of no line for it", digits(sumpquince_session_take(session, NULL, 0, NULL, 0, NULL, 0)), 500);
+        hold("the refusal of giving back", digits(sumpquince_session_give_back(session, verdicts, sizeof verdicts, kept, sizeof kept)), 1200);
+        hold("whether an impossible session is changed", memcmp(session, &before, sizeof before) != 0, 0);
+        hold("the refusal of starting it", digits(sumpquince_session_start(session, declared)), 0);
+        hold("whether it is a good one then",
+             digits(sumpquince_session_take(session, line, length, verdicts, sizeof verdicts, kept, sizeof kept)), 0);
+    }
+}
+
 int main(void) {
     size_t length = fread(log, 1, sizeof log, stdin);
     SumpquinceReading reading = sumpquince_read(log, length);
@@ -143,6 +232,10 @@ int main(void) {
     try_empty_log();
     try_empty_results(length);
     try_empty_lists(length);
-    printf("face: %d tries of shapes and null pointers, %d differences\n", tries, differences);
+    size_t record = line_behind(count_line(length)), record_length = line_behind(record) - record - 2;
+    try_session_shape(log + record, record_length);
+    try_session_without_slices(log + record, record_length);
+    try_impossible_sessions(log + record, record_length);
+    printf("face: %d tries of shapes, null pointers and impossible sessions, %d differences\n", tries, differences);
     return differences == 0 ? 0 : 1;
 }

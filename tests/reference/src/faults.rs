@@ -960,6 +960,111 @@ fn near_miss(random: &mut Random, text: &[u8]) -> Vec<u8> {
     changed
 }
 
+type LineMaker = fn(&mut Random) -> (Vec<u8>, Option<u32>);
+
+/// Record lines by themselves with something wrong, and the field that is told
+/// of each, if its maker knows it.
+pub const LINES: &[(&str, LineMaker)] = &[
+    ("field", |random| {
+        let (field, _, values) = *random.pick(FIELDS);
+        let mut record = fresh_record(random);
+        record[field - 1] = random.pick(values).as_bytes().to_vec();
+        (record.join(&b';'), Some(field as u32))
+    }),
+    ("near-field", |random| {
+        let mut record = fresh_record(random);
+        let field = random.below(15);
+        record[field] = near_miss(random, &record[field]);
+        (record.join(&b';'), None)
+    }),
+    ("two-fields", |random| {
+        let mut record = fresh_record(random);
+        let first = random.pick(FIELDS);
+        let second = random.pick(FIELDS);
+        for (field, _, values) in [first, second] {
+            record[field - 1] = random.pick(values).as_bytes().to_vec();
+        }
+        (record.join(&b';'), Some(first.0.min(second.0) as u32))
+    }),
+    ("empty", |_| (Vec::new(), Some(0))),
+    ("semicolons-alone", |random| {
+        let count = *random.pick(&[1, 13, 14, 15, 16, 28, 75, 300]);
+        (vec![b';'; count], Some(if count == 14 { 1 } else { 0 }))
+    }),
+    ("semicolon-missing", |random| {
+        let record = fresh_record(random);
+        let kept = random.between(1, 14);
+        (record[..kept].join(&b';'), Some(0))
+    }),
+    ("semicolon-extra", |random| {
+        let mut line = fresh_record(random).join(&b';');
+        for _ in 0..*random.pick(&[1, 1, 1, 2, 14]) {
+            line.insert(random.below(line.len() + 1), b';');
+        }
+        (line, Some(0))
+    }),
+    ("byte-outside", |random| {
+        let mut record = fresh_record(random);
+        let field = random.below(15);
+        let byte = *random.pick(&[0, 1, 9, 10, 13, 31, 128, 160, 187, 255]);
+        let at = random.below(record[field].len() + 1);
+        record[field].insert(at, byte);
+        (record.join(&b';'), Some(field as u32 + 1))
+    }),
+    // The length is right, so that nothing but the byte can be wrong.
+    ("exchange-byte-outside", |random| {
+        let mut record = fresh_record(random);
+        let length = random.between(1, 6);
+        record[8] = random.string(length, b"AZ09 /\x7f");
+        record[8][random.below(length)] = *random.pick(&[0, 1, 9, 10, 13, 31, 128, 160, 187, 255]);
+        (record.join(&b';'), Some(9))
+    }),
+    // The first bad field is the first in the line, however it is bad.
+    ("exchange-byte-outside-and-field", |random| {
+        let mut record = fresh_record(random);
+        let (field, _, values) = *random.pick(FIELDS);
+        record[field - 1] = random.pick(values).as_bytes().to_vec();
+        record[8] = vec![*random.pick(&[0, 9, 31, 128, 255])];
+        (record.join(&b';'), Some(field.min(9) as u32))
+    }),
+    ("too-long", |random| {
+        let mut record = fresh_record(random);
+        let field = random.below(15);
+        let more = *random.pick(&[76, 77, 200, 256, 65_536, 70_000]);
+        let byte = *random.pick(b"0123456789A/ ");
+        let mut text = record[field].clone();
+        text.extend(vec![byte; more]);
+        record[field] = text;
+        (record.join(&b';'), Some(field as u32 + 1))
+    }),
+    ("far-behind-another", |random| {
+        let front = *random.pick(&[256, 65_536]);
+        let line = [vec![b'0'; front], fresh_record(random).join(&b';')].concat();
+        (line, Some(1))
+    }),
+    ("end-left-on", |random| {
+        let line = fresh_record(random).join(&b';');
+        let end: &[u8] = *random.pick(&[&b"\r\n"[..], b"\n", b"\r", b" ", b"\0"]);
+        ([line, end.to_vec()].concat(), Some(15))
+    }),
+    ("error-with-points", |random| {
+        let mut record = fresh_record(random);
+        draft::make_error(random, &mut record);
+        record[10] = random.pick(&["1", "120", "999999", "00", ""]).as_bytes().to_vec();
+        (record.join(&b';'), Some(11))
+    }),
+    ("no-date-but-nearly-error", |random| {
+        let mut record = fresh_record(random);
+        record[0].clear();
+        record[2] = random.pick(&["ERROR1", "ERRO", "ERROR ", "error", "RROR", "ERR", ""]).as_bytes().to_vec();
+        (record.join(&b';'), Some(1))
+    }),
+    ("noise", |random| {
+        let length = random.below(90);
+        (random.string(length, b"\x00\x0a\x0d\x1f \x7f\x80\xff;;;;;;;;;;0019NDARXaz/,"), None)
+    }),
+];
+
 /// Two digits from 0 to a little beyond `most`.
 fn about(random: &mut Random, most: usize) -> String {
     format!("{:02}", random.between(0, most + 2))

@@ -1,7 +1,7 @@
 //! Classes, marks and sums of the records of an accepted log.
 
 use crate::fields::{self, MODES};
-use crate::reading::{read, Log, Refusal};
+use crate::reading::{read, Log, Record, Refusal};
 
 pub const CREDITED: u8 = 0;
 pub const VOID: u8 = 1;
@@ -51,33 +51,32 @@ impl Totals {
 }
 
 /// What judging looks at in one record.
-struct Entry<'a> {
-    call: &'a [u8],
-    mode: &'a [u8],
-    exchange: &'a [u8],
+pub struct Entry<'a> {
+    pub call: &'a [u8],
+    pub mode: &'a [u8],
+    pub exchange: &'a [u8],
     /// The first four characters of the locator, nothing if it is empty.
-    square: &'a [u8],
-    points: u64,
-    claims_country: bool,
-    claims_duplicate: bool,
+    pub square: &'a [u8],
+    pub points: u64,
+    pub claims_country: bool,
+    pub claims_duplicate: bool,
 }
 
-fn entries<'a>(log: &Log<'a>) -> Vec<Entry<'a>> {
-    log.records
-        .iter()
-        .map(|record| {
-            let locator = log.text(record[9]);
-            Entry {
-                call: log.text(record[2]),
-                mode: log.text(record[3]),
-                exchange: log.text(record[8]),
-                square: &locator[..locator.len().min(4)],
-                points: fields::points(log.text(record[10])).expect("points were read"),
-                claims_country: log.text(record[13]) == b"N",
-                claims_duplicate: log.text(record[14]) == b"D",
-            }
-        })
-        .collect()
+impl<'a> Entry<'a> {
+    /// Of a record that keeps its rules, and lies in these bytes.
+    pub fn of(bytes: &'a [u8], record: &Record) -> Entry<'a> {
+        let text = |field: usize| &bytes[record[field].start..record[field].end];
+        let locator = text(9);
+        Entry {
+            call: text(2),
+            mode: text(3),
+            exchange: text(8),
+            square: &locator[..locator.len().min(4)],
+            points: fields::points(text(10)).expect("points were read"),
+            claims_country: text(13) == b"N",
+            claims_duplicate: text(14) == b"D",
+        }
+    }
 }
 
 /// W3: "A record with 0 points and no D is void even if its call was credited
@@ -139,19 +138,42 @@ pub fn has_mark(verdict: u8, mark: u8) -> bool {
     verdict & mark != 0
 }
 
+/// What one new thing of a kind brings, and what the sum is multiplied by.
+#[derive(Clone, Copy, Debug, PartialEq, Eq)]
+pub struct Rate {
+    pub bonus: u64,
+    pub multiplier: u64,
+}
+
+/// The rates of squares, exchanges and countries.
+#[derive(Clone, Copy, Debug, PartialEq, Eq)]
+pub struct Rates {
+    pub squares: Rate,
+    pub exchanges: Rate,
+    pub countries: Rate,
+}
+
 /// The bonus and the multiplier declared under one of the three keywords.
-fn declared(log: &Log, keyword: &str) -> (u64, u64) {
+fn declared(log: &Log, keyword: &str) -> Rate {
     let text = log.text(log.argument(keyword));
     let parts: Vec<&[u8]> = text.split(|&b| b == b';').collect();
     let bonus = fields::up_to_9999(parts[1]).expect("a bonus was read");
     let multiplier = fields::multiplier(parts[2]).expect("a multiplier was read");
-    (bonus, multiplier)
+    Rate { bonus, multiplier }
 }
 
 /// Judges an accepted log.
 pub fn judge_log(log: &Log) -> (Totals, Vec<u8>) {
-    let entries = entries(log);
-    let verdicts = verdicts_of(&entries);
+    let entries: Vec<Entry> = log.records.iter().map(|record| Entry::of(log.bytes, record)).collect();
+    let squares = declared(log, "CWWLs");
+    let exchanges = declared(log, "CExcs");
+    let countries = declared(log, "CDXCs");
+    judge_entries(&entries, &Rates { squares, exchanges, countries })
+}
+
+/// Judges records in their order.
+pub fn judge_entries(entries: &[Entry], rates: &Rates) -> (Totals, Vec<u8>) {
+    let verdicts = verdicts_of(entries);
     let in_class = |wanted| verdicts.iter().filter(|&&v| class(v) == wanted).count() as u64;
     let marked = |mark| verdicts.iter().filter(|&&v| has_mark(v, mark)).count() as u64;
     let judged = entries.iter().zip(&verdicts);
@@ -159,9 +181,6 @@ pub fn judge_log(log: &Log) -> (Totals, Vec<u8>) {
     let points = credited.iter().map(|entry| entry.points).sum();
     let by_mode = |mode: &str| credited.iter().filter(|entry| entry.mode == mode.as_bytes()).count() as u64;
 
-    let (per_square, by_squares) = declared(log, "CWWLs");
-    let (per_exchange, by_exchanges) = declared(log, "CExcs");
-    let (per_country, by_countries) = declared(log, "CDXCs");
     let mut totals = Totals {
         credited: in_class(CREDITED),
         voids: in_class(VOID),
@@ -174,12 +193,17 @@ pub fn judge_log(log: &Log) -> (Totals, Vec<u8>) {
         modes: MODES.map(by_mode),
         ..Totals::default()
     };
-    totals.square_bonus = totals.squares * per_square;
-    totals.exchange_bonus = totals.exchanges * per_exchange;
-    totals.country_bonus = totals.countries * per_country;
-    let sum = points + totals.square_bonus + totals.exchange_bonus + totals.country_bonus;
-    totals.total = sum * by_squares * by_exchanges * by_countries;
+    sum_up(&mut totals, rates);
     (totals, verdicts)
+}
+
+/// Sets the bonuses and the total by what is counted.
+pub fn sum_up(totals: &mut Totals, rates: &Rates) {
+    totals.square_bonus = totals.squares * rates.squares.bonus;
+    totals.exchange_bonus = totals.exchanges * rates.exchanges.bonus;
+    totals.country_bonus = totals.countries * rates.countries.bonus;
+    let sum = totals.points + totals.square_bonus + totals.exchange_bonus + totals.country_bonus;
+    totals.total = sum * rates.squares.multiplier * rates.exchanges.multiplier * rates.countries.multiplier;
 }
 
 /// Judges a log for a caller who lends room for `verdicts_len` verdicts.

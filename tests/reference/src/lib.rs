@@ -4,6 +4,7 @@
 //! with. It favours plain code over speed: what it answers should be evident
 //! from reading it beside the rules.
 
+pub mod calls;
 pub mod chewing;
 pub mod draft;
 pub mod faults;
@@ -13,6 +14,7 @@ pub mod judging;
 pub mod mending;
 pub mod random;
 pub mod reading;
+pub mod session;
 pub mod striking;
 pub mod values;
 pub mod writing;
@@ -21,6 +23,7 @@ pub use fields::MODES;
 pub use judging::{judge, Totals};
 pub use mending::{mend, Change, Mended, Rooms};
 pub use reading::{read, view, Log, Refusal, View};
+pub use session::{Lent, Session};
 pub use writing::write;
 
 /// What the desk program writes for a log on its standard input.

@@ -3,7 +3,9 @@
 //! ```text
 //! reference desk < LOG                     the desk program's answer
 //! reference trials --count N --seed S      N trials as a binary stream
+//! reference calls --calls M --seed S       M calls in scripts, as another
 //! reference show --seed S --index I        the raw log of one trial
+//! reference script --seed S --index I      the calls of one script in words
 //! reference tags                           every tag, one on a line
 //! ```
 //!
@@ -39,14 +41,51 @@
 //! stands in that. After a refusal every number behind the answer is 0 and every
 //! `bytes` is empty; what was lent must then be unchanged. The bits of all
 //! keywords are 0 for a log that is refused.
+//!
+//! The stream of `calls`, with the same numbers, bytes and answers:
+//!
+//! ```text
+//! stream   8 bytes "SQCALLS5", u64 seed, u32 number of calls, the scripts
+//! script   u32 index
+//!          bytes tag
+//!          u32 verdicts           the length of that slice
+//!          u32 kept               the length of that slice
+//!          u32 number of steps, the steps
+//! step     u32 kind: 0 alter, 1 start, 2 take, 3 give back; 1 to 3 are calls
+//!   alter  numbers, u32 number of writes; each write: u32 slice (0 verdicts,
+//!          1 kept), u32 place in it, bytes
+//!   start  6 x u32 declared, told
+//!   take   lent, bytes line, bytes behind it, told
+//!   give back   lent, told
+//! lent     u32 verdicts, u32 kept: how much of each slice the call is lent
+//! told     u32 kind
+//!   0 all  answer, numbers, 12 x u64 totals, 11 x u64 modes,
+//!          u32 number of records written, 0 or 1; if 1: u32 place, u32 verdict,
+//!          28 bytes kept
+//!   1 taken as      u32 place, bytes verdicts it can have, 28 bytes kept of it
+//!                   if it is credited
+//!   2 given back    or refused with 12: nothing more
+//! numbers  25 x u64: the session's, in the order of its struct
+//! ```
+//!
+//! Each script begins with numbers that are all zero, and with slices where byte
+//! i is the lowest byte of 29 times i, with the bits of 0xA5 turned. The numbers
+//! and totals of `all` are those after the call. What a call writes stays for
+//! those after it, and so does what is altered. `taken as` and `given back` are
+//! told where memory that no run of calls made leaves open what is answered; no
+//! call comes behind one of these before the numbers, and the record that was
+//! taken, are altered.
 
+use reference::calls::{script, scripts, tags, Script, Slice, Step, Told, Wrote};
 use reference::generate::{Generator, Trial};
 use reference::reading::{KEYWORDS, LONGEST_LOG};
-use reference::{desk, judge, mend, read, view, write, Mended, Refusal, Totals};
+use reference::session::Numbers;
+use reference::{desk, judge, mend, read, view, write, Lent, Mended, Refusal, Totals};
 use std::io::{self, BufWriter, Read, Write};
 use std::process::ExitCode;
 
-const USAGE: &str = "usage: reference desk | trials --count N --seed S | show --seed S --index I | tags";
+const USAGE: &str =
+    "usage: reference desk | trials --count N --seed S | calls --calls M --seed S | show|script --seed S --index I | tags";
 
 fn main() -> ExitCode {
     let arguments: Vec<String> = std::env::args().skip(1).collect();
@@ -67,7 +106,13 @@ fn run(arguments: &[String]) -> Result<(), String> {
             let count = u32::try_from(count).map_err(|_| "too many trials".to_string())?;
             write_trials(option(arguments, "--seed")?, count)
         }
+        Some("calls") => {
+            let calls = option(arguments, "--calls")?;
+            let calls = u32::try_from(calls).map_err(|_| "too many calls".to_string())?;
+            write_calls(option(arguments, "--seed")?, calls)
+        }
         Some("show") => show(option(arguments, "--seed")?, option(arguments, "--index")?),
+        Some("script") => show_script(option(arguments, "--seed")?, option(arguments, "--index")?),
         Some("tags") => show_tags(),
         _ => return Err(USAGE.to_string()),
     };
@@ -92,8 +137,32 @@ fn show(seed: u64, index: u64) -> io::Result<()> {
     io::stdout().write_all(&trial.log)
 }
 
+fn show_script(seed: u64, index: u64) -> io::Result<()> {
+    let script = script(seed, index);
+    let mut text = format!("{}, slices of {} and {} bytes\n", script.tag, script.room.verdicts, script.room.kept);
+    for (step, told) in &script.steps {
+        text += &match step {
+            Step::Alter { numbers, writes } => format!("alter {:?}, {writes:?}", numbers.as_list()),
+            Step::Start(declared) => format!("start {declared:?}"),
+            Step::Take { line, lent, .. } => format!("take \"{}\", lent {} {}", line.escape_ascii(), lent.verdicts, lent.kept),
+            Step::GiveBack { lent } => format!("give back, lent {} {}", lent.verdicts, lent.kept),
+        };
+        text += &match told {
+            None => "\n".to_string(),
+            Some(Told::All { answer: Ok(()), wrote: Some(wrote), .. }) => format!(": verdict {}\n", wrote.verdict),
+            Some(Told::All { answer: Ok(()), .. }) => ": accepted\n".to_string(),
+            Some(Told::All { answer: Err(refusal), .. }) => format!(": refused {} 0 {}\n", refusal.number, refusal.field),
+            Some(Told::TakenAs { verdicts, .. }) => format!(": one of the verdicts {verdicts:?}\n"),
+            Some(Told::GivenBackOrNot) => ": accepted or refused\n".to_string(),
+        };
+    }
+    io::stdout().write_all(text.as_bytes())
+}
+
 fn show_tags() -> io::Result<()> {
-    let text = Generator::new(0).tags().join("\n") + "\n";
+    let of_scripts = tags().into_iter().map(str::to_string);
+    let all: Vec<String> = Generator::new(0).tags().into_iter().chain(of_scripts).collect();
+    let text = all.join("\n") + "\n";
     io::stdout().write_all(text.as_bytes())
 }
 
@@ -158,6 +227,95 @@ fn put_mended(out: &mut impl Write, mended: &Mended) -> io::Result<()> {
     let kinds: Vec<u8> = mended.changes.iter().map(|change| change.kind).collect();
     put_bytes(out, &kinds)?;
     mended.changes.iter().try_for_each(|change| put_u32(out, change.line))
+}
+
+fn write_calls(seed: u64, calls: u32) -> io::Result<()> {
+    let mut out = BufWriter::with_capacity(1 << 16, io::stdout().lock());
+    out.write_all(b"SQCALLS5")?;
+    put_u64(&mut out, seed)?;
+    put_u32(&mut out, calls)?;
+    for (index, script) in scripts(seed, calls as usize).enumerate() {
+        put_size(&mut out, index)?;
+        put_script(&mut out, &script)?;
+    }
+    out.flush()
+}
+
+fn put_script(out: &mut impl Write, script: &Script) -> io::Result<()> {
+    put_bytes(out, script.tag.as_bytes())?;
+    put_lent(out, script.room)?;
+    put_size(out, script.steps.len())?;
+    for (step, told) in &script.steps {
+        put_step(out, step)?;
+        told.as_ref().map_or(Ok(()), |told| put_told(out, told))?;
+    }
+    Ok(())
+}
+
+fn put_step(out: &mut impl Write, step: &Step) -> io::Result<()> {
+    match step {
+        Step::Alter { numbers, writes } => {
+            put_u32(out, 0)?;
+            put_numbers(out, numbers)?;
+            put_size(out, writes.len())?;
+            for write in writes {
+                put_u32(out, u32::from(write.slice == Slice::Kept))?;
+                put_size(out, write.at)?;
+                put_bytes(out, &write.bytes)?;
+            }
+            Ok(())
+        }
+        Step::Start(declared) => {
+            put_u32(out, 1)?;
+            declared.iter().try_for_each(|&number| put_u32(out, number))
+        }
+        Step::Take { line, behind, lent } => {
+            put_u32(out, 2)?;
+            put_lent(out, *lent)?;
+            put_bytes(out, line)?;
+            put_bytes(out, behind)
+        }
+        Step::GiveBack { lent } => {
+            put_u32(out, 3)?;
+            put_lent(out, *lent)
+        }
+    }
+}
+
+fn put_told(out: &mut impl Write, told: &Told) -> io::Result<()> {
+    match told {
+        Told::All { answer, numbers, totals, wrote } => {
+            put_u32(out, 0)?;
+            put_answer(out, answer)?;
+            put_numbers(out, numbers)?;
+            for number in totals.as_list().into_iter().chain(totals.modes) {
+                put_u64(out, number)?;
+            }
+            put_u32(out, u32::from(wrote.is_some()))?;
+            if let Some(Wrote { place, verdict, kept }) = wrote {
+                put_size(out, *place)?;
+                put_u32(out, u32::from(*verdict))?;
+                out.write_all(kept)?;
+            }
+            Ok(())
+        }
+        Told::TakenAs { place, verdicts, kept } => {
+            put_u32(out, 1)?;
+            put_size(out, *place)?;
+            put_bytes(out, verdicts)?;
+            out.write_all(kept)
+        }
+        Told::GivenBackOrNot => put_u32(out, 2),
+    }
+}
+
+fn put_lent(out: &mut impl Write, lent: Lent) -> io::Result<()> {
+    put_size(out, lent.verdicts)?;
+    put_size(out, lent.kept)
+}
+
+fn put_numbers(out: &mut impl Write, numbers: &Numbers) -> io::Result<()> {
+    numbers.as_list().into_iter().try_for_each(|number| put_u64(out, number))
 }
 
 /// Which keywords of a log stand in the listed spelling, the first as bit 0.

@@ -27,7 +27,7 @@ pub const REMARKS_MARK: &[u8] = b"[Remarks]";
 pub const COUNT_START: &[u8] = b"[QSORecords;";
 
 /// Why a log or a request is refused.
-#[derive(Clone, Copy, Debug, PartialEq, Eq)]
+#[derive(Clone, Copy, Debug, PartialEq, Eq, PartialOrd, Ord)]
 pub struct Refusal {
     pub number: u32,
     pub line: u32,
@@ -35,7 +35,7 @@ pub struct Refusal {
 }
 
 impl Refusal {
-    /// A refusal that points at no line: 1, and 7 to 10.
+    /// A refusal that points at no line: 1, and 7 to 12, and a session's 4.
     pub fn whole(number: u32) -> Refusal {
         Refusal { number, line: 0, field: 0 }
     }
@@ -207,7 +207,7 @@ fn take_records(lines: &mut Lines, count: usize) -> Result<Vec<Record>, Refusal>
             return Err(Refusal::at(6, lines.due));
         }
         let (span, line) = lines.take()?;
-        let record = split_record(lines, span)
+        let record = split_record(lines.bytes, span)
             .map_err(|field| Refusal { number: 5, line, field })?;
         records.push(record);
     }
@@ -219,19 +219,17 @@ fn take_records(lines: &mut Lines, count: usize) -> Result<Vec<Record>, Refusal>
 }
 
 /// Cuts a record line into its fields, or gives the number of its first bad
-/// field, 0 if there are not fifteen of them.
-fn split_record(lines: &Lines, span: Span) -> Result<Record, u32> {
+/// field, 0 if there are not fifteen of them. The line may have any bytes.
+pub fn split_record(bytes: &[u8], span: Span) -> Result<Record, u32> {
     let mut parts = Vec::new();
     let mut start = span.start;
-    for (offset, &byte) in lines.text(span).iter().enumerate() {
-        if byte == b';' {
-            parts.push(Span { start, end: span.start + offset });
-            start = span.start + offset + 1;
-        }
+    for at in (span.start..span.end).filter(|&at| bytes[at] == b';') {
+        parts.push(Span { start, end: at });
+        start = at + 1;
     }
     parts.push(Span { start, end: span.end });
     let record: Record = parts.try_into().map_err(|_| 0u32)?;
-    let texts = record.map(|part| lines.text(part));
+    let texts = record.map(|part| &bytes[part.start..part.end]);
     match (1..=15).find(|&field| !field_holds(&texts, field)) {
         None => Ok(record),
         Some(field) => Err(field as u32),
