@@ -5,7 +5,7 @@ use native.Mathlib.Omega.{arith}
 use mathlib.Core.Bool.{Bool, true, false}
 use mathlib.Core.Logic.{_⊎_, _↔_, inl, inr, ⊎-elim}
 use mathlib.Core.Path.{_≡_, refl, sym, ap, _∙_}
-use mathlib.Core.List.{List, map}
+use mathlib.Core.List.{List, [], map}
 use lib.Dec.{leb}
 use lib.ListN.{length, getD, length-map}
 use borrow.Author.Tests.{leb-true, leb-false}
@@ -15,7 +15,7 @@ use Rattle.rules.specs.declared.Totals.{Totals}
 use Rattle.rules.specs.Judging.{modeNumbers, modesTogether, zeroTotals}
 use Rattle.rules.specs.Demands.{sumOver, AddUp}
 use Rattle.rules.specs.Reading.{Reading, accepted, refused, read}
-use Rattle.rules.specs.Answers.{noRefusal, respeltOfReading, Viewing, seen, unseen, view, listedOfView, Judgement, judged, unjudged, judge, totalsOfJudgement, numbersOfJudgement, Writing, written, unwritten, write, bytesOfWriting, over}
+use Rattle.rules.specs.Answers.{noRefusal, refusalOfJudgement, respeltOfReading, Viewing, seen, unseen, view, listedOfView, Judgement, judged, unjudged, judge, totalsOfJudgement, numbersOfJudgement, Writing, written, unwritten, write, bytesOfWriting, over}
 use Rattle.rules.proofs.Format.{accepted-when-written}
 use Rattle.rules.proofs.Refusals.{refused-reading}
 use Rattle.rules.proofs.ModeLaws.{modes-add-up}
@@ -24,7 +24,9 @@ use Rattle.rules.proofs.GivenCalls.{zero-when-accepted, line-and-field-told}
 use Rattle.rules.specs.Mending.{Mending, mended, unmended, mendedText, changes, mend, bytesOfMending, kindsOfMending, linesOfMending}
 use Rattle.rules.specs.MendingDemands.{ListIsTooLong}
 use Rattle.rules.proofs.MendingGiven.{given-by-mending, mend-all}
-use Rattle.rules.specs.Session.{declaredRule}
+use Rattle.rules.specs.Session.{session, declaredRule, sessionAfter}
+use Rattle.rules.specs.SessionDemands.{InRange}
+use Rattle.rules.proofs.AllProved.{the-base-session}
 use Rattle.rules.proofs.Tests.{clash}
 use Rattle.rules.proofs.SessionLaws.{in-range, range-kept}
 use Rattle.mender.specs.Answer.{roomsOf}
@@ -32,11 +34,11 @@ use Rattle.judge.specs.Count.{asDeclared}
 use Rattle.session.specs.declared.Session.{Session}
 use Rattle.session.specs.declared.Replied.{Replied}
 use Rattle.session.specs.Session.{totalsNow, started, refusedBy}
-use Rattle.session.specs.Keeping.{Holding, Calling, repliedTo, holdingAfter}
+use Rattle.session.specs.Keeping.{Holding, roomOf, Calling, starting, callOf, repliedTo, holdingAfter, holdingAfterAll}
 use Rattle.session.proofs.KeepingLaws.{started-not, started-anew, the-base-session-keeps}
 use Rattle.pad.specs.declared.SumpquinceDeclared.{SumpquinceDeclared}
 use Rattle.pad.specs.Face.{refusalFace, oneIf, readingFace, viewFace, totalsFace, judgementFace, writtenFace, mendedFace, declaredFace, sessionFace}
-use Rattle.pad.specs.Caller.{Accepts, ToldByRead, ToldByView, ToldByJudge, ToldByWrite, ListFits, ToldByMend, ToldBySession, ToldByStart, ToldByTotals, ForTheCaller}
+use Rattle.pad.specs.Caller.{Accepts, ToldByRead, ToldByView, ToldByJudge, ToldByWrite, ListFits, ToldByMend, ToldBySession, ToldByStart, ToldByTotals, AsTheLog, ForTheCaller}
 
 -- # What a refused call leaves
 
@@ -188,6 +190,22 @@ unfolding sessionFace totalsFace refusalFace noRefusal
 told-by-totals s =
     record { accepted = refl; modes = modes-told (totalsNow base s) ((the-base-session-keeps .keptModesAddUp) s) }
 
+on-the-screen : (h : Holding) (d : SumpquinceDeclared) (cs : List Calling) → InRange base (asDeclared (declaredFace d)) →
+    AsTheLog
+    (holdingAfterAll base (holdingAfter base h (starting (declaredFace d))) cs)
+    (sessionAfter base (roomOf h) (session (asDeclared (declaredFace d)) []) (map callOf cs))
+unfolding sessionFace judgementFace refusalOfJudgement totalsOfJudgement numbersOfJudgement
+on-the-screen h d cs r =
+    let a = (the-base-session-keeps .keptAsJudged) h (declaredFace d) cs (range-kept base (asDeclared (declaredFace d)) r) .0 in
+    record {
+      screen = λ t log slice e records numbers n.
+          let s = sessionAfter base (roomOf h) (session (asDeclared (declaredFace d)) []) (map callOf cs) in
+          let j = (the-base-session .keptIsJudged) s t log (length slice) e records numbers n in (
+            ap (totalsFace (refusalFace noRefusal)) (a .totalsAre) ∙ sym (ap judgementFace j),
+            a .verdictsAre ∙ sym (ap numbersOfJudgement j),
+          );
+    }
+
 pub for-the-caller : ForTheCaller
 for-the-caller =
     record {
@@ -199,4 +217,5 @@ for-the-caller =
       calling = told-by-session;
       starting = told-by-start;
       totalling = told-by-totals;
+      onTheScreen = on-the-screen;
     }

@@ -3,26 +3,28 @@
 use Prim.Native.Nat.{ℕ, _≤_}
 use mathlib.Core.Path.{_≡_}
 use mathlib.Core.Logic.{_↔_}
-use mathlib.Core.List.{List, map}
-use lib.ListN.{length, getD}
+use mathlib.Core.List.{List, [], map}
+use lib.ListN.{length, take, getD}
 use Rattle.rules.specs.declared.Refusal.{Refusal}
 use Rattle.rules.specs.Text.{Text}
 use Rattle.rules.specs.Rules.{base}
 use Rattle.rules.specs.Arguments.{entries}
 use Rattle.rules.specs.Log.{Log, keywordsOf, render, IsWrittenAs, FollowsTheFormat}
-use Rattle.rules.specs.Judging.{zeroTotals}
+use Rattle.rules.specs.Judging.{declared, zeroTotals}
 use Rattle.rules.specs.Writing.{writtenBack}
-use Rattle.rules.specs.Reading.{refusal, read}
+use Rattle.rules.specs.Reading.{accepted, refusal, read}
 use Rattle.rules.specs.Answers.{view, judge, numbersOfJudgement, write, bytesOfWriting, over}
 use Rattle.rules.specs.Mending.{mendedText, changes, mend, bytesOfMending, kindsOfMending, linesOfMending}
 use Rattle.rules.specs.Demands.{sumOver}
 use Rattle.rules.specs.Given.{LineAndField}
+use Rattle.rules.specs.Session.{session, sessionAfter}
+use Rattle.rules.specs.Session.{Session as Records}
 use Rattle.rules.specs.SessionDemands.{InRange}
 use Rattle.mender.specs.Answer.{roomsOf}
 use Rattle.judge.specs.Count.{asDeclared}
 use Rattle.session.specs.declared.Session.{Session}
 use Rattle.session.specs.Session.{started}
-use Rattle.session.specs.Keeping.{Holding, Calling, repliedTo, holdingAfter, ToldFor}
+use Rattle.session.specs.Keeping.{Holding, roomOf, Calling, starting as begins, callOf, repliedTo, holdingAfter, holdingAfterAll, ToldFor}
 use Rattle.pad.specs.declared.SumpquinceRefusal.{SumpquinceRefusal}
 use Rattle.pad.specs.declared.SumpquinceReading.{SumpquinceReading}
 use Rattle.pad.specs.declared.SumpquinceView.{SumpquinceView}
@@ -117,6 +119,18 @@ pub record ToldByTotals (j : SumpquinceJudgement) : Type 0 where
   pub accepted : Accepts (j .refusal)
   pub modes : (length (j .modes) ≡ 11) × (sumOver 11 (λ k. getD (j .modes) k 0) ≡ j .credited)
 
+-- The total on the pad's screen is the one of the log. After a start that is accepted and any calls: sumpquince_session_totals tells of the session what
+-- sumpquince_judge tells of any log that has the records now present and declares the same, and the verdicts are those that it writes.
+pub record AsTheLog (after : Holding) (s : Records) : Type 0 where
+  pub screen :
+      (t : Text) (log : Log) (slice : List ℕ) →
+      read base t ≡ accepted log →
+      log .records ≡ s .records →
+      declared log ≡ s .declared →
+      length (s .records) ≤ length slice →
+      (sessionFace (after .numbers) ≡ judgementFace (judge base (length slice) t))
+      × (take (length (s .records)) (after .verdicts) ≡ numbersOfJudgement (judge base (length slice) t))
+
 -- The answers and the slices are those of the contracts of src/lib.rt.
 pub record ForTheCaller : Type 0 where
   pub reading : (s : Text) → ToldByRead s (readingFace (read base s))
@@ -145,3 +159,9 @@ pub record ForTheCaller : Type 0 where
       (s : Session) (d : SumpquinceDeclared) →
       ToldByStart d (refusalFace ((started base s (declaredFace d)) .refusal))
   pub totalling : (s : Session) → ToldByTotals (sessionFace s)
+  pub onTheScreen :
+      (h : Holding) (d : SumpquinceDeclared) (cs : List Calling) →
+      InRange base (asDeclared (declaredFace d)) →
+      AsTheLog
+      (holdingAfterAll base (holdingAfter base h (begins (declaredFace d))) cs)
+      (sessionAfter base (roomOf h) (session (asDeclared (declaredFace d)) []) (map callOf cs))

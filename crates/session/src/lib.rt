@@ -120,7 +120,8 @@ fn four_of(kept: &[u8], width: usize, at: usize, k: usize) -> u32
     four_at(kept, k * width + at)
 }
 
-// The same, looked at one by one.
+// The first of the n records, from one on, whose four bytes at this place are those; n where there is none. Each record has so many bytes. They are
+// looked at one by one.
 fn next_like_tail(kept: &[u8], width: usize, at: usize, from: usize, n: usize, four: u32) -> usize
     requires { ⌜ (n * width ≤ length (now kept)) × (at + 3 < width) × (from ≤ n) ⌝ }
     ensures { λ r. ⌜ r ≡ firstFrom (λ i. eqb (fourAt (now (kept .entry)) (i * width + at)) four) (n - from) from ⌝ }
@@ -135,8 +136,7 @@ fn next_like_tail(kept: &[u8], width: usize, at: usize, from: usize, n: usize, f
     k
 }
 
-// The first of the n records, from one on, whose four bytes at this place are those; n where there is none. Each record has so many bytes. They are
-// looked at eight by eight.
+// The same, eight by eight, as long as there are so many: a turn costs the less.
 fn next_like(kept: &[u8], width: usize, at: usize, from: usize, n: usize, four: u32) -> usize
     requires { ⌜ (n * width ≤ length (now kept)) × (at + 3 < width) × (from ≤ n) ⌝ }
     ensures { λ r. ⌜ r ≡ firstFrom (λ i. eqb (fourAt (now (kept .entry)) (i * width + at)) four) (n - from) from ⌝ }
