@@ -650,13 +650,13 @@ fn come_to(m: Modes, n: u64) -> bool
 {
     let list = mode_numbers(m);
     let mut left = n;
-    let mut k = 0;
-    while k < MODES {
-        if left < list[k] {
+    let mut mode = 0;
+    while mode < MODES {
+        if left < list[mode] {
             return false;
         }
-        left -= list[k];
-        k += 1;
+        left -= list[mode];
+        mode += 1;
     }
     left == 0
 }

@@ -9,10 +9,11 @@ use Rattle.judge.proofs.come_to.Statement.{statement}
 use Rattle.judge.proofs.come_to.Tie as tie
 
 abbrev Inv-loop : tie.InvT-loop
-Inv-loop n list left₀ k₀ left k = (k ≤ 11) × (eqb (together list 11 0) n ≡ eqb (together list (11 - k) k) left)
+Inv-loop n list left₀ mode₀ left mode =
+    (mode ≤ 11) × (eqb (together list 11 0) n ≡ eqb (together list (11 - mode) mode) left)
 
 abbrev μ-loop : tie.MeasureT-loop
-μ-loop n list left₀ k₀ left k = 11 - k
+μ-loop n list left₀ mode₀ left mode = 11 - mode
 
 mode-numbers-requires : tie.Need-mode-numbers-requires Inv-loop μ-loop
 mode-numbers-requires c κs = search needs
@@ -41,8 +42,8 @@ array-read-left c = search needs
 sub-left : tie.Need-sub-left Inv-loop μ-loop
 sub-left c = search needs
 
-add-k : tie.Need-add-k Inv-loop μ-loop
-add-k c = search needs
+add-mode : tie.Need-add-mode Inv-loop μ-loop
+add-mode c = search needs
 
 loop-less : tie.Need-loop-less Inv-loop μ-loop
 loop-less c = search needs
@@ -70,7 +71,7 @@ come-to-spec =
     mul-left
     array-read-left
     sub-left
-    add-k
+    add-mode
     loop-less
     loop-again
     returns-2)
