@@ -1,15 +1,15 @@
 -- Laws of the calendar: leap years, the lengths of months, and the days that exist.
 -- Assumes nothing.
-use Prim.Native.Nat.{ℕ, zero, suc, _+_, _-_, _%_, _≤_, _<_}
+use Prim.Native.Nat.{ℕ, zero, suc, _+_, _-_, _/_, _%_, _≤_, _<_}
+use native.Mathlib.Nat.{add-zero}
 use native.Mathlib.Omega.{arith}
-use mathlib.Core.Bool.{true, false, not, and-false, and-true, or-false, or-true}
-use mathlib.Core.List.{[], _∷_}
-use mathlib.Core.Path.{_≡_, refl}
-use lib.Dec.{leb, eqb, lit≤}
-use lib.ListN.{getD}
-use borrow.Author.Tests.{not-true, eq-eqb, ne-eqb, le-leb, lt-leb, leb-true}
+use mathlib.Core.Bool.{Bool, true, false, cond, not, _&&_, and-false, and-true, or-false, or-true}
+use mathlib.Core.List.{List, [], _∷_}
+use mathlib.Core.Path.{_≡_, refl, sym, ap, _∙_}
+use lib.Dec.{leb, eqb}
+use lib.ListN.{length, getD}
+use borrow.Author.Tests.{not-true, eqb-true, eq-eqb, ne-eqb, le-leb, lt-leb}
 use Rattle.rules.specs.Fields.{monthLengths, leap, monthLength, dayExists, fullYear}
-use Rattle.rules.specs.Text.{Text, all}
 use Rattle.rules.proofs.Tests.{and-l, and-r}
 
 module _ (year : ℕ) where
@@ -25,30 +25,50 @@ module _ (year : ℕ) where
   unfolding leap
   leap-four h c = rw (ne-eqb (year % 400) 0 h, ne-eqb (year % 100) 0 c, and-true, or-false)
 
--- No month is longer than 31 days.
-entry-small : (l : Text) (i : ℕ) → all (λ (c : ℕ). leb c 31) l ≡ true → getD l i 0 ≤ 31
-unfolding all
-entry-small [] zero h = lit≤ tt
-entry-small [] (suc i) h = lit≤ tt
-entry-small (c ∷ l) zero h = leb-true c 31 (and-l (leb c 31) (all (λ (c : ℕ). leb c 31) l) h)
-entry-small (c ∷ l) (suc i) h = entry-small l i (and-r (leb c 31) (all (λ (c : ℕ). leb c 31) l) h)
+-- A formula gives the numbers of a list, the first of them at a place and each other one place further on.
+unfoldable gives : (ℕ → ℕ) → ℕ → List ℕ → Bool
+gives f at [] = true
+gives f at (n ∷ l) = eqb (f at) n && gives f (at + 1) l
 
-pub length-small : (i : ℕ) → getD monthLengths i 0 ≤ 31
-unfolding monthLengths all
-length-small i = entry-small monthLengths i refl
+each-given : (f : ℕ → ℕ) (at : ℕ) (l : List ℕ) (i : ℕ) → gives f at l ≡ true → i < length l → f (at + i) ≡ getD l i 0
+unfolding gives
+each-given f at [] i t h = absurd (omega arith)
+each-given f at (n ∷ l) zero t h = ap f (add-zero at) ∙ eqb-true (f at) n (and-l (eqb (f at) n) (gives f (at + 1) l) t)
+each-given f at (n ∷ l) (suc i) t h =
+    let further : at + suc i ≡ at + 1 + i = omega arith in
+    ap f further ∙ each-given f (at + 1) l i (and-r (eqb (f at) n) (gives f (at + 1) l) t) (omega (arith, h))
+
+-- The days of a month by its turn, as the code reckons them, and from these a month of a common year.
+abbrev turn : ℕ → ℕ
+turn month = 30 + (month + month / 8) % 2
+
+unfoldable common : ℕ → ℕ
+common month = turn month - cond (eqb month 2) 2 0
+
+-- From the first month on they are the calendar's twelve.
+twelve : gives common 1 monthLengths ≡ true
+unfolding common gives monthLengths
+twelve = refl
+
+common-length : (month : ℕ) → (1 ≤ month) × (month ≤ 12) → common month ≡ getD monthLengths (month - 1) 0
+unfolding monthLengths
+common-length month is =
+    let place : month ≡ 1 + (month - 1) = omega (arith, is .0) in
+    ap common place ∙ each-given common 1 monthLengths (month - 1) twelve (omega (arith, is .0, is .1))
 
 module _ (year month : ℕ) where
-  pub length-plain : (month ≡ 2 → ⊥) → getD monthLengths (month - 1) 0 ≡ monthLength year month
-  unfolding monthLength
-  length-plain h = rw (ne-eqb month 2 h) (omega arith)
+  module _ (is : (1 ≤ month) × (month ≤ 12)) where
+    pub length-plain : (month ≡ 2 → ⊥) → turn month ≡ monthLength year month
+    unfolding monthLength common
+    length-plain h = rw (sym (common-length month is), ne-eqb month 2 h) (omega arith)
 
-  pub length-common : not (leap year) ≡ true → getD monthLengths (month - 1) 0 ≡ monthLength year month
-  unfolding monthLength
-  length-common h = rw (not-true (leap year) h, and-false) (omega arith)
+    pub length-common : month ≡ 2 → not (leap year) ≡ true → turn month - 2 ≡ monthLength year month
+    unfolding monthLength common
+    length-common e h = rw (sym (common-length month is), eq-eqb month 2 e, not-true (leap year) h) (omega arith)
 
-  pub length-leap : month ≡ 2 → leap year ≡ true → getD monthLengths (month - 1) 0 + 1 ≡ monthLength year month
-  unfolding monthLength
-  length-leap e h = rw (eq-eqb month 2 e, h)
+    pub length-leap : month ≡ 2 → leap year ≡ true → turn month - 1 ≡ monthLength year month
+    unfolding monthLength common
+    length-leap e h = rw (sym (common-length month is), eq-eqb month 2 e, h) (omega arith)
 
   module _ (day : ℕ) where
     pub exists-no-month : month < 1 → false ≡ dayExists year month day

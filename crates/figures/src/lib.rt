@@ -248,9 +248,6 @@ pub fn time(s: &[u8], at: usize) -> TimeRead
     TimeRead::Time(t, at + 4)
 }
 
-// The days of each month, but for the leap day.
-const MONTHS: [u8; 12] = [31, 28, 31, 30, 31, 30, 31, 31, 30, 31, 30, 31];
-
 fn is_leap(year: u32) -> bool
     ensures { λ r. ⌜ r ≡ leap year ⌝ }
 {
@@ -263,19 +260,19 @@ fn is_leap(year: u32) -> bool
     year % 4 == 0
 }
 
+// Months of 31 and of 30 days take turns, and with the eighth the turns begin anew. February has two days fewer than its turn, one in a leap year.
 fn month_length(year: u32, month: u32) -> u32
     requires { ⌜ (1 ≤ month) × (month ≤ 12) ⌝ }
     ensures { λ r. ⌜ r ≡ monthLength year month ⌝ }
 {
-    let i = (month - 1) as usize;
-    let days = MONTHS[i] as u32;
+    let days = 30 + (month + month / 8) % 2;
     if month != 2 {
         return days;
     }
     if !is_leap(year) {
-        return days;
+        return days - 2;
     }
-    days + 1
+    days - 1
 }
 
 pub fn day_exists(year: u32, month: u32, day: u32) -> bool

@@ -1,57 +1,45 @@
--- The length of a month, by the table and the leap year.
-use Prim.Native.Nat.{_-_}
-use native.Mathlib.Omega.{arith}
+-- The length of a month, by its turn and the leap year.
 use mathlib.Core.Bool.{not}
 use mathlib.Core.Path.{sym, ap, _∙_}
 use borrow.Author.Needs.{needs}
 use borrow.Author.Tests.{not-false}
-use Rattle.rules.specs.Fields.{monthLengths}
-use Rattle.figures.proofs.CalendarLaws.{length-plain, length-common, length-leap, length-small}
+use Rattle.figures.proofs.CalendarLaws.{length-plain, length-common, length-leap}
 use Rattle.figures.proofs.month_length.Statement.{statement}
 use Rattle.figures.proofs.month_length.Tie as tie
 
-sub-i : tie.Need-sub-i
-sub-i c = search needs
+add-days : tie.Need-add-days
+add-days c = search needs
 
-cast-i : tie.Need-cast-i
-cast-i c = search needs
-
-array-read-days : tie.Need-array-read-days
-array-read-days c = search needs
-
-cast-days : tie.Need-cast-days
-unfolding monthLengths
-cast-days c = omega (arith, length-small (c .args .month - 1))
+add-days-2 : tie.Need-add-days-2
+add-days-2 c = search needs
 
 returns : tie.Need-returns
-unfolding monthLengths
-returns c = length-plain _ _ (c .if1 .taken)
+returns c = length-plain _ _ (c .before .pre) (c .if1 .taken)
 
 is-leap-requires : tie.Need-is-leap-requires
 is-leap-requires c κs = tt
 
-returns-2 : tie.Need-returns-2
-unfolding monthLengths
-returns-2 c = length-common _ _ (ap not (sym (c .before .is-leap .ensures)) ∙ c .if2 .taken)
+sub-result : tie.Need-sub-result
+sub-result c = search needs
 
-add-result : tie.Need-add-result
-unfolding monthLengths
-add-result c = omega (arith, length-small (c .before .before .before .args .month - 1))
+returns-2 : tie.Need-returns-2
+returns-2 c = length-common _ _ (c .before .before .before .pre) (c .before .before .if1 .left) (ap not (sym (c .before .is-leap .ensures)) ∙ c .if2 .taken)
+
+sub-result-2 : tie.Need-sub-result-2
+sub-result-2 c = search needs
 
 returns-3 : tie.Need-returns-3
-unfolding monthLengths
-returns-3 c = length-leap _ _ (c .before .before .if1 .left) (sym (c .before .is-leap .ensures) ∙ not-false _ (c .if2 .left))
+returns-3 c = length-leap _ _ (c .before .before .before .pre) (c .before .before .if1 .left) (sym (c .before .is-leap .ensures) ∙ not-false _ (c .if2 .left))
 
 pub month-length-spec : {M : Type 1} → statement M
 month-length-spec =
     tie.close
     (tie.spec
-    sub-i
-    cast-i
-    array-read-days
-    cast-days
+    add-days
+    add-days-2
     returns
     is-leap-requires
+    sub-result
     returns-2
-    add-result
+    sub-result-2
     returns-3)
