@@ -40,15 +40,22 @@
  *
  *     memcpy, memset
  *
- * and nothing else: no other function, no start-up code, no file, no clock. The code and the constants of all five functions take 25,655 bytes.
+ * and nothing else: no other function, no start-up code, no file, no clock.
  *
- * Stack, as measured on logs of 26 and of 999 records, with `bench/sizes` and the library as the kit builds it:
+ * Bytes of flash and of stack, as `bench/sizes` measures them of the library as the kit builds it. Flash is the code and the constants that a program
+ * takes which calls this function alone; functions share much of it. Stack was measured on logs of 26 and of 999 records, and on sessions of them:
  *
- *     sumpquince_read    840 bytes
- *     sumpquince_view    872 bytes
- *     sumpquince_judge   17,512 bytes
- *     sumpquince_write   18,952 bytes
- *     sumpquince_mend    1,144 bytes
+ *                                     flash     stack
+ *     sumpquince_read                11,049       824
+ *     sumpquince_view                11,764       856
+ *     sumpquince_judge               15,723    17,496
+ *     sumpquince_write               19,804    18,936
+ *     sumpquince_mend                15,419     1,128
+ *     sumpquince_session_start          359       232
+ *     sumpquince_session_take         7,092       968
+ *     sumpquince_session_give_back    2,071       520
+ *     sumpquince_session_totals         858       232
+ *     all nine                       32,566
  *
  * No bound of the stack is proved. None of the functions calls itself, so what is measured does not grow with the log.
  */
