@@ -3,8 +3,8 @@
  *
  *     calendar LOG < DAYS
  *
- * LOG is an accepted log with one record. DAYS are the days of those years, each a line of eight digits. Each difference is told in a line, up to
- * twenty. The status is 0 where there is none, 1 where there is one, and 2 where LOG or DAYS are of no use. */
+ * LOG is an accepted log with one record and its keywords as they are listed. DAYS are the days of those years, each a line of eight digits. Each
+ * difference is told in a line, up to twenty. The status is 0 where there is none, 1 where there is one, and 2 where LOG or DAYS are of no use. */
 #include "sumpquince.h"
 
 #include <stdbool.h>
@@ -43,10 +43,11 @@ static void load_log(const char *path) {
     length = fread(log, 1, sizeof log, file);
     fclose(file);
     SumpquinceReading reading = sumpquince_read(log, length);
-    if (reading.refusal.number != 0 || reading.records != 1) stop("the log is refused, or has not one record");
+    if (reading.refusal.number != 0) stop("the log is refused");
+    if (reading.records != 1 || reading.respelt != 0) stop("the log has not one record, or a keyword is spelt otherwise");
 }
 
-/* The place behind the first of these characters, which every log has. */
+/* The place behind the first of these characters, which such a log has. */
 static size_t behind(const char *mark) {
     size_t at = 0;
     while (memcmp(log + at, mark, strlen(mark)) != 0) at++;
