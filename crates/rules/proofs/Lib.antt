@@ -47,4 +47,7 @@ pub mod MendingTold
 pub mod MenderKept
 pub mod SessionLaws
 pub mod SessionKept
+pub mod LinkLines
+pub mod LinkBytes
+pub mod LinkKept
 pub mod AllProved

@@ -1,6 +1,6 @@
 -- Every input gets an answer; a refusal has a number, a line and a field, and leaves what was lent as it was.
 -- Assumes nothing.
-use Prim.Native.Nat.{ℕ, suc, _+_, _≤_}
+use Prim.Native.Nat.{ℕ, suc, _+_, _≤_, _-_}
 use mathlib.Core.Path.{_≡_, refl, subst}
 use mathlib.Core.Logic.{_⊎_, inl, inr}
 use mathlib.Core.Bool.{Bool, true, false, cond, _&&_}
@@ -31,7 +31,7 @@ every-input R s = by (read R s) refl
     by (refused r) e = inr (r, e)
 
 -- The number of a line's refusal is 2 to 6, and its field none or, in 5 alone, one of fifteen; of a record line too.
-abbrev Numbered : ℕ → ℕ → Type 0
+abbrev pub Numbered : ℕ → ℕ → Type 0
 Numbered number field = (2 ≤ number) × (number ≤ 6) × (field ≤ 15) × ((number ≡ 5 → ⊥) → field ≡ 0)
 
 abbrev pub FieldIsOne : RecordRule → Type 0
@@ -44,13 +44,73 @@ broken-field n [] h = tt
 broken-field n (true ∷ bs) h = broken-field (suc n) bs (omega arith)
 broken-field n (false ∷ bs) h = omega arith
 
+-- # What a step can be
+
+-- What holds of every step: of each thing that can be due next, and of each refusal.
+pub record OfStep (P : Next → Type 0) : Type 0 where
+  pub keyword : (k : ℕ) → P (Goes (Keyword k))
+  pub remarks : P (Goes Remarks)
+  pub remark : P (Goes Remark)
+  pub records : (n : ℕ) → P (Goes (recordsDue n))
+  pub three : P (Stops 3 0)
+  pub four : P (Stops 4 0)
+  pub five : (field : ℕ) → field ≤ 15 → P (Stops 5 field)
+  pub six : P (Stops 6 0)
+
+on-test : (P : Next → Type 0) (b : Bool) {x y : Next} → P x → P y → P (cond b x y)
+on-test P true p q = p
+on-test P false p q = q
+
+module _ (R : Rules) where
+  pub rule-field : (l : Text) → FieldIsOne (recordRule R l)
+  unfolding recordRule
+  rule-field l = by (eqb (length (parts l)) 15)
+    where
+      by : (b : Bool) → FieldIsOne (cond b (firstBroken 1 (fieldRules R (qsoOf (parts l)))) (breaks 0))
+      by true = broken-field 1 (fieldRules R (qsoOf (parts l))) (omega arith)
+      by false = omega arith
+
+  module _ (P : Next → Type 0) (o : OfStep P) where
+    of-record : (n : ℕ) (r : RecordRule) → FieldIsOne r → P (afterRecord n r)
+    unfolding afterRecord
+    of-record n keeps h = o .records (n - 1)
+    of-record n (breaks field) h = o .five field h
+
+    of-keyword : (e : Entry) (l : Text) (next : Due) → P (Goes next) → P (keywordLine R e l next)
+    unfolding keywordLine
+    of-keyword e l next p =
+        on-test P (hasKeyword e l) (on-test P (meets R (e .rule) (argumentOn e l)) p (o .four)) (o .three)
+
+    of-keywords : (es : List Entry) (k : ℕ) (l : Text) → P (keywordDue R es k l)
+    unfolding keywordDue
+    of-keywords [] k l = o .three
+    of-keywords (e ∷ []) k l = of-keyword e l Remarks (o .remarks)
+    of-keywords (e ∷ f ∷ es) k l = of-keyword e l (Keyword (k + 1)) (o .keyword (k + 1))
+
+    of-whole : (due l : Text) (next : Due) → P (Goes next) → P (whole due l next)
+    unfolding whole
+    of-whole due l next p = on-test P (same l due) p (o .three)
+
+    of-count : (t : Text) → P (countRule R t)
+    unfolding countRule
+    of-count t =
+        let n = span digit t in
+        on-test P (numberFrom 0 (R .mostRecords) (take n t) && same (drop n t) (bytes "]")) (o .records (value (take n t))) (o .four)
+
+    pub of-step : (due : Due) (l : Text) → P (step R due l)
+    unfolding step
+    of-step Identifier l = of-whole identifier l (Keyword 0) (o .keyword 0)
+    of-step (Keyword k) l = of-keywords (drop k entries) k l
+    of-step Remarks l = of-whole remarksLine l Remark (o .remark)
+    of-step Remark l = on-test P (begins countStart l) (of-count (drop (length countStart) l)) (o .remark)
+    of-step (Record n) l = of-record n (recordRule R l) (rule-field l)
+    of-step End l = o .six
+
+-- # The numbers
+
 abbrev StopsNumbered : Next → Type 0
 StopsNumbered (Goes due) = Unit {0}
 StopsNumbered (Stops number field) = Numbered number field
-
-on-test : (b : Bool) (x y : Next) → StopsNumbered x → StopsNumbered y → StopsNumbered (cond b x y)
-on-test true x y p q = p
-on-test false x y p q = q
 
 -- Any number but 5 comes with no field.
 no-field : (number : ℕ) → 2 ≤ number → number ≤ 6 → Numbered number 0
@@ -68,59 +128,27 @@ four = no-field 4 (omega arith) (omega arith)
 six : Numbered 6 0
 six = no-field 6 (omega arith) (omega arith)
 
-module _ (R : Rules) where
-  pub rule-field : (l : Text) → FieldIsOne (recordRule R l)
-  unfolding recordRule
-  rule-field l = by (eqb (length (parts l)) 15)
-    where
-      by : (b : Bool) → FieldIsOne (cond b (firstBroken 1 (fieldRules R (qsoOf (parts l)))) (breaks 0))
-      by true = broken-field 1 (fieldRules R (qsoOf (parts l))) (omega arith)
-      by false = omega arith
-
-  after-numbered : (n : ℕ) (r : RecordRule) → FieldIsOne r → StopsNumbered (afterRecord n r)
-  unfolding afterRecord
-  after-numbered n keeps h = tt
-  after-numbered n (breaks field) h = (omega arith, omega arith, h, λ k. absurd (k refl))
-
-  keyword-numbered : (e : Entry) (l : Text) (next : Due) → StopsNumbered (keywordLine R e l next)
-  unfolding keywordLine
-  keyword-numbered e l next =
-      let m = meets R (e .rule) (argumentOn e l) in
-      on-test (hasKeyword e l) (cond m (Goes next) (Stops 4 0)) (Stops 3 0) (on-test m (Goes next) (Stops 4 0) tt four) three
-
-  due-numbered : (es : List Entry) (k : ℕ) (l : Text) → StopsNumbered (keywordDue R es k l)
-  unfolding keywordDue
-  due-numbered [] k l = three
-  due-numbered (e ∷ []) k l = keyword-numbered e l Remarks
-  due-numbered (e ∷ f ∷ es) k l = keyword-numbered e l (Keyword (k + 1))
-
-  whole-numbered : (due l : Text) (next : Due) → StopsNumbered (whole due l next)
-  unfolding whole
-  whole-numbered due l next = on-test (same l due) (Goes next) (Stops 3 0) tt three
-
-  count-numbered : (t : Text) → StopsNumbered (countRule R t)
-  unfolding countRule
-  count-numbered t =
-      let n = span digit t in
-      on-test (numberFrom 0 (R .mostRecords) (take n t) && same (drop n t) (bytes "]")) (Goes (recordsDue (value (take n t)))) (Stops 4 0) tt four
-
-  step-numbered : (due : Due) (l : Text) → StopsNumbered (step R due l)
-  unfolding step
-  step-numbered Identifier l = whole-numbered identifier l (Keyword 0)
-  step-numbered (Keyword k) l = due-numbered (drop k entries) k l
-  step-numbered Remarks l = whole-numbered remarksLine l Remark
-  step-numbered Remark l =
-      let t = drop (length countStart) l in
-      on-test (begins countStart l) (countRule R t) (Goes Remark) (count-numbered t) tt
-  step-numbered (Record n) l = after-numbered n (recordRule R l) (rule-field l)
-  step-numbered End l = six
+step-numbered : (R : Rules) (due : Due) (l : Text) → StopsNumbered (step R due l)
+step-numbered R due l =
+    of-step R StopsNumbered
+    (record {
+      keyword = λ k. tt;
+      remarks = tt;
+      remark = tt;
+      records = λ n. tt;
+      three = three;
+      four = four;
+      five = λ field h. (omega arith, omega arith, h, λ k. absurd (k refl));
+      six = six;
+    })
+    due l
 
 -- The line is one of the text, or the one that is missing behind them.
-abbrev Placed : ℕ → Reading → Type 0
+abbrev pub Placed : ℕ → Reading → Type 0
 Placed most (accepted log) = Unit {0}
 Placed most (refused r) = (1 ≤ r .line) × (r .line ≤ most) × Numbered (r .number) (r .field)
 
-rest-placed : (due : Due) (n : ℕ) (rest : Text) → 1 ≤ n → Placed n (atRest due n rest)
+pub rest-placed : (due : Due) (n : ℕ) (rest : Text) → 1 ≤ n → Placed n (atRest due n rest)
 unfolding atRest
 rest-placed Identifier n rest h = (h, le-refl n, two)
 rest-placed (Keyword k) n rest h = (h, le-refl n, two)

@@ -9,6 +9,7 @@ pub mod Writing
 pub mod Reading
 pub mod Answers
 pub mod Session
+pub mod Link
 pub mod Mending
 pub mod Given
 pub mod Striking
@@ -16,6 +17,7 @@ pub mod Desk
 pub mod MendingDemands
 pub mod Demands
 pub mod SessionDemands
+pub mod LinkDemands
 pub mod Cases
 pub mod TableArguments
 pub mod TableFields
