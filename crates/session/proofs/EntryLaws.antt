@@ -1,13 +1,13 @@
 -- Laws of what is kept of a record: how long its parts are, where they lie, and what giving back reads of them.
 -- Assumes nothing.
-use Prim.Native.Nat.{ℕ, _+_, _<_}
+use Prim.Native.Nat.{ℕ, _+_, _≤_, _<_}
 use native.Mathlib.Omega.{arith}
 use mathlib.Core.Path.{_≡_, refl, sym, ap, _∙_}
 use mathlib.Core.Bool.{Bool, true, false, cond, not, _||_}
 use mathlib.Core.List.{[], _∷_, _++_, append-assoc}
 use lib.Dec.{eqb}
 use lib.ListN.{length, take, drop, getD, replicate, length-append, length-take, take-append-drop}
-use lib.Seq.{take-at, drop-at, getD-append-add}
+use lib.Seq.{length-take-le, take-at, drop-at, getD-append-add}
 use Rattle.rules.specs.declared.Class.{Class}
 use Rattle.rules.specs.declared.Class.the-variants.{Credited}
 use Rattle.rules.specs.Text.{Text, bytes, same, empty, value, numberOf}
@@ -136,6 +136,9 @@ module _ {R : Rules} (B : FitsBytes R) (q : Qso) (rules : conjunction (fieldRule
       by : (b : Bool) → length (cond b (entryOf R q) (replicate 28 0)) ≡ 28
       by true = entry-long
       by false = refl
+
+  pub length-front : (width : ℕ) → width ≤ 28 → (class : Class) → length (take width (keptOf R class q)) ≡ width
+  length-front width narrow class = length-take-le width (keptOf R class q) (omega (arith, length-entry class))
 
   -- Where its parts lie.
   pub home-lies : take 14 (drop 0 (entryOf R q)) ≡ home-bytes

@@ -7,6 +7,7 @@ use mathlib.Core.Path.{_≡_, refl, sym, ap, _∙_}
 use mathlib.Core.Bool.{Bool, true, cond}
 use mathlib.Core.List.{List, [], _∷_, _++_, map, map-append}
 use lib.ListN.{length, take, drop, getD, replicate, length-append, length-map}
+use lib.Seq.{take-all}
 use borrow.Author.Tests.{le-leb, lt-ltb}
 use Rattle.rules.specs.declared.Class.the-variants.{Credited}
 use Rattle.rules.specs.declared.Totals.{Totals}
@@ -27,7 +28,7 @@ use Rattle.session.specs.declared.Session.{Session}
 use Rattle.session.specs.Entry.{pointsIn, entryOf, keptOf, bytesOf, creditedFrom, FitsBytes}
 use Rattle.session.specs.Session.{present, refusedBy, accepted, broughtBy, lastVerdict, lastWorth, lastMode, lastBrought, slicesReach, takenOff, givenBack}
 use Rattle.session.proofs.MoreLaws.{verdicts-more, bytes-more}
-use Rattle.session.proofs.EntryLaws.{length-entry, entry-points, entry-mode}
+use Rattle.session.proofs.EntryLaws.{length-entry, length-front, entry-points, entry-mode}
 use Rattle.session.proofs.JudgedLaws.{length-bytes}
 use Rattle.session.proofs.ComeLaws.{cameTo, mode-placed}
 use Rattle.session.proofs.BackLaws.{said-back, mode-told, taken-off}
@@ -48,7 +49,7 @@ module _ {R : Rules} (B : FitsBytes R) {room : ℕ} (d : Declared) (qs : List Qs
   v = verdictOf R (creditedFrom R [] qs) q
 
   abbrev entry : List ℕ
-  entry = keptOf R (v .class) q
+  entry = take 28 (keptOf R (v .class) q)
 
   abbrev numbers : List ℕ
   numbers = map verdictNumber (judged R qs)
@@ -77,16 +78,16 @@ module _ {R : Rules} (B : FitsBytes R) {room : ℕ} (d : Declared) (qs : List Qs
   told-long : length numbers ≡ n
   told-long = length-map (judged R qs) verdictNumber ∙ length-verdicts R qs
 
-  kept-front : take (n * 28 + 28) kept ≡ bytesOf R qs (judged R qs) ++ entry
+  kept-front : take (n * 28 + 28) kept ≡ bytesOf R 28 qs (judged R qs) ++ entry
   kept-front =
       let bytes : n * 28 + 28 ≡ length with * 28 = omega (arith, long) in
       ap (λ (m : ℕ). take m kept) bytes
       ∙ h .bytesAre
-      ∙ ap (bytesOf R with) (verdicts-more R q qs)
-      ∙ bytes-more R q v qs (judged R qs) (length-verdicts R qs)
+      ∙ ap (bytesOf R 28 with) (verdicts-more R q qs)
+      ∙ bytes-more R q 28 v qs (judged R qs) (length-verdicts R qs)
 
-  kept-long : length (bytesOf R qs (judged R qs)) ≡ n * 28
-  kept-long = length-bytes B qs (judged R qs) all-ruled (length-verdicts R qs)
+  kept-long : length (bytesOf R 28 qs (judged R qs)) ≡ n * 28
+  kept-long = length-bytes B 28 (omega arith) (omega arith) qs (judged R qs) all-ruled (length-verdicts R qs)
 
   verdict-last : lastVerdict s told ≡ v
   unfolding lastVerdict
@@ -99,14 +100,16 @@ module _ {R : Rules} (B : FitsBytes R) {room : ℕ} (d : Declared) (qs : List Qs
   module _ (credited : is Credited (v .class) ≡ true) where
     is-entry : entry ≡ entryOf R q
     unfolding keptOf
-    is-entry = ap (λ (b : Bool). cond b (entryOf R q) (replicate 28 0)) credited
+    is-entry =
+        take-all 28 (keptOf R (v .class) q) (omega (arith, length-entry B q ruled (v .class)))
+        ∙ ap (λ (b : Bool). cond b (entryOf R q) (replicate 28 0)) credited
 
     worth-last : lastWorth s kept ≡ value (q .points)
     unfolding lastWorth
     worth-last =
         let rest = drop (n * 28 + 28) kept in
         ap (λ (m : ℕ). pointsIn (drop (m * 28 + 24) kept)) last-place
-        ∙ ap pointsIn (drop-last kept (bytesOf R qs (judged R qs)) entry (n * 28) 28 kept-front kept-long 24)
+        ∙ ap pointsIn (drop-last kept (bytesOf R 28 qs (judged R qs)) entry (n * 28) 28 kept-front kept-long 24)
         ∙ ap (λ (t : Text). pointsIn (drop 24 (t ++ rest))) is-entry
         ∙ entry-points B q ruled rest
 
@@ -115,7 +118,7 @@ module _ {R : Rules} (B : FitsBytes R) {room : ℕ} (d : Declared) (qs : List Qs
     mode-last =
         ap (λ (m : ℕ). modePlace (getD kept (m * 28 + 27) 0)) last-place
         ∙ ap modePlace
-        (getD-last kept (bytesOf R qs (judged R qs)) entry (n * 28) 28 kept-front kept-long 27 (omega (arith, length-entry B q ruled (v .class)))
+        (getD-last kept (bytesOf R 28 qs (judged R qs)) entry (n * 28) 28 kept-front kept-long 27 (omega (arith, length-front B q ruled 28 (omega arith) (v .class)))
         ∙ ap (λ (t : Text). getD t 27 0) is-entry
         ∙ entry-mode B q ruled)
         ∙ mode-told q
@@ -148,7 +151,7 @@ module _ {R : Rules} (B : FitsBytes R) {room : ℕ} (d : Declared) (qs : List Qs
         ruled = all-ruled;
         few = omega (arith, h .few, long);
         verdictsAre = front-less told numbers (verdictNumber v ∷ []) n 1 told-front told-long;
-        bytesAre = front-less kept (bytesOf R qs (judged R qs)) entry (n * 28) 28 kept-front kept-long;
+        bytesAre = front-less kept (bytesOf R 28 qs (judged R qs)) entry (n * 28) 28 kept-front kept-long;
         rooms = h .rooms;
         inside = omega (arith, h .inside, long);
       }

@@ -66,7 +66,7 @@ module _ (R : Rules) where
     pub ruled : recordRules R qs ≡ true
     pub few : length qs ≤ R .mostRecords
     pub verdictsAre : take (length qs) told ≡ map verdictNumber (judged R qs)
-    pub bytesAre : take (length qs * 28) kept ≡ bytesOf R qs (judged R qs)
+    pub bytesAre : take (length qs * 28) kept ≡ bytesOf R 28 qs (judged R qs)
     pub rooms : min (length told) (length kept / 28) ≡ room
     pub inside : length qs ≤ room
 

@@ -8,6 +8,7 @@ pub mod SessionLaws
 pub mod ComeLaws
 pub mod BackLaws
 pub mod SliceLaws
+pub mod LineLaws
 pub mod HoldLaws
 pub mod TakingLaws
 pub mod GivingLaws

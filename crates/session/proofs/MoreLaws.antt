@@ -4,7 +4,7 @@ use Prim.Native.Nat.{ℕ}
 use native.Mathlib.Omega.{arith}
 use mathlib.Core.Path.{_≡_, refl, sym, ap, _∙_}
 use mathlib.Core.List.{List, [], _∷_, _++_, append-nil, append-assoc}
-use lib.ListN.{length}
+use lib.ListN.{length, take}
 use Rattle.rules.specs.declared.Verdict.{Verdict}
 use Rattle.rules.specs.declared.Totals.{Totals}
 use Rattle.rules.specs.Text.{value}
@@ -26,14 +26,14 @@ module _ (R : Rules) (q : Qso) where
   unfolding verdicts
   verdicts-more qs = after-more [] qs
 
-  pub bytes-more : (v : Verdict) (qs : List Qso) (vs : List Verdict) → length vs ≡ length qs → bytesOf R (qs ++ (q ∷ [])) (vs ++ (v ∷ [])) ≡ bytesOf R qs vs ++ keptOf R (v .class) q
+  pub bytes-more : (width : ℕ) (v : Verdict) (qs : List Qso) (vs : List Verdict) → length vs ≡ length qs → bytesOf R width (qs ++ (q ∷ [])) (vs ++ (v ∷ [])) ≡ bytesOf R width qs vs ++ take width (keptOf R (v .class) q)
   unfolding bytesOf
-  bytes-more v [] [] e = append-nil (keptOf R (v .class) q)
-  bytes-more v [] (w ∷ vs) e = absurd (omega arith)
-  bytes-more v (p ∷ qs) [] e = absurd (omega arith)
-  bytes-more v (p ∷ qs) (w ∷ vs) e =
-      ap (λ (l : List ℕ). keptOf R (w .class) p ++ l) (bytes-more v qs vs (omega arith))
-      ∙ sym (append-assoc (keptOf R (w .class) p) (bytesOf R qs vs) (keptOf R (v .class) q))
+  bytes-more width v [] [] e = append-nil (take width (keptOf R (v .class) q))
+  bytes-more width v [] (w ∷ vs) e = absurd (omega arith)
+  bytes-more width v (p ∷ qs) [] e = absurd (omega arith)
+  bytes-more width v (p ∷ qs) (w ∷ vs) e =
+      ap (λ (l : List ℕ). take width (keptOf R (w .class) p) ++ l) (bytes-more width v qs vs (omega arith))
+      ∙ sym (append-assoc (take width (keptOf R (w .class) p)) (bytesOf R width qs vs) (take width (keptOf R (v .class) q)))
 
 pub sums-more : (q : Qso) (v : Verdict) (t : Totals) (qs : List Qso) (vs : List Verdict) → length vs ≡ length qs → addRecords t (qs ++ (q ∷ [])) (vs ++ (v ∷ [])) ≡ addRecord (addRecords t qs vs) (value (q .points)) (modeOf q) v
 unfolding addRecords

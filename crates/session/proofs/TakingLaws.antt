@@ -1,13 +1,12 @@
 -- A line is taken: who held what judging the records gives holds it of one record more.
 -- Assumes nothing.
-use Prim.Native.Nat.{ℕ, suc, _+_, _*_, _/_, _≤_, _<_, min}
+use Prim.Native.Nat.{ℕ, _+_, _*_, _/_, _≤_, _<_, min}
 use native.Mathlib.Omega.{arith}
 use mathlib.Core.Path.{_≡_, refl, sym, ap, _∙_}
 use mathlib.Core.Bool.{Bool, true, false, cond, _&&_}
-use mathlib.Core.List.{List, [], _∷_, _++_, map, map-append}
+use mathlib.Core.List.{List, [], _∷_, _++_}
 use lib.Dec.{ltb}
 use lib.ListN.{length, take, getD, set, length-append, length-set}
-use lib.Seq.{take-all, take-suc-set}
 use borrow.Author.Tests.{ltb-true}
 use Rattle.rules.specs.declared.Verdict.{Verdict}
 use Rattle.rules.specs.Text.{Text, parts, value}
@@ -15,28 +14,22 @@ use Rattle.rules.specs.Rules.{Rules}
 use Rattle.rules.specs.Fields.{Qso, fieldRules, qsoOf}
 use Rattle.rules.specs.Log.{conjunction}
 use Rattle.rules.specs.Judging.{verdictOf, verdictNumber}
-use Rattle.rules.specs.Judging.{verdicts as judged}
 use Rattle.rules.specs.Reading.{keeps, recordRule}
 use Rattle.rules.specs.Session.{session, hasPlace}
 use Rattle.rules.proofs.SessionLaws.{rules-more}
 use Rattle.rules.proofs.Tests.{and-l, and-r}
-use Rattle.rules.proofs.Classes.{length-verdicts}
 use Rattle.rules.proofs.FieldLaws.{record-is}
 use Rattle.places.specs.declared.Declared.{Declared}
 use Rattle.judge.specs.declared.Sums.{Sums}
 use Rattle.judge.specs.Count.{modeOf, addRecord, asDeclared}
 use Rattle.judge.specs.Sums.{sumsOf, verdictIn, moreSums}
-use Rattle.writer.specs.Written.{written}
 use Rattle.session.specs.declared.LineKept.{LineKept}
 use Rattle.session.specs.declared.Session.{Session}
-use Rattle.session.specs.Entry.{keptOf, verdictKept, bytesOf, creditedFrom, FitsBytes, recordOf, keepsRules, isKept, saidOf, toldLine, lineKept, verdictsKept, withBytes, bytesKept}
+use Rattle.session.specs.Entry.{creditedFrom, FitsBytes, recordOf, keepsRules, isKept, saidOf, toldLine, lineKept, verdictsKept, withBytes, bytesKept}
 use Rattle.session.specs.Session.{present, isReady, isTaken, withRecord, withLine, verdictsTaken, keptTaken}
-use Rattle.session.proofs.MoreLaws.{verdicts-more, bytes-more}
-use Rattle.session.proofs.EntryLaws.{length-entry}
-use Rattle.session.proofs.JudgedLaws.{said-as-judged}
 use Rattle.session.proofs.ComeLaws.{cameTo, worth-within}
 use Rattle.session.proofs.BackLaws.{said-back, mode-told, more-came}
-use Rattle.session.proofs.SliceLaws.{front-written, length-written}
+use Rattle.session.proofs.LineLaws.{Stores, line-said, line-verdicts, line-bytes, line-keeps-length}
 use Rattle.session.proofs.HoldLaws.{came-more, numbersOf, Holds, comes, counted, taken-by}
 
 -- # Of any session and any slices
@@ -84,21 +77,23 @@ module _ {R : Rules} (B : FitsBytes R) {room : ℕ} (d : Declared) (qs : List Qs
   with = qs ++ (q ∷ [])
 
   abbrev pub toldMore : List ℕ
-  toldMore = set told n (verdictNumber v)
+  toldMore = set told n (verdictNumber (saidOf R l n 28 kept))
 
   abbrev pub keptMore : List ℕ
-  keptMore = written kept (n * 28) (keptOf R (v .class) q)
+  keptMore = withBytes R l n 28 kept
 
   ruled : conjunction (fieldRules R q) ≡ true
   ruled = record-is R l rule .rules
+
+  stores : Stores R 28 qs kept
+  stores = record { wide = omega arith; narrow = omega arith; ruled = h .ruled; are = h .bytesAre }
 
   pub is-taken : isTaken R s l told kept ≡ true
   is-taken = taken-by R d qs told kept h l ∙ (λ i. keepsRules (rule i) && place i)
 
   said : saidOf R l (present s) 28 kept ≡ v
-  unfolding saidOf recordOf
   said =
-      ap (λ (m : ℕ). verdictKept R kept 28 m q) (counted R d qs told kept h) ∙ said-as-judged B kept qs (h .ruled) (h .bytesAre) q ruled
+      ap (λ (m : ℕ). saidOf R l m 28 kept) (counted R d qs told kept h) ∙ line-said B stores l rule
 
   below-most : n < R .mostRecords
   unfolding hasPlace
@@ -127,15 +122,13 @@ module _ {R : Rules} (B : FitsBytes R) {room : ℕ} (d : Declared) (qs : List Qs
   told-more =
       verdicts-by R s l told kept
       ∙ ap (λ (b : Bool). cond b (set told (present s) (verdictNumber (saidOf R l (present s) 28 kept))) told) is-taken
-      ∙ (λ i. set told (counted R d qs told kept h i) (verdictNumber (said i)))
+      ∙ ap (λ (m : ℕ). set told m (verdictNumber (saidOf R l m 28 kept))) (counted R d qs told kept h)
 
   pub kept-more : keptTaken R s l told kept ≡ keptMore
-  unfolding withBytes recordOf
   kept-more =
       kept-by R s l told kept
       ∙ ap (λ (b : Bool). cond b (withBytes R l (present s) 28 kept) kept) is-taken
-      ∙ (λ i. written kept (counted R d qs told kept h i * 28) (take 28 (keptOf R ((said i) .class) q)))
-      ∙ ap (written kept (n * 28)) (take-all 28 (keptOf R (v .class) q) (omega (arith, length-entry B q ruled (v .class))))
+      ∙ ap (λ (m : ℕ). withBytes R l m 28 kept) (counted R d qs told kept h)
 
   long-more : length with ≡ n + 1
   long-more = length-append qs (q ∷ [])
@@ -145,25 +138,16 @@ module _ {R : Rules} (B : FitsBytes R) {room : ℕ} (d : Declared) (qs : List Qs
 
   pub holds-more : Holds R room d with toldMore keptMore
   holds-more =
-      let front : length with ≡ suc n = omega (arith, long-more) in
-      let bytes : length with * 28 ≡ n * 28 + 28 = omega (arith, long-more) in
-      let long = length-entry B q ruled (v .class) in
       record {
         declared = h .declared;
         ruled = rules-more R q qs (h .ruled) ruled;
         few = omega (arith, long-more, below-most);
         verdictsAre =
-            ap (λ (m : ℕ). take m toldMore) front
-            ∙ take-suc-set told n (verdictNumber v) (omega (arith, h .rooms, below-room))
-            ∙ ap (λ (t : List ℕ). t ++ (verdictNumber v ∷ [])) (h .verdictsAre)
-            ∙ sym (map-append verdictNumber (judged R qs) (v ∷ []))
-            ∙ ap (map verdictNumber) (sym (verdicts-more R q qs));
+            ap (λ (m : ℕ). take m toldMore) long-more
+            ∙ line-verdicts B stores l rule told (h .verdictsAre) (omega (arith, h .rooms, below-room));
         bytesAre =
-            ap (λ (m : ℕ). take m keptMore) bytes
-            ∙ front-written kept (n * 28) 28 (keptOf R (v .class) q) long kept-room
-            ∙ ap (λ (t : List ℕ). t ++ keptOf R (v .class) q) (h .bytesAre)
-            ∙ sym (bytes-more R q v qs (judged R qs) (length-verdicts R qs))
-            ∙ ap (bytesOf R with) (sym (verdicts-more R q qs));
-        rooms = (λ i. min (length-set told n (verdictNumber v) i) (length-written kept (n * 28) 28 (keptOf R (v .class) q) long kept-room i / 28)) ∙ h .rooms;
+            ap (λ (m : ℕ). take (m * 28) keptMore) long-more
+            ∙ line-bytes B stores l rule kept-room;
+        rooms = (λ i. min (length-set told n (verdictNumber (saidOf R l n 28 kept)) i) (line-keeps-length B stores l rule kept-room i / 28)) ∙ h .rooms;
         inside = omega (arith, long-more, below-room);
       }

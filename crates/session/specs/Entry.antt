@@ -92,12 +92,12 @@ verdictKept R kept stride n q =
 
 -- # Many records
 
--- What is kept of these records, of which these verdicts are told, one behind the other.
-unfoldable pub bytesOf : Rules → List Qso → List Verdict → Text
+-- What is kept of these records, of which these verdicts are told, so many bytes of each, one behind the other.
+unfoldable pub bytesOf : Rules → ℕ → List Qso → List Verdict → Text
 unfolding keptOf
-bytesOf R [] vs = []
-bytesOf R (q ∷ qs) [] = []
-bytesOf R (q ∷ qs) (v ∷ vs) = keptOf R (v .class) q ++ bytesOf R qs vs
+bytesOf R width [] vs = []
+bytesOf R width (q ∷ qs) [] = []
+bytesOf R width (q ∷ qs) (v ∷ vs) = take width (keptOf R (v .class) q) ++ bytesOf R width qs vs
 
 -- The records that are credited after these, the last one first.
 unfoldable pub creditedFrom : Rules → List Qso → List Qso → List Qso
