@@ -1,14 +1,16 @@
 -- The three demands, all of them: what `specs/Demands.antt` states is proved, of any rules under which the claims that are recomputed have room
--- in their places, and so of the base rules; and with them what is asked of the mender and of a session.
+-- in their places, and so of the base rules; and with them what is asked of the mender, of a session and of the link.
 -- Assumes nothing.
 use Rattle.rules.specs.Rules.{Rules, base}
 use Rattle.rules.specs.Demands.{TheThreeDemands, TheBaseKeepsThem}
 use Rattle.rules.specs.SessionDemands.{TheSession}
+use Rattle.rules.specs.LinkDemands.{TheLink}
 use Rattle.rules.proofs.Bounds.{total-is-bounded, the-most-total}
 use Rattle.rules.proofs.Classes.{four-counts, calls-byte-for-byte, classes-as-defined}
 use Rattle.rules.proofs.Falls.{striking-rule}
 use Rattle.rules.proofs.Format.{accepted-when-written, accepted-format}
 use Rattle.rules.proofs.GivenCalls.{given-exactly-when, zero-when-accepted, line-and-field-told}
+use Rattle.rules.proofs.LinkKept.{the-link}
 use Rattle.rules.proofs.MenderKept.{the-mender}
 use Rattle.rules.proofs.ModeLaws.{modes-add-up}
 use Rattle.rules.proofs.PremiseNeeded.{premise-is-needed}
@@ -65,3 +67,6 @@ the-three-demands =
 -- `SessionDemands` rests on `Demands`, so that it is joined here and not there.
 pub the-base-session : TheSession base
 the-base-session = the-session base
+
+pub the-base-link : TheLink base
+the-base-link = the-link base

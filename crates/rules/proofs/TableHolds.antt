@@ -11,6 +11,7 @@ use Rattle.rules.specs.TableFields.{fieldCases, fieldCharacterCases, cal
 use Rattle.rules.specs.TableLogs.{case12Cases, readingCases, lendingCases, oldSpellingCases, squareCases, wrongTurnCases, secondTryCases, modeCases, wideCases, samenessCases, valueCases, limitCases}
 use Rattle.rules.specs.TableMending.{lineEndCases, spaceCases, countCases, placeCases, mendedCases, mendingRefusedCases, mendingRoomCases, mendingLimitCases}
 use Rattle.rules.specs.TableSession.{takingCases, givingCases, sessionRefusedCases}
+use Rattle.rules.specs.TableLink.{cutCases, linkRefusedCases, linkLentCases}
 use Rattle.rules.specs.Table.{table}
 
 -- Each case of the list is answered as it says.
@@ -165,6 +166,18 @@ sessionRefusedCases-hold : answers sessionRefusedCases ≡ says sessionRefusedCa
 unfolding answer sessionRefusedCases
 sessionRefusedCases-hold = refl
 
+cutCases-hold : answers cutCases ≡ says cutCases
+unfolding answer cutCases
+cutCases-hold = refl
+
+linkRefusedCases-hold : answers linkRefusedCases ≡ says linkRefusedCases
+unfolding answer linkRefusedCases
+linkRefusedCases-hold = refl
+
+linkLentCases-hold : answers linkLentCases ≡ says linkLentCases
+unfolding answer linkLentCases
+linkLentCases-hold = refl
+
 pub table-holds : Holds table
 unfolding table
 table-holds =
@@ -201,3 +214,6 @@ table-holds =
     also computed takingCases takingCases-hold
     also computed givingCases givingCases-hold
     also computed sessionRefusedCases sessionRefusedCases-hold
+    also computed cutCases cutCases-hold
+    also computed linkRefusedCases linkRefusedCases-hold
+    also computed linkLentCases linkLentCases-hold

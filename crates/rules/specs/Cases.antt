@@ -8,6 +8,7 @@ use lib.ListN.{length, set, replicate}
 use Rattle.rules.specs.declared.Refusal.{Refusal}
 use Rattle.rules.specs.declared.Totals.{Totals}
 use Rattle.rules.specs.declared.Due.{Due}
+use Rattle.rules.specs.declared.Due.the-variants.{Identifier}
 use Rattle.rules.specs.declared.Next.{Next}
 use Rattle.rules.specs.declared.Next.the-variants.{Goes, Stops}
 use Rattle.rules.specs.Text.{Text, bytes, sameButCase}
@@ -18,11 +19,17 @@ use Rattle.rules.specs.Log.{Log, render, valid}
 use Rattle.rules.specs.Judging.{Declared, declared, verdictNumber, verdictsOfLog, modeNumbers, modesTogether, totalsOfLog}
 use Rattle.rules.specs.Writing.{writtenBack, unclaimed}
 use Rattle.rules.specs.Reading.{FirstLine, aLine, noLine, firstLine, RecordRule, keeps, breaks, recordRule, Reading, accepted, refused, read, step}
-use Rattle.rules.specs.Answers.{view, refusalOfView, startOfView, viewed, listedOfView, judge, refusalOfJudgement, totalsOfJudgement, numbersOfJudgement, write, refusalOfWriting, bytesOfWriting, refusalOfReading, recordsOfReading, respeltOfReading, over}
+use Rattle.rules.specs.Answers.{noRefusal, view, refusalOfView, startOfView, viewed, listedOfView, judge, refusalOfJudgement, totalsOfJudgement, numbersOfJudgement, write, refusalOfWriting, bytesOfWriting, refusalOfReading, recordsOfReading, respeltOfReading, over}
 use Rattle.rules.specs.Mending.{mendedText, Change, changes, Rooms, mend, refusalOfMending, bytesOfMending, kindsOfMending, linesOfMending}
 use Rattle.rules.specs.Session.{Session, session, Call, Reply, sessionVerdicts, sessionTotals, hasPlace, sessionAfter, repliesTo}
+use Rattle.rules.specs.Link.{Link, Lent, feed, Closed, close, linkVerdicts}
 use Rattle.rules.specs.Striking.{Places, strike, placeAfter, struckWorth}
 use Rattle.rules.specs.Desk.{desk}
+
+-- A call of the link, with slices of so many verdicts and so many bytes.
+pub data LinkCall : Type 0 where
+  feeds : ℕ → ℕ → Text → LinkCall
+  closes : ℕ → ℕ → LinkCall
 
 pub data Question : Type 0 where
   -- of a text: whether a line stands at its front, as 1 and the line's length, else 0
@@ -84,6 +91,9 @@ pub data Question : Type 0 where
   endsWith : ℕ → List Call → Question
   -- of so many records present and room for so many: 1 where there is a place for one more, else 0
   hasPlaceAfter : ℕ → ℕ → Question
+  -- of a link that was opened, to which so many bytes came before the first that is told here, and of calls: of a piece number, line, field and how
+  -- many verdicts are written; of a closing number, line, field, the total and the verdicts
+  links : ℕ → List LinkCall → Question
 
 abbrev truth : Bool → List ℕ
 truth true = 1 ∷ []
@@ -160,13 +170,39 @@ replyIn r =
 abbrev judgedIn : Log → List ℕ
 judgedIn log = (totalsOfLog base log) .total ∷ map verdictNumber (verdictsOfLog base log)
 
+abbrev lentOf : ℕ → ℕ → Lent
+lentOf verdicts worked = record { verdicts = verdicts; worked = worked }
+
+abbrev openedAfter : ℕ → Link
+openedAfter count =
+    record {
+      refusal = noRefusal;
+      due = Identifier;
+      finished = [];
+      begun = [];
+      returned = false;
+      count = count;
+      announced = 0;
+    }
+
+-- The answers to calls of a link.
+unfoldable pub linkAnswers : Link → List LinkCall → List ℕ
+unfolding feed close linkVerdicts base
+linkAnswers k [] = []
+linkAnswers k (feeds verdicts worked s ∷ cs) =
+    let j = feed base (lentOf verdicts worked) k s in
+    paper (j .refusal) ++ length (linkVerdicts base j) ∷ linkAnswers j cs
+linkAnswers k (closes verdicts worked ∷ cs) =
+    let c = close base (lentOf verdicts worked) k in
+    paper (c .refusal) ++ c .totals .total ∷ linkVerdicts base (c .link) ++ linkAnswers (c .link) cs
+
 -- The struck log is written, and read again.
 unfoldable pub afterStrike : Places → Log → List ℕ
 unfolding read base render strike totalsOfLog verdictsOfLog verdictNumber
 afterStrike struck log = ofLog judgedIn (read base (render (strike struck log)))
 
 unfoldable pub answer : Question → List ℕ
-unfolding firstLine step dayExists fullYear sameButCase meets recordRule read refusalOfReading recordsOfReading respeltOfReading valid render judge refusalOfJudgement numbersOfJudgement totalsOfJudgement modeNumbers modesTogether desk write refusalOfWriting bytesOfWriting over unclaimed view refusalOfView startOfView viewed listedOfView afterStrike writtenBack strike struckWorth declared verdictsOfLog placeAfter mendedText changes mend refusalOfMending bytesOfMending kindsOfMending linesOfMending paired sessionTotals sessionVerdicts repliesTo sessionAfter hasPlace flatMap base
+unfolding firstLine step dayExists fullYear sameButCase meets recordRule read refusalOfReading recordsOfReading respeltOfReading valid render judge refusalOfJudgement numbersOfJudgement totalsOfJudgement modeNumbers modesTogether desk write refusalOfWriting bytesOfWriting over unclaimed view refusalOfView startOfView viewed listedOfView afterStrike writtenBack strike struckWorth declared verdictsOfLog placeAfter mendedText changes mend refusalOfMending bytesOfMending kindsOfMending linesOfMending paired sessionTotals sessionVerdicts repliesTo sessionAfter hasPlace linkAnswers noRefusal flatMap base
 answer (hasLine s) = lineIn (firstLine base s)
 answer (leads due l) = nextIn (step base due l)
 answer (isYear yy) = fullYear yy ∷ []
@@ -207,6 +243,7 @@ answer (plays room cs) = flatMap replyIn (repliesTo base room unstarted cs)
 answer (endsWith room cs) =
     let t = sessionTotals base (sessionAfter base room unstarted cs) in sums t ++ modeNumbers (t .modes)
 answer (hasPlaceAfter n room) = truth (hasPlace base room (session undeclared (replicate n (qsoOf []))))
+answer (links count cs) = linkAnswers (openedAfter count) cs
 
 -- A question and what is to be answered.
 pub record Case : Type 0 where

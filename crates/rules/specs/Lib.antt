@@ -24,4 +24,5 @@ pub mod TableFields
 pub mod TableLogs
 pub mod TableMending
 pub mod TableSession
+pub mod TableLink
 pub mod Table
