@@ -1,6 +1,6 @@
 -- What the table of cases asks, and how an answer is put in numbers.
 -- Assumes nothing.
-use Prim.Native.Nat.{ℕ}
+use Prim.Native.Nat.{ℕ, _+_}
 use Prim.Native.String.{String}
 use mathlib.Core.Bool.{Bool, true, false}
 use mathlib.Core.List.{List, [], _∷_, _++_, map, flatMap}
@@ -8,7 +8,6 @@ use lib.ListN.{length, set, replicate}
 use Rattle.rules.specs.declared.Refusal.{Refusal}
 use Rattle.rules.specs.declared.Totals.{Totals}
 use Rattle.rules.specs.declared.Due.{Due}
-use Rattle.rules.specs.declared.Due.the-variants.{Identifier}
 use Rattle.rules.specs.declared.Next.{Next}
 use Rattle.rules.specs.declared.Next.the-variants.{Goes, Stops}
 use Rattle.rules.specs.Text.{Text, bytes, sameButCase}
@@ -19,10 +18,10 @@ use Rattle.rules.specs.Log.{Log, render, valid}
 use Rattle.rules.specs.Judging.{Declared, declared, verdictNumber, verdictsOfLog, modeNumbers, modesTogether, totalsOfLog}
 use Rattle.rules.specs.Writing.{writtenBack, unclaimed}
 use Rattle.rules.specs.Reading.{FirstLine, aLine, noLine, firstLine, RecordRule, keeps, breaks, recordRule, Reading, accepted, refused, read, step}
-use Rattle.rules.specs.Answers.{noRefusal, view, refusalOfView, startOfView, viewed, listedOfView, judge, refusalOfJudgement, totalsOfJudgement, numbersOfJudgement, write, refusalOfWriting, bytesOfWriting, refusalOfReading, recordsOfReading, respeltOfReading, over}
+use Rattle.rules.specs.Answers.{view, refusalOfView, startOfView, viewed, listedOfView, judge, refusalOfJudgement, totalsOfJudgement, numbersOfJudgement, write, refusalOfWriting, bytesOfWriting, refusalOfReading, recordsOfReading, respeltOfReading, over}
 use Rattle.rules.specs.Mending.{mendedText, Change, changes, Rooms, mend, refusalOfMending, bytesOfMending, kindsOfMending, linesOfMending}
 use Rattle.rules.specs.Session.{Session, session, Call, Reply, sessionVerdicts, sessionTotals, hasPlace, sessionAfter, repliesTo}
-use Rattle.rules.specs.Link.{Link, Lent, feed, Closed, close, linkVerdicts}
+use Rattle.rules.specs.Link.{Link, opened, Lent, feed, Closed, close, linkVerdicts}
 use Rattle.rules.specs.Striking.{Places, strike, placeAfter, struckWorth}
 use Rattle.rules.specs.Desk.{desk}
 
@@ -173,16 +172,17 @@ judgedIn log = (totalsOfLog base log) .total ∷ map verdictNumber (verdictsOfLo
 abbrev lentOf : ℕ → ℕ → Lent
 lentOf verdicts worked = record { verdicts = verdicts; worked = worked }
 
-abbrev openedAfter : ℕ → Link
+unfoldable pub openedAfter : ℕ → Link
+unfolding opened
 openedAfter count =
     record {
-      refusal = noRefusal;
-      due = Identifier;
-      finished = [];
-      begun = [];
-      returned = false;
-      count = count;
-      announced = 0;
+      refusal = opened .refusal;
+      due = opened .due;
+      finished = opened .finished;
+      begun = opened .begun;
+      returned = opened .returned;
+      count = opened .count + count;
+      announced = opened .announced;
     }
 
 -- The answers to calls of a link.
@@ -202,7 +202,7 @@ unfolding read base render strike totalsOfLog verdictsOfLog verdictNumber
 afterStrike struck log = ofLog judgedIn (read base (render (strike struck log)))
 
 unfoldable pub answer : Question → List ℕ
-unfolding firstLine step dayExists fullYear sameButCase meets recordRule read refusalOfReading recordsOfReading respeltOfReading valid render judge refusalOfJudgement numbersOfJudgement totalsOfJudgement modeNumbers modesTogether desk write refusalOfWriting bytesOfWriting over unclaimed view refusalOfView startOfView viewed listedOfView afterStrike writtenBack strike struckWorth declared verdictsOfLog placeAfter mendedText changes mend refusalOfMending bytesOfMending kindsOfMending linesOfMending paired sessionTotals sessionVerdicts repliesTo sessionAfter hasPlace linkAnswers noRefusal flatMap base
+unfolding firstLine step dayExists fullYear sameButCase meets recordRule read refusalOfReading recordsOfReading respeltOfReading valid render judge refusalOfJudgement numbersOfJudgement totalsOfJudgement modeNumbers modesTogether desk write refusalOfWriting bytesOfWriting over unclaimed view refusalOfView startOfView viewed listedOfView afterStrike writtenBack strike struckWorth declared verdictsOfLog placeAfter mendedText changes mend refusalOfMending bytesOfMending kindsOfMending linesOfMending paired sessionTotals sessionVerdicts repliesTo sessionAfter hasPlace linkAnswers openedAfter flatMap base
 answer (hasLine s) = lineIn (firstLine base s)
 answer (leads due l) = nextIn (step base due l)
 answer (isYear yy) = fullYear yy ∷ []

@@ -6,7 +6,7 @@ use mathlib.Core.List.{List, [], _∷_, _++_, flatMap}
 use lib.ListN.{length, take, drop, replicate}
 use Rattle.rules.specs.Text.{Text, bytes}
 use Rattle.rules.specs.Cases.{Case, case, LinkCall, feeds, closes, links}
-use Rattle.rules.specs.TableLogs.{lined, textOf, plain, case12, emptyLog, threeBad}
+use Rattle.rules.specs.TableLogs.{lined, textOf, plain, case12, case12Written, emptyLog, threeBad}
 
 -- A call with slices that suffice for case 12: five verdicts, and five times 24 bytes.
 abbrev fed : Text → LinkCall
@@ -48,9 +48,11 @@ cut n verdicts =
     case (links 0 (fed (take n case12) ∷ fed (drop n case12) ∷ closed ∷ [])) (on verdicts ++ on 5 ++ judged12)
 
 unfoldable pub cutCases : List Case
-unfolding case12 byteByByte quietly
+unfolding case12 case12Written byteByByte quietly
 cutCases =
     case (links 0 (fed case12 ∷ closed ∷ [])) (on 5 ++ judged12)
+    -- what is written back of it, where the last byte of a line decides
+    ∷ case (links 0 (fed case12Written ∷ closed ∷ [])) (on 5 ++ judged12)
     -- in front of all bytes, behind one, around the first CR LF
     ∷ cut 0 0
     ∷ cut 1 0
@@ -98,7 +100,7 @@ unclosed s number line verdicts =
     case (links 0 (fed s ∷ closed ∷ [])) (on (length verdicts) ++ noClosing number line 0 verdicts)
 
 unfoldable pub linkRefusedCases : List Case
-unfolding case12 textOf lined plain threeBad
+unfolding case12 textOf lined plain emptyLog threeBad
 linkRefusedCases =
     -- 2: a byte that no line has
     then (bytes "[REG") (1 ∷ []) (no 2 1 0 0)
@@ -106,6 +108,10 @@ linkRefusedCases =
     ∷ then header (31 ∷ []) (no 2 39 0 0)
     ∷ then header (32 ∷ 127 ∷ []) (on 0)
     ∷ then header (128 ∷ []) (no 2 39 0 0)
+    ∷ then header (0 ∷ []) (no 2 39 0 0)
+    ∷ then header (9 ∷ []) (no 2 39 0 0)
+    ∷ then header (255 ∷ []) (no 2 39 0 0)
+    ∷ then (header ++ lined (replicate 300 [])) (1 ∷ []) (no 2 339 0 0)
     ∷ then (header ++ bytes "x") (10 ∷ []) (no 2 39 0 0)
     -- 2: the 76th character
     ∷ then (header ++ replicate 75 65) (13 ∷ 10 ∷ []) (on 0)
@@ -114,6 +120,7 @@ linkRefusedCases =
     -- 2: a CR with no LF behind it
     ∷ then (header ++ bytes "x\r") (bytes "x") (no 2 39 0 0)
     ∷ then (header ++ bytes "x\r") (13 ∷ []) (no 2 39 0 0)
+    ∷ then (header ++ bytes "x\r") (32 ∷ 10 ∷ []) (no 2 39 0 0)
     ∷ then (header ++ bytes "\r") (10 ∷ []) (on 0)
     -- 3 comes at the line's LF, and not before: 2 may come instead
     ∷ then (bytes "[REG1TEST;2]") (13 ∷ []) (on 0)
@@ -132,6 +139,8 @@ linkRefusedCases =
     ∷ case (links 0 (fed (case12 ++ bytes "x") ∷ closed ∷ [])) (no 6 45 0 5 ++ noClosing 6 45 0 (96 ∷ 64 ∷ 3 ∷ 2 ∷ 1 ∷ []))
     ∷ case (links 0 (fed case12 ∷ fed (1 ∷ []) ∷ [])) (on 5 ++ no 6 45 0 5)
     ∷ case (links 0 (fed case12 ∷ fed (13 ∷ []) ∷ fed (10 ∷ []) ∷ [])) (on 5 ++ no 6 45 0 5 ++ no 6 45 0 5)
+    ∷ then emptyLog (0 ∷ []) (no 6 40 0 0)
+    ∷ then emptyLog (26 ∷ []) (no 6 40 0 0)
     ∷ unclosed (take 458 case12) 6 40 []
     ∷ unclosed (take 511 case12) 6 41 (96 ∷ [])
     -- 2 at the end: nothing came, a line is not finished, or a CR stands alone
@@ -145,7 +154,12 @@ linkRefusedCases =
     ∷ unclosed (take 687 case12) 2 44 (96 ∷ 64 ∷ 3 ∷ 2 ∷ [])
     -- 1: the 65,536th byte, whatever it is; what the 65,535th settles stays
     ∷ case (links 65534 (fed (bytes "[") ∷ fed (bytes "R") ∷ closed ∷ [])) (on 0 ++ no 1 0 0 0 ++ noClosing 1 0 0 [])
+    ∷ case (links 65533 (fed (bytes "[R") ∷ fed (bytes "E") ∷ [])) (on 0 ++ no 1 0 0 0)
     ∷ case (links 65535 (fed [] ∷ fed (1 ∷ []) ∷ [])) (on 0 ++ no 1 0 0 0)
+    ∷ case (links 65520 (fed (take 15 case12) ∷ fed (take 1 (drop 15 case12)) ∷ [])) (on 0 ++ no 1 0 0 0)
+    ∷ case (links 65522 (fed (bytes "[REG1TEST;2]\r") ∷ fed (10 ∷ []) ∷ [])) (on 0 ++ no 1 0 0 0)
+    ∷ case (links 64847 (fed case12 ∷ closed ∷ [])) (on 5 ++ judged12)
+    ∷ case (links 64847 (fed case12 ∷ fed (bytes "x") ∷ closed ∷ [])) (on 5 ++ no 1 0 0 5 ++ noClosing 1 0 0 (96 ∷ 64 ∷ 3 ∷ 2 ∷ 1 ∷ []))
     ∷ case (links 65534 (fed (1 ∷ 1 ∷ []) ∷ [])) (no 2 1 0 0)
     ∷ case (links 65535 (closed ∷ [])) (noClosing 2 1 0 [])
     ∷ []
@@ -158,6 +172,9 @@ linkLentCases =
     -- 7 at the count line, for each of the two slices; in front of it they may have any length
     case (links 0 (feeds 4 120 case12 ∷ closes 5 120 ∷ [])) (no 7 0 0 0 ++ noClosing 7 0 0 [])
     ∷ case (links 0 (feeds 5 119 case12 ∷ fed [] ∷ [])) (no 7 0 0 0 ++ no 7 0 0 0)
+    ∷ case (links 0 (feeds 5 96 case12 ∷ [])) (no 7 0 0 0)
+    ∷ case (links 0 (feeds 4 999 case12 ∷ [])) (no 7 0 0 0)
+    ∷ case (links 0 (feeds 999 119 case12 ∷ [])) (no 7 0 0 0)
     ∷ case (links 0 (feeds 0 0 (take 457 case12) ∷ feeds 4 120 (10 ∷ []) ∷ [])) (on 0 ++ no 7 0 0 0)
     ∷ case (links 0 (feeds 0 0 (take 457 case12) ∷ fed (drop 457 case12) ∷ closed ∷ [])) (on 0 ++ on 5 ++ judged12)
     -- it comes before a record is looked at, but behind what is wrong in front of the count line
@@ -167,6 +184,11 @@ linkLentCases =
     -- 7 in a later call, before any byte is taken
     ∷ case (links 0 (fed (take 511 case12) ∷ feeds 4 120 (1 ∷ []) ∷ closed ∷ [])) (on 1 ++ no 7 0 0 1 ++ noClosing 7 0 0 (96 ∷ []))
     ∷ case (links 0 (fed (take 511 case12) ∷ feeds 5 119 [] ∷ [])) (on 1 ++ no 7 0 0 1)
+    ∷ case (links 0 (fed (take 520 case12) ∷ feeds 4 120 [] ∷ [])) (on 1 ++ no 7 0 0 1)
+    ∷ case (links 0 (fed (take 458 case12) ∷ feeds 0 0 (drop 458 case12) ∷ [])) (on 0 ++ no 7 0 0 0)
+    -- at the closing too, whatever is missing there
+    ∷ case (links 0 (fed (take 511 case12) ∷ closes 4 120 ∷ [])) (on 1 ++ noClosing 7 0 0 (96 ∷ []))
+    ∷ case (links 0 (fed (take 512 case12) ∷ closes 5 119 ∷ [])) (on 1 ++ noClosing 7 0 0 (96 ∷ []))
     ∷ case (links 0 (fed case12 ∷ closes 4 120 ∷ [])) (on 5 ++ noClosing 7 0 0 (96 ∷ 64 ∷ 3 ∷ 2 ∷ 1 ∷ []))
     ∷ case (links 0 (fed case12 ∷ closes 5 119 ∷ [])) (on 5 ++ noClosing 7 0 0 (96 ∷ 64 ∷ 3 ∷ 2 ∷ 1 ∷ []))
     ∷ case (links 65535 (feeds 0 0 (1 ∷ []) ∷ [])) (no 1 0 0 0)
@@ -174,6 +196,7 @@ linkLentCases =
     ∷ case (links 0 (feeds 0 0 emptyLog ∷ closes 0 0 ∷ [])) (on 0 ++ 0 ∷ 0 ∷ 0 ∷ 0 ∷ [])
     -- slices may be longer
     ∷ case (links 0 (feeds 999 23976 case12 ∷ closes 6 121 ∷ [])) (on 5 ++ judged12)
+    ∷ case (links 0 (feeds 999 120 case12 ∷ closes 5 999 ∷ [])) (on 5 ++ judged12)
     -- a refusal is repeated, whatever comes and whatever is lent
     ∷ case (links 0 (fed (1 ∷ []) ∷ fed case12 ∷ feeds 0 0 [] ∷ closes 0 0 ∷ closed ∷ []))
     (no 2 1 0 0 ++ no 2 1 0 0 ++ no 2 1 0 0 ++ noClosing 2 1 0 [] ++ noClosing 2 1 0 [])
