@@ -1,5 +1,4 @@
--- What W7 asks of the link, sentence by sentence, as statements over the definitions. They are proved elsewhere; here one reads what is claimed. That
--- what a caller lends in numbers and bytes is such a state is stated in `link/specs`.
+-- What W7 asks of the link, sentence by sentence, as statements over the definitions. They are proved elsewhere; here one reads what is claimed.
 -- Assumes nothing.
 use Prim.Native.Nat.{ℕ, _≤_, _<_}
 use mathlib.Core.Path.{_≡_}
