@@ -48,11 +48,12 @@ cut n verdicts =
     case (links 0 (fed (take n case12) ∷ fed (drop n case12) ∷ closed ∷ [])) (on verdicts ++ on 5 ++ judged12)
 
 unfoldable pub cutCases : List Case
-unfolding case12 case12Written byteByByte quietly
+unfolding case12 case12Written textOf plain byteByByte quietly
 cutCases =
     case (links 0 (fed case12 ∷ closed ∷ [])) (on 5 ++ judged12)
-    -- what is written back of it, where the last byte of a line decides
+    -- what is written back of it, where the last byte of a line decides; an ERROR record with no date, where the first does
     ∷ case (links 0 (fed case12Written ∷ closed ∷ [])) (on 5 ++ judged12)
+    ∷ case (links 0 (fed (textOf plain ("[QSORecords;1]" ∷ ";1410;ERROR;;;003;;;;;0;;;;" ∷ [])) ∷ closed ∷ [])) (on 1 ++ 0 ∷ 0 ∷ 0 ∷ 0 ∷ 3 ∷ [])
     -- in front of all bytes, behind one, around the first CR LF
     ∷ cut 0 0
     ∷ cut 1 0
@@ -155,6 +156,7 @@ linkRefusedCases =
     -- 1: the 65,536th byte, whatever it is; what the 65,535th settles stays
     ∷ case (links 65534 (fed (bytes "[") ∷ fed (bytes "R") ∷ closed ∷ [])) (on 0 ++ no 1 0 0 0 ++ noClosing 1 0 0 [])
     ∷ case (links 65533 (fed (bytes "[R") ∷ fed (bytes "E") ∷ [])) (on 0 ++ no 1 0 0 0)
+    ∷ case (links 65533 (fed [] ∷ fed (bytes "[") ∷ fed (bytes "R") ∷ fed (bytes "E") ∷ [])) (on 0 ++ on 0 ++ on 0 ++ no 1 0 0 0)
     ∷ case (links 65535 (fed [] ∷ fed (1 ∷ []) ∷ [])) (on 0 ++ no 1 0 0 0)
     ∷ case (links 65520 (fed (take 15 case12) ∷ fed (take 1 (drop 15 case12)) ∷ [])) (on 0 ++ no 1 0 0 0)
     ∷ case (links 65522 (fed (bytes "[REG1TEST;2]\r") ∷ fed (10 ∷ []) ∷ [])) (on 0 ++ no 1 0 0 0)
