@@ -19,54 +19,41 @@ use Rattle.rules.specs.Fields.{Qso}
 use Rattle.rules.specs.Log.{recordRules}
 use Rattle.rules.specs.Judging.{classNumber, is, countOf, creditedSum, creditedPoints, multipliers, totalsOf, zeroTotals}
 use Rattle.places.specs.declared.Declared.{Declared}
-use Rattle.judge.specs.Bounds.{mostWorth, Counts, Countable, Closable}
+use Rattle.judge.specs.Bounds.{mostWorth, Counts, Addable, Countable, Closable}
 use Rattle.judge.specs.declared.Tally.{Tally}
-use Rattle.judge.specs.Count.{worthIf, asDeclared, modeOf, addMode, modesAfter, tallied, addRecord, addRecords, closing}
+use Rattle.judge.specs.Count.{worthIf, asDeclared, modeOf, addMode, modesAfter, addRecord, addRecords, closing}
 use Rattle.judge.proofs.ModeLaws.{modes-counted}
 
 -- # What the limits of document 01 come to
 
--- What a record is worth fits 20 bits.
-pub worth-small : {w : ℕ} → w ≤ mostWorth base → w < 1_048_576
+-- So no number runs over with one record more.
+pub countable-addable : {t : Tally} {modes : List ℕ} {worth mode : ℕ} {v : Verdict} → Countable base t modes worth mode v → Addable t modes worth mode v
 unfolding base
-worth-small h = omega arith
-
--- The counts of all records fit 10 bits, and their points 30.
-pub record Sums-small (t : Totals) : Type 0 where
-  pub credited : t .credited < 1_024
-  pub voids : t .voids < 1_024
-  pub duplicates : t .duplicates < 1_024
-  pub errors : t .errors < 1_024
-  pub points : t .points < 1_073_741_824
-  pub squares : t .squares < 1_024
-  pub exchanges : t .exchanges < 1_024
-  pub countries : t .countries < 1_024
-
-pub sums-small : {n : ℕ} (t : Totals) → Counts base n t → n ≤ base .mostRecords → Sums-small t
-unfolding base
-sums-small {n} t h k =
-    let p = h .points in
+countable-addable h =
+    let few = h .few in
+    let room = h .room in
+    let small = h .small in
+    let points = few .points in
     record {
-      credited = omega (arith, h .credited);
-      voids = omega (arith, h .voids);
-      duplicates = omega (arith, h .duplicates);
-      errors = omega (arith, h .errors);
+      credited = omega (arith, few .credited);
+      voids = omega (arith, few .voids);
+      duplicates = omega (arith, few .duplicates);
+      errors = omega (arith, few .errors);
+      squares = omega (arith, few .squares);
+      exchanges = omega (arith, few .exchanges);
+      countries = omega (arith, few .countries);
       points = omega arith;
-      squares = omega (arith, h .squares);
-      exchanges = omega (arith, h .exchanges);
-      countries = omega (arith, h .countries);
+      long = h .long;
+      modesSmall = λ k. omega (arith, h .fewModes k);
+      worthSmall = omega arith;
+      place = h .place;
+      exchange = h .exchange;
+      square = h .square;
+      country = h .country;
     }
 
-pub countable-small : {t : Tally} {modes : List ℕ} {worth mode : ℕ} {v : Verdict} → Countable base t modes worth mode v → Sums-small (tallied t modes)
-countable-small {t} {modes} h = sums-small (tallied t modes) (h .few) (omega (arith, h .room))
-
--- A count of a mode fits 10 bits too.
-pub mode-small : {t : Tally} {modes : List ℕ} {worth mode : ℕ} {v : Verdict} → Countable base t modes worth mode v → getD modes mode 0 < 1_024
-unfolding base
-mode-small {mode = mode} h = omega (arith, h .fewModes mode, h .room)
-
 -- The mode of a credited record is one of the eleven.
-pub mode-placed : {R : Rules} {t : Tally} {modes : List ℕ} {worth mode : ℕ} {v : Verdict} → Countable R t modes worth mode v → v .class ≡ Credited → mode < 11
+pub mode-placed : {t : Tally} {modes : List ℕ} {worth mode : ℕ} {v : Verdict} → Addable t modes worth mode v → v .class ≡ Credited → mode < 11
 unfolding is classNumber
 mode-placed h e = h .place (ap (is Credited) e)
 

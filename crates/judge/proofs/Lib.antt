@@ -3,6 +3,7 @@ pub mod SaidLaws
 pub mod ModeLaws
 pub mod CountLaws
 pub mod SumLaws
+pub mod NarrowLaws
 pub mod PartLaws
 pub mod SquareLaws
 pub mod ToldLaws

@@ -85,6 +85,10 @@ pub record Sound (R : Rules) (s : Sums) : Type 0 where
   pub modesAll : modesTogether (s .modes) ≡ (s .tally) .credited
   pub repeats : (eqb ((s .tally) .duplicates) 0 || leb 1 ((s .tally) .credited)) ≡ true
 
+-- What is not credited bears no mark.
+pub unmarked : (class : Class) (x : Bool) → is Credited class ≡ false → (is Credited class && x) ≡ false
+unmarked class x e = rw e
+
 module _ (R : Rules) (s : Sums) where
   abbrev t : Tally
   t = s .tally
@@ -155,9 +159,6 @@ module _ (R : Rules) (s : Sums) where
   sound-closable h d small = record { few = counts-fewer R (recordsCounted t) (R .mostRecords) (summed s) (h .few) (sound-counts h); small = small }
 
   -- One record more can be counted by them.
-  unmarked : (class : Class) (x : Bool) → is Credited class ≡ false → (is Credited class && x) ≡ false
-  unmarked class x e = rw e
-
   pub more-countable : (worth mode number : ℕ) → countsMore R s worth ≡ true → Countable R t (modeNumbers (s .modes)) worth (modePlace mode) (verdictIn number)
   unfolding countsMore verdictIn verdictBy modeNumbers
   more-countable worth mode number e =

@@ -29,6 +29,24 @@ pub record Counts (R : Rules) (n : ℕ) (t : Totals) : Type 0 where
   pub exchanges : t .exchanges ≤ n
   pub countries : t .countries ≤ n
 
+-- One more record may be added to these sums: no number runs over, its mode is one of the eleven, and it bears no mark unless it is credited.
+pub record Addable (t : Tally) (modes : List ℕ) (worth mode : ℕ) (v : Verdict) : Type 0 where
+  pub credited : t .credited < 4_294_967_296
+  pub voids : t .voids < 4_294_967_296
+  pub duplicates : t .duplicates < 4_294_967_296
+  pub errors : t .errors < 4_294_967_296
+  pub squares : t .squares < 4_294_967_296
+  pub exchanges : t .exchanges < 4_294_967_296
+  pub countries : t .countries < 4_294_967_296
+  pub points : t .points < 4_611_686_018_427_387_904
+  pub long : length modes ≡ 11
+  pub modesSmall : (k : ℕ) → getD modes k 0 < 4_294_967_296
+  pub worthSmall : worth < 4_294_967_296
+  pub place : is Credited (v .class) ≡ true → mode < 11
+  pub exchange : is Credited (v .class) ≡ false → v .exchange ≡ false
+  pub square : is Credited (v .class) ≡ false → v .square ≡ false
+  pub country : is Credited (v .class) ≡ false → v .country ≡ false
+
 -- One more record may be added: there are fewer yet than there may be, by each mode too, it is worth no more than it may be, its mode is one of the
 -- eleven, and it bears no mark unless it is credited.
 pub record Countable (R : Rules) (t : Tally) (modes : List ℕ) (worth mode : ℕ) (v : Verdict) : Type 0 where

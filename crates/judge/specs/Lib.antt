@@ -8,3 +8,4 @@ pub mod Memory
 pub mod Step
 pub mod Judge
 pub mod Weigh
+pub mod Narrow

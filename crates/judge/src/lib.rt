@@ -3,6 +3,7 @@
 
 ghost use Prim.Native.Nat.{_+_, _-_, _*_, _/_, _%_, _<_, _≤_};
 ghost use mathlib.Core.Bool.{true};
+ghost use mathlib.Core.List.{[], _∷_};
 ghost use mathlib.Core.Path.{_≡_};
 ghost use lib.Dec.{eqb, leb};
 ghost use lib.ListN.{drop, getD, length, replicate, set, take};
@@ -15,11 +16,12 @@ ghost use Rattle.rules.specs.Text.{numberOf, same};
 ghost use Rattle.fields.specs.Field.{textAt, endOf};
 ghost use Rattle.reader.specs.Contact.{between, claimedAt, fieldStart, valueBy};
 ghost use Rattle.reader.specs.Noted.{contactsRead, listed};
-ghost use Rattle.judge.specs.Bounds.{Closable, Countable};
+ghost use Rattle.judge.specs.Bounds.{Addable, Closable};
 ghost use Rattle.judge.specs.Count.{addRecord, asDeclared, closing, modePlace, modesAfter, modesIn, noTally, tallied, worthIf};
 ghost use Rattle.judge.specs.Judge.{judgedOf, verdictsAfterwards, weighedOf};
 ghost use Rattle.judge.specs.Parts.{Ahead, First, Keyed, Lying, keyOf, keptTexts, numberOfSquare, partBy, seek, squareThere};
 ghost use Rattle.judge.specs.Said.{classBy, verdictBy};
+ghost use Rattle.judge.specs.Narrow.{SmallModes, SmallTally, countedMore, countsOf, modesOf, noCounts, sumsIn, tallyIn};
 ghost use Rattle.judge.specs.Sums.{classIn, countsMore, moreSums, noSums, recordsCounted, soundSums, totalsKept, verdictIn};
 ghost use Rattle.judge.specs.Weigh.{Accepts, Listings, Weighable, Weighs};
 ghost use Rattle.judge.specs.Step.{Classed, CreditReady, Credits, NewPart, NewSquare, Ready, Steps, classNoted};
@@ -468,7 +470,7 @@ pub struct Tally {
 
 // The sums after one more credited record; its mode is counted.
 fn credited_more(t: Tally, modes: &mut [u64; MODES], worth: u64, mode: usize, v: Verdict) -> Tally
-    requires { ⌜ Countable base t (now modes) worth mode v × (v .class ≡ Class.Credited) ⌝ }
+    requires { ⌜ Addable t (now modes) worth mode v × (v .class ≡ Class.Credited) ⌝ }
     ensures totals { λ r. ⌜ tallied r (now (modes .exit)) ≡ addRecord (tallied t (now (modes .entry))) worth mode v ⌝ }
     ensures list { λ r. ⌜ now (modes .exit) ≡ modesAfter (now (modes .entry)) mode v ⌝ }
 {
@@ -484,7 +486,7 @@ fn credited_more(t: Tally, modes: &mut [u64; MODES], worth: u64, mode: usize, v:
 
 // What the records come to after one more: what it is worth, its mode, and what is said of it. The bonuses and the total wait for the last record.
 fn add_record(t: Tally, modes: &mut [u64; MODES], worth: u64, mode: usize, v: Verdict) -> Tally
-    requires { ⌜ Countable base t (now modes) worth mode v ⌝ }
+    requires { ⌜ Addable t (now modes) worth mode v ⌝ }
     ensures totals { λ r. ⌜ tallied r (now (modes .exit)) ≡ addRecord (tallied t (now (modes .entry))) worth mode v ⌝ }
     ensures list { λ r. ⌜ now (modes .exit) ≡ modesAfter (now (modes .entry)) mode v ⌝ }
 {
@@ -818,6 +820,205 @@ pub fn totals_kept(s: Sums, d: Declared) -> Totals
     }
     let list = mode_numbers(s.modes);
     closed(s.tally, &list, d)
+}
+
+// # Sums in few bytes
+
+// How many records of each class there are, what is new with them, and their modes, in two bytes each. A caller who has no more room keeps these, and
+// the points in four.
+#[repr(C)]
+pub struct Counts {
+    pub credited: u16,
+    pub voids: u16,
+    pub duplicates: u16,
+    pub errors: u16,
+    pub squares: u16,
+    pub exchanges: u16,
+    pub countries: u16,
+    pub code0: u16,
+    pub code1: u16,
+    pub code2: u16,
+    pub code3: u16,
+    pub code4: u16,
+    pub code5: u16,
+    pub code6: u16,
+    pub code7: u16,
+    pub code8: u16,
+    pub code9: u16,
+    pub blank: u16,
+}
+
+pub struct Counted {
+    pub points: u32,
+    pub counts: Counts,
+}
+
+pub fn no_counts() -> Counts
+    ensures { λ r. ⌜ r ≡ noCounts ⌝ }
+{
+    Counts {
+        credited: 0,
+        voids: 0,
+        duplicates: 0,
+        errors: 0,
+        squares: 0,
+        exchanges: 0,
+        countries: 0,
+        code0: 0,
+        code1: 0,
+        code2: 0,
+        code3: 0,
+        code4: 0,
+        code5: 0,
+        code6: 0,
+        code7: 0,
+        code8: 0,
+        code9: 0,
+        blank: 0,
+    }
+}
+
+// The counts in the judge's own numbers, and the modes in their list.
+fn tally_from(
+    credited: u16,
+    voids: u16,
+    duplicates: u16,
+    errors: u16,
+    points: u32,
+    squares: u16,
+    exchanges: u16,
+    countries: u16,
+) -> Tally
+    ensures { λ r. ⌜ (r ≡ record { credited = credited; voids = voids; duplicates = duplicates; errors = errors; points = points; squares = squares; exchanges = exchanges; countries = countries }) × SmallTally r ⌝ }
+{
+    Tally {
+        credited: credited as u64,
+        voids: voids as u64,
+        duplicates: duplicates as u64,
+        errors: errors as u64,
+        points: points as u64,
+        squares: squares as u64,
+        exchanges: exchanges as u64,
+        countries: countries as u64,
+    }
+}
+
+fn tally_of(points: u32, c: Counts) -> Tally
+    ensures { λ r. ⌜ (r ≡ tallyIn points c) × SmallTally r ⌝ }
+{
+    tally_from(
+        c.credited,
+        c.voids,
+        c.duplicates,
+        c.errors,
+        points,
+        c.squares,
+        c.exchanges,
+        c.countries,
+    )
+}
+
+fn list_of(
+    a: u16,
+    b: u16,
+    c: u16,
+    d: u16,
+    e: u16,
+    f: u16,
+    g: u16,
+    h: u16,
+    i: u16,
+    j: u16,
+    k: u16,
+) -> [u64; MODES]
+    ensures { λ r. ⌜ (r ≡ a ∷ b ∷ c ∷ d ∷ e ∷ f ∷ g ∷ h ∷ i ∷ j ∷ k ∷ []) × SmallModes r ⌝ }
+{
+    [
+        a as u64,
+        b as u64,
+        c as u64,
+        d as u64,
+        e as u64,
+        f as u64,
+        g as u64,
+        h as u64,
+        i as u64,
+        j as u64,
+        k as u64,
+    ]
+}
+
+fn modes_of(c: Counts) -> [u64; MODES]
+    ensures { λ r. ⌜ (r ≡ modesOf c) × SmallModes r ⌝ }
+{
+    list_of(
+        c.code0,
+        c.code1,
+        c.code2,
+        c.code3,
+        c.code4,
+        c.code5,
+        c.code6,
+        c.code7,
+        c.code8,
+        c.code9,
+        c.blank,
+    )
+}
+
+// The last two bytes of each count.
+fn counts_of(t: Tally, m: &[u64; MODES]) -> Counts
+    ensures { λ r. ⌜ r ≡ countsOf (tallied t (now (m .entry))) ⌝ }
+{
+    Counts {
+        credited: (t.credited % 65536) as u16,
+        voids: (t.voids % 65536) as u16,
+        duplicates: (t.duplicates % 65536) as u16,
+        errors: (t.errors % 65536) as u16,
+        squares: (t.squares % 65536) as u16,
+        exchanges: (t.exchanges % 65536) as u16,
+        countries: (t.countries % 65536) as u16,
+        code0: (m[0] % 65536) as u16,
+        code1: (m[1] % 65536) as u16,
+        code2: (m[2] % 65536) as u16,
+        code3: (m[3] % 65536) as u16,
+        code4: (m[4] % 65536) as u16,
+        code5: (m[5] % 65536) as u16,
+        code6: (m[6] % 65536) as u16,
+        code7: (m[7] % 65536) as u16,
+        code8: (m[8] % 65536) as u16,
+        code9: (m[9] % 65536) as u16,
+        blank: (m[10] % 65536) as u16,
+    }
+}
+
+pub fn sums_of(points: u32, c: Counts) -> Sums
+    ensures { λ r. ⌜ r ≡ sumsIn points c ⌝ }
+{
+    let list = modes_of(c);
+    Sums {
+        tally: tally_of(points, c),
+        modes: modes_in(&list),
+    }
+}
+
+// The counts after one record more: what it is worth, the first character of its mode, and the number of its verdict. A count that runs over begins
+// again at zero, which no log has records enough for.
+pub fn counted_more(points: u32, c: Counts, worth: u32, mode: u8, number: u8) -> Counted
+    ensures { λ r. ⌜ r ≡ countedMore points c worth mode number ⌝ }
+{
+    let mut list = modes_of(c);
+    let tally = add_record(
+        tally_of(points, c),
+        &mut list,
+        worth as u64,
+        mode_place(mode),
+        verdict_in(number),
+    );
+    Counted {
+        points: (tally.points % 4294967296) as u32,
+        counts: counts_of(tally, &list),
+    }
 }
 
 // # All the records

@@ -4,6 +4,7 @@ ghost use mathlib.Core.Path.{_≡_};
 ghost use Rattle.rules.specs.Rules.{base};
 
 // Why a log is refused, where, and in which field; number 0 says that nothing is refused.
+#[repr(C)]
 pub struct Refusal {
     pub number: u32,
     pub line: u32,

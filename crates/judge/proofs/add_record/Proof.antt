@@ -5,7 +5,7 @@ use borrow.Author.Needs.{needs}
 use denote.Ref.{now}
 use Rattle.rules.specs.Judging.{classNumber, is}
 use Rattle.judge.specs.Count.{tallied}
-use Rattle.judge.proofs.CountLaws.{countable-small, void-sums, duplicate-sums, error-sums, other-list}
+use Rattle.judge.proofs.CountLaws.{void-sums, duplicate-sums, error-sums, other-list}
 use Rattle.judge.proofs.add_record.Statement.{statement}
 use Rattle.judge.proofs.add_record.Tie as tie
 
@@ -19,19 +19,19 @@ enum-told-2 : tie.Need-enum-told-2
 enum-told-2 c = search needs
 
 add-sums : tie.Need-add-sums
-add-sums c = omega (arith, countable-small (c .before .before .before .pre))
+add-sums c = omega (arith, c .before .before .before .pre .voids)
 
 enum-told-3 : tie.Need-enum-told-3
 enum-told-3 c = search needs
 
 add-sums-2 : tie.Need-add-sums-2
-add-sums-2 c = omega (arith, countable-small (c .before .before .before .pre))
+add-sums-2 c = omega (arith, c .before .before .before .pre .duplicates)
 
 enum-told-4 : tie.Need-enum-told-4
 enum-told-4 c = search needs
 
 add-sums-3 : tie.Need-add-sums-3
-add-sums-3 c = omega (arith, countable-small (c .before .before .before .pre))
+add-sums-3 c = omega (arith, c .before .before .before .pre .errors)
 
 returns : tie.Need-returns
 returns c = search needs

@@ -3,7 +3,7 @@ use native.Mathlib.Omega.{arith}
 use denote.Ref.{now}
 use borrow.Author.Needs.{needs}
 use Rattle.judge.specs.Count.{tallied}
-use Rattle.judge.proofs.CountLaws.{countable-small, mode-small, mode-placed, worth-small, worth-most, credited-sums, credited-list}
+use Rattle.judge.proofs.CountLaws.{mode-placed, worth-most, credited-sums, credited-list}
 use Rattle.judge.proofs.ModeLaws.{one-counted}
 use Rattle.judge.proofs.credited_more.Statement.{statement}
 use Rattle.judge.proofs.credited_more.Tie as tie
@@ -22,7 +22,7 @@ element-copy-out-modes : tie.Need-element-copy-out-modes
 element-copy-out-modes c = mode-placed (c .pre .0) (c .pre .1)
 
 add-modes : tie.Need-add-modes
-add-modes c = omega (arith, mode-small (c .before .pre .0))
+add-modes c = let start = c .before in omega (arith, start .pre .0 .modesSmall (start .args .mode))
 
 mul-modes-2 : tie.Need-mul-modes-2
 mul-modes-2 c = omega (arith, mode-placed (c .before .pre .0) (c .before .pre .1))
@@ -31,28 +31,28 @@ element-write-modes : tie.Need-element-write-modes
 element-write-modes c = mode-placed (c .before .pre .0) (c .before .pre .1)
 
 add-sums : tie.Need-add-sums
-add-sums c = omega (arith, countable-small (placed c .pre .0))
+add-sums c = omega (arith, placed c .pre .0 .credited)
 
 add-sums-2 : tie.Need-add-sums-2
-add-sums-2 c = let start = placed (c .before) in omega (arith, countable-small (start .pre .0), worth-small (start .pre .0 .small))
+add-sums-2 c = let start = placed (c .before) in omega (arith, start .pre .0 .points, start .pre .0 .worthSmall)
 
 one-if-requires : tie.Need-one-if-requires
 one-if-requires c κs = search needs
 
 add-sums-3 : tie.Need-add-sums-3
-add-sums-3 c = let start = squared c in omega (arith, countable-small (start .pre .0), c .before .one-if .ensures, worth-most (start .args .v .square) 1)
+add-sums-3 c = let start = squared c in omega (arith, start .pre .0 .squares, c .before .one-if .ensures, worth-most (start .args .v .square) 1)
 
 one-if-requires-2 : tie.Need-one-if-requires-2
 one-if-requires-2 c κs = search needs
 
 add-sums-4 : tie.Need-add-sums-4
-add-sums-4 c = let start = squared (c .before .before) in omega (arith, countable-small (start .pre .0), c .before .one-if2 .ensures, worth-most (start .args .v .exchange) 1)
+add-sums-4 c = let start = squared (c .before .before) in omega (arith, start .pre .0 .exchanges, c .before .one-if2 .ensures, worth-most (start .args .v .exchange) 1)
 
 one-if-requires-3 : tie.Need-one-if-requires-3
 one-if-requires-3 c κs = search needs
 
 add-sums-5 : tie.Need-add-sums-5
-add-sums-5 c = let start = squared (c .before .before .before .before) in omega (arith, countable-small (start .pre .0), c .before .one-if3 .ensures, worth-most (start .args .v .country) 1)
+add-sums-5 c = let start = squared (c .before .before .before .before) in omega (arith, start .pre .0 .countries, c .before .one-if3 .ensures, worth-most (start .args .v .country) 1)
 
 returns : tie.Need-returns
 returns c =

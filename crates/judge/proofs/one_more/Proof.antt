@@ -6,6 +6,7 @@ use borrow.Author.Tests.{not-true, not-false}
 use Rattle.rules.specs.Rules.{base}
 use Rattle.judge.specs.Count.{tallied, addRecord}
 use Rattle.judge.specs.Sums.{countsMore}
+use Rattle.judge.proofs.CountLaws.{countable-addable}
 use Rattle.judge.proofs.SumLaws.{more-countable, more-none, more-one}
 use Rattle.judge.proofs.one_more.Statement.{statement}
 use Rattle.judge.proofs.one_more.Tie as tie
@@ -39,7 +40,7 @@ add-record-requires : tie.Need-add-record-requires
 add-record-requires c κs =
     let a = start (countable c) .args in
     rw (c .before .before .before .mode-numbers .ensures, c .before .mode-place .ensures, c .verdict-in .ensures)
-    (more-countable base (a .s) (a .worth) (a .mode) (a .number) (counts (countable c)))
+    (countable-addable (more-countable base (a .s) (a .worth) (a .mode) (a .number) (counts (countable c))))
 
 modes-in-requires : tie.Need-modes-in-requires
 modes-in-requires c κs = search needs

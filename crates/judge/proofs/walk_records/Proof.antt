@@ -5,6 +5,7 @@ use mathlib.Core.Path.{_≡_, refl, sym, _∙_}
 use lib.ListN.{length}
 use borrow.Author.Needs.{needs}
 use Rattle.rules.specs.Rules.{base}
+use Rattle.judge.proofs.CountLaws.{countable-addable}
 use Rattle.judge.proofs.WalkLaws.{Walks, walks-begin, walks-end, ready, countable, walks-on}
 use Rattle.judge.proofs.walk_records.Statement.{statement}
 use Rattle.judge.proofs.walk_records.Tie as tie
@@ -118,7 +119,8 @@ add-record-requires c κs =
     let at = looped one in
     let two = four .before .before .before .before in
     let three = four .before .before in
-    countable (start at .pre .0) (at .loop .inv .0) (one .before .before .loop-test .taken) (one .wide .ensures .0) (two .wide2 .ensures .0) (three .wide3 .ensures .0) (four .wide4 .ensures .0) (step .judge-next .ensures)
+    countable-addable
+    (countable (start at .pre .0) (at .loop .inv .0) (one .before .before .loop-test .taken) (one .wide .ensures .0) (two .wide2 .ensures .0) (three .wide3 .ensures .0) (four .wide4 .ensures .0) (step .judge-next .ensures))
 
 verdict-number-requires : tie.Need-verdict-number-requires Inv-loop μ-loop
 verdict-number-requires c κs = search needs
