@@ -62,9 +62,9 @@ fn line_start(s: &[u8], i: usize) -> usize
 }
 
 // The bonus and the multiplier of one of the three arguments that have them.
-struct Rates {
-    bonus: u64,
-    multiplier: u64,
+pub struct Rates {
+    pub bonus: u64,
+    pub multiplier: u64,
 }
 
 fn bonus_at(line: &[u8], at: usize) -> u64
@@ -86,7 +86,7 @@ fn multiplier_at(line: &[u8], at: usize) -> u64
 }
 
 // The argument begins behind the six characters of its keyword and `=`; its first part, a count, is passed over.
-fn rates_of(line: &[u8]) -> Rates
+pub fn rates_of(line: &[u8]) -> Rates
     ensures bonus { λ r. ⌜ r .bonus ≡ valueBy (bonus base) (part 1 (drop 6 (now (line .entry)))) ⌝ }
     ensures multiplier { λ r. ⌜ r .multiplier ≡ valueBy (multiplier base) (part 2 (drop 6 (now (line .entry)))) ⌝ }
 {

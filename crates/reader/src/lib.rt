@@ -86,7 +86,7 @@ pub fn allowed_run(s: &[u8], at: usize) -> usize
 }
 
 // CR LF stand at this place.
-fn line_ends(s: &[u8], at: usize) -> bool
+pub fn line_ends(s: &[u8], at: usize) -> bool
     ensures { λ r. ⌜ r ≡ begins crlf (drop at (now (s .entry))) ⌝ }
 {
     if s.len() <= at {

@@ -172,6 +172,20 @@ fn next_like(kept: &[u8], width: usize, at: usize, from: usize, n: usize, four: 
     next_like_tail(kept, width, at, k, n, four)
 }
 
+// The same, by a search of its own for each of the two widths, so that the compiler knows there how far it is from one record to the next.
+fn next_at(kept: &[u8], width: usize, at: usize, from: usize, n: usize, four: u32) -> usize
+    requires { ⌜ (n * width ≤ length (now kept)) × (at + 3 < width) × (from ≤ n) ⌝ }
+    ensures { λ r. ⌜ r ≡ firstFrom (λ i. eqb (fourAt (now (kept .entry)) (i * width + at)) four) (n - from) from ⌝ }
+{
+    if width == KEPT_BYTES {
+        return next_like(kept, KEPT_BYTES, at, from, n, four);
+    }
+    if width == WORKED_BYTES {
+        return next_like(kept, WORKED_BYTES, at, from, n, four);
+    }
+    next_like_tail(kept, width, at, from, n, four)
+}
+
 // Where the last four of so many bytes begin; of fewer, all of them.
 fn last_four(long: usize) -> usize
     ensures { λ r. ⌜ r ≡ long - 4 ⌝ }
@@ -201,7 +215,7 @@ fn is_held(
     let four = four_at(whole, mark);
     let mut k = 0;
     let found = 'look: loop {
-        k = next_like(kept, width, mark, k, n, four);
+        k = next_at(kept, width, mark, k, n, four);
         if n <= k {
             break 'look n;
         }

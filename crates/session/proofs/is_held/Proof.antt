@@ -26,7 +26,7 @@ abbrev μ-look : tie.MeasureT-look
 abbrev start : tie.At-look Inv-look μ-look → tie.Start Inv-look μ-look
 start c = c .before .before .before .before .before
 
-abbrev begun : tie.After-next-like Inv-look μ-look → tie.Start Inv-look μ-look
+abbrev begun : tie.After-next-at Inv-look μ-look → tie.Start Inv-look μ-look
 begun c = start (c .before)
 
 -- The part that is looked for lies within the entry; the record of a number has it, or its four bytes.
@@ -40,40 +40,40 @@ abbrev alike : tie.Start Inv-look μ-look → ℕ → Bool
 alike c = like (now (c .args .kept)) (c .args .width) (c .args .mark) (fourAt (now (c .args .entry)) (c .args .mark))
 
 -- The next record that has the four bytes.
-next : (c : tie.After-next-like Inv-look μ-look) → c .next-like .result ≡ firstFrom (alike (begun c)) (begun c .args .n - c .before .look .k) (c .before .look .k)
+next : (c : tie.After-next-at Inv-look μ-look) → c .next-at .result ≡ firstFrom (alike (begun c)) (begun c .args .n - c .before .look .k) (c .before .look .k)
 next c =
     let a = begun c .args in
-    c .next-like .ensures
+    c .next-at .ensures
     ∙ ap (λ (four : ℕ). firstFrom (like (now (a .kept)) (a .width) (a .mark) four) (a .n - c .before .look .k) (c .before .look .k)) (c .before .before .four-at .ensures)
 
-onward : (c : tie.After-next-like Inv-look μ-look) → firstFrom (stands (begun c)) (begun c .args .n) 0 ≡ firstFrom (stands (begun c)) (begun c .args .n - c .next-like .result) (c .next-like .result)
+onward : (c : tie.After-next-at Inv-look μ-look) → firstFrom (stands (begun c)) (begun c .args .n) 0 ≡ firstFrom (stands (begun c)) (begun c .args .n - c .next-at .result) (c .next-at .result)
 onward c =
     let s = begun c in
     let a = s .args in
     c .before .look .inv .1
-    ∙ held-onward (now (a .kept)) (now (a .entry)) (a .width) (a .n) (a .at) (a .size) (room s) (a .mark) (c .before .look .k) (c .next-like .result) (s .pre .0 .3) (s .pre .0 .4) (c .before .look .inv .0) (next c)
+    ∙ held-onward (now (a .kept)) (now (a .entry)) (a .width) (a .n) (a .at) (a .size) (room s) (a .mark) (c .before .look .k) (c .next-at .result) (s .pre .0 .3) (s .pre .0 .4) (c .before .look .inv .0) (next c)
 
-compared : (c : tie.After-next-like Inv-look μ-look) →
+compared : (c : tie.After-next-at Inv-look μ-look) →
     let a = begun c .args in
-    let at = c .next-like .result * a .width + a .at in
-    same (take (at + a .size - at) (drop at (now (a .kept)))) (take (a .at + a .size - a .at) (drop (a .at) (now (a .entry)))) ≡ stands (begun c) (c .next-like .result)
+    let at = c .next-at .result * a .width + a .at in
+    same (take (at + a .size - at) (drop at (now (a .kept)))) (take (a .at + a .size - a .at) (drop (a .at) (now (a .entry)))) ≡ stands (begun c) (c .next-at .result)
 compared c =
     let a = begun c .args in
-    part-compared (now (a .kept)) (now (a .entry)) (a .width) (a .n) (a .at) (a .size) (room (begun c)) (c .next-like .result)
+    part-compared (now (a .kept)) (now (a .entry)) (a .width) (a .n) (a .at) (a .size) (room (begun c)) (c .next-at .result)
 
 -- It lies no further back, and not behind the records.
-forward : (c : tie.After-next-like Inv-look μ-look) → c .before .look .k ≤ c .next-like .result
+forward : (c : tie.After-next-at Inv-look μ-look) → c .before .look .k ≤ c .next-at .result
 forward c = omega (arith, next c, first-from (alike (begun c)) (begun c .args .n - c .before .look .k) (c .before .look .k))
 
-within : (c : tie.After-next-like Inv-look μ-look) → c .next-like .result ≤ begun c .args .n
+within : (c : tie.After-next-at Inv-look μ-look) → c .next-at .result ≤ begun c .args .n
 within c = omega (arith, next c, first-within (alike (begun c)) (begun c .args .n) (c .before .look .k) (c .before .look .inv .0))
 
 -- The part of the record that was found lies within what is kept.
-inside : (c : tie.Else1 Inv-look μ-look) → let a = begun (c .before) .args in c .before .next-like .result * a .width + (a .at + a .size) ≤ length (now (a .kept))
+inside : (c : tie.Else1 Inv-look μ-look) → let a = begun (c .before) .args in c .before .next-at .result * a .width + (a .at + a .size) ≤ length (now (a .kept))
 inside c =
     let s = begun (c .before) in
     let a = s .args in
-    part-inside (a .n) (c .before .next-like .result) (a .width) (a .at + a .size) (length (now (a .kept))) (s .pre .0 .0) (s .pre .0 .1) (c .if1 .left)
+    part-inside (a .n) (c .before .next-at .result) (a .width) (a .at + a .size) (length (now (a .kept))) (s .pre .0 .0) (s .pre .0 .1) (c .if1 .left)
 
 add-part : tie.Need-add-part Inv-look μ-look
 add-part c = search needs
@@ -96,8 +96,8 @@ look-holds c =
     let all : s .args .n ≡ s .args .n - 0 = omega arith in
     (omega arith, ap (λ (m : ℕ). firstFrom (stands s) m 0) all)
 
-next-like-requires : tie.Need-next-like-requires Inv-look μ-look
-next-like-requires c κs = let s = start c in (s .pre .0 .0, omega (arith, s .pre .0 .1, s .pre .0 .4), c .look .inv .0)
+next-at-requires : tie.Need-next-at-requires Inv-look μ-look
+next-at-requires c κs = let s = start c in (s .pre .0 .0, omega (arith, s .pre .0 .1, s .pre .0 .4), c .look .inv .0)
 
 mul-a : tie.Need-mul-a Inv-look μ-look
 mul-a c = search (needs, inside c)
@@ -134,7 +134,7 @@ look-again c =
     let s = begun after in
     let a = s .args in
     let unlike = sym (compared after) ∙ sym (c .before .same-text .ensures) ∙ c .if2 .left in
-    (omega (arith, c .before .before .before .if1 .left), onward after ∙ first-turn (stands s) (a .n) (after .next-like .result) (c .before .before .before .if1 .left) unlike)
+    (omega (arith, c .before .before .before .if1 .left), onward after ∙ first-turn (stands s) (a .n) (after .next-at .result) (c .before .before .before .if1 .left) unlike)
 
 returns : tie.Need-returns Inv-look μ-look
 returns c =
@@ -144,13 +144,13 @@ returns c =
     held-told (now (a .kept)) (now (a .entry)) (a .width) (a .n) (a .at) (a .size) (room s) (c .if1 .found)
     (⊎-elim
     (λ w.
-    let none : c .if1 .found ≡ after .next-like .result = omega (arith, w .1, w .0 .taken, within after) in
-    none ∙ sym (onward after ∙ first-over (stands s) (a .n) (after .next-like .result) (w .0 .taken)))
+    let none : c .if1 .found ≡ after .next-at .result = omega (arith, w .1, w .0 .taken, within after) in
+    none ∙ sym (onward after ∙ first-over (stands s) (a .n) (after .next-at .result) (w .0 .taken)))
     (λ w.
     w .4
     ∙ sym
     (onward after
-    ∙ first-found (stands s) (a .n) (after .next-like .result) (w .0 .left) (sym (compared after) ∙ sym (w .2 .ensures) ∙ w .3 .taken)))
+    ∙ first-found (stands s) (a .n) (after .next-at .result) (w .0 .left) (sym (compared after) ∙ sym (w .2 .ensures) ∙ w .3 .taken)))
     (c .if1 .came))
 
 pub is-held-spec : {M : Type 1} → statement M
@@ -165,7 +165,7 @@ is-held-spec =
     part-part-end
     four-at-requires
     look-holds
-    next-like-requires
+    next-at-requires
     mul-a
     add-a
     add-same-text
