@@ -1,0 +1,142 @@
+-- The tests of a piece, one after the other, as the code asks them.
+-- Assumes nothing.
+use Prim.Native.Nat.{ℕ, _+_, _-_, _≤_, _<_}
+use native.Mathlib.Omega.{arith}
+use mathlib.Core.Path.{_≡_, refl}
+use mathlib.Core.Bool.{true, false, cond, not, _&&_, and-true}
+use lib.Dec.{eqb, ltb}
+use lib.ListN.{length, drop, getD}
+use borrow.Author.Tests.{lt-ltb, le-ltb, le-leb, lt-leb, ltb-true, eq-eqb, ne-eqb, eqb-true, not-true}
+use Rattle.rules.specs.Text.{Text, allowed, span, begins}
+use Rattle.rules.specs.Rules.{Rules, base}
+use Rattle.rules.specs.Log.{conjunction, crlf}
+use Rattle.rules.proofs.Tests.{and-l, and-r}
+use Rattle.judge.specs.Bounds.{mostWorth}
+use Rattle.link.specs.declared.Link.{Link}
+use Rattle.link.specs.Link.{dueOf, isEnd}
+use Rattle.link.specs.Piece.{runEnd, isEnded, nextPlace, mayCome, takesByte}
+
+-- # The limits
+
+pub log-long : base .longestLog ≡ 65535
+unfolding base
+log-long = refl
+
+pub line-long : base .longestLine ≡ 75
+unfolding base
+line-long = refl
+
+pub worth-fits : (worth : ℕ) → worth ≤ mostWorth base → worth < 4_294_967_296
+unfolding base
+worth-fits worth h = omega (arith, h)
+
+-- # Places
+
+module _ (returned : ℕ) (s : Text) (at : ℕ) where
+  pub run-returned : (returned ≡ 0 → ⊥) → at ≡ runEnd returned s at
+  unfolding runEnd
+  run-returned n = rw (ne-eqb returned 0 n)
+
+  pub run-plain : returned ≡ 0 → at + span allowed (drop at s) ≡ runEnd returned s at
+  unfolding runEnd
+  run-plain e = rw (eq-eqb returned 0 e)
+
+pub place-returned : (returned end : ℕ) → (returned ≡ 0 → ⊥) → end + 1 ≡ nextPlace returned end
+unfolding nextPlace
+place-returned returned end n = rw (ne-eqb returned 0 n)
+
+pub place-plain : (returned end : ℕ) → returned ≡ 0 → end + 2 ≡ nextPlace returned end
+unfolding nextPlace
+place-plain returned end e = rw (eq-eqb returned 0 e)
+
+pub none-more : (end long : ℕ) → end ≡ long → _≡_ {A = ℕ} 0 (cond (eqb end long) 0 1)
+none-more end long e = rw (eq-eqb end long e)
+
+pub one-more : (end long : ℕ) → (end ≡ long → ⊥) → _≡_ {A = ℕ} 1 (cond (eqb end long) 0 1)
+one-more end long n = rw (ne-eqb end long n)
+
+-- # The end of a line
+
+module _ (R : Rules) (held returned : ℕ) (s : Text) (at end : ℕ) where
+  pub ended-returned : (returned ≡ 0 → ⊥) → eqb (getD s at 0) 10 ≡ isEnded R held returned s at end
+  unfolding isEnded
+  ended-returned n = rw (ne-eqb returned 0 n)
+
+  pub ended-long : returned ≡ 0 → R .longestLine < held + (end - at) → false ≡ isEnded R held returned s at end
+  unfolding isEnded
+  ended-long e h = rw (eq-eqb returned 0 e, lt-leb (held + (end - at)) (R .longestLine) h)
+
+  pub ended-plain : returned ≡ 0 → held + (end - at) ≤ R .longestLine → begins crlf (drop end s) ≡ isEnded R held returned s at end
+  unfolding isEnded
+  ended-plain e h = rw (eq-eqb returned 0 e, le-leb (held + (end - at)) (R .longestLine) h)
+
+-- # A part of a line
+
+module _ (R : Rules) (held : ℕ) (s : Text) (at end : ℕ) where
+  pub comes-long : R .longestLine < held + (end - at) → false ≡ mayCome R held s at end
+  unfolding mayCome
+  comes-long h = rw (lt-leb (held + (end - at)) (R .longestLine) h)
+
+  pub comes-whole : held + (end - at) ≤ R .longestLine → end ≡ length s → true ≡ mayCome R held s at end
+  unfolding mayCome
+  comes-whole h e = rw (le-leb (held + (end - at)) (R .longestLine) h, eq-eqb end (length s) e)
+
+  pub comes-stray : held + (end - at) ≤ R .longestLine → (end ≡ length s → ⊥) → (getD s end 0 ≡ 13 → ⊥) → false ≡ mayCome R held s at end
+  unfolding mayCome
+  comes-stray h n c = rw (le-leb (held + (end - at)) (R .longestLine) h, ne-eqb end (length s) n, ne-eqb (getD s end 0) 13 c)
+
+  pub comes-return : held + (end - at) ≤ R .longestLine → (end ≡ length s → ⊥) → getD s end 0 ≡ 13 → eqb (end + 1) (length s) ≡ mayCome R held s at end
+  unfolding mayCome
+  comes-return h n c = rw (le-leb (held + (end - at)) (R .longestLine) h, ne-eqb end (length s) n, eq-eqb (getD s end 0) 13 c)
+
+-- # One byte
+
+module _ (R : Rules) (s : Link) (b : ℕ) where
+  pub full-log : R .longestLog ≤ s .count → false ≡ takesByte R s b
+  unfolding takesByte conjunction
+  full-log h = rw (le-ltb (s .count) (R .longestLog) h)
+
+  pub no-line-due : s .count < R .longestLog → isEnd (dueOf s) ≡ true → false ≡ takesByte R s b
+  unfolding takesByte conjunction
+  no-line-due h e = rw (lt-ltb (s .count) (R .longestLog) h, e)
+
+  module _ (room : s .count < R .longestLog) (line : isEnd (dueOf s) ≡ false) where
+    pub behind-return : (s .returned ≡ 0 → ⊥) → false ≡ takesByte R s b
+    unfolding takesByte conjunction
+    behind-return n = rw (lt-ltb (s .count) (R .longestLog) room, line, ne-eqb (s .returned) 0 n)
+
+    pub full-line : s .returned ≡ 0 → R .longestLine ≤ s .held → false ≡ takesByte R s b
+    unfolding takesByte conjunction
+    full-line e h = rw (lt-ltb (s .count) (R .longestLog) room, line, eq-eqb (s .returned) 0 e, le-ltb (s .held) (R .longestLine) h)
+
+    pub by-character : s .returned ≡ 0 → s .held < R .longestLine → allowed b ≡ takesByte R s b
+    unfolding takesByte conjunction
+    by-character e h =
+        rw (lt-ltb (s .count) (R .longestLog) room, line, eq-eqb (s .returned) 0 e, lt-ltb (s .held) (R .longestLine) h, and-true (allowed b))
+
+  pub record Takes : Type 0 where
+    pub room : s .count < R .longestLog
+    pub line : isEnd (dueOf s) ≡ false
+    pub plain : s .returned ≡ 0
+    pub short : s .held < R .longestLine
+    pub good : allowed b ≡ true
+
+  pub takes-byte : takesByte R s b ≡ true → Takes
+  unfolding takesByte conjunction
+  takes-byte e =
+      let a = ltb (s .count) (R .longestLog) in
+      let d = not (isEnd (dueOf s)) in
+      let p = eqb (s .returned) 0 in
+      let h = ltb (s .held) (R .longestLine) in
+      let g = allowed b in
+      let e1 = and-r a (d && (p && (h && (g && true)))) e in
+      let e2 = and-r d (p && (h && (g && true))) e1 in
+      let e3 = and-r p (h && (g && true)) e2 in
+      let e4 = and-r h (g && true) e3 in
+      record {
+        room = ltb-true (s .count) (R .longestLog) (and-l a (d && (p && (h && (g && true)))) e);
+        line = not-true (isEnd (dueOf s)) (and-l d (p && (h && (g && true))) e1);
+        plain = eqb-true (s .returned) 0 (and-l p (h && (g && true)) e2);
+        short = ltb-true (s .held) (R .longestLine) (and-l h (g && true) e3);
+        good = and-l g true e4;
+      }
