@@ -27,7 +27,7 @@ use Rattle.session.specs.Entry.{bytesOf}
 use Rattle.session.proofs.FilledLaws.{base-fits-bytes}
 use Rattle.link.specs.declared.Link.{Link}
 use Rattle.link.specs.declared.Closing.{Closing}
-use Rattle.link.specs.Link.{Holding, holding, stoppedBy, stopped, isOpen, lineOf, dueOf, announced, declaredIn, lentBy, ifLong, onLink, byteIn, bytesIn, isSound, asked, counted, overrun, taken, feed, unended, restOf, endedBy, ended, close, placed}
+use Rattle.link.specs.Link.{Holding, holding, stoppedBy, stopped, isOpen, lineOf, dueOf, announced, declaredIn, lentBy, ifLong, onLink, byteIn, bytesIn, isSound, asked, counted, overrun, taken, feed, unended, restOf, acceptedBy, endedBy, ended, close, placed}
 use Rattle.link.specs.Keeping.{opened, heldAfter, workedOf, FitsLink, KeptAsFed, RefusedLeaves, TheLinkKeeps}
 use Rattle.link.proofs.StateLaws.{sound-held}
 use Rattle.link.proofs.LogGrows.{recordsOf, argumentsOf}
@@ -37,29 +37,17 @@ use Rattle.link.proofs.RatesHeld.{declares-none, declared-is, declared-
 use Rattle.link.proofs.DueLaws.{ahead-end}
 use Rattle.link.proofs.HeldLaws.{CountHeld, lent, Open, Kept, line-none, due-same, announced-same, records-few, keeps-same, kept-stopped, lent-same}
 use Rattle.link.proofs.ByteHeld.{byte-placed}
+use Rattle.link.proofs.CallLaws.{asked-refused, feed-by, close-by}
 
 -- # A refusal stays
 
 module _ (R : Rules) (h : Holding) (closed : isOpen (h .link) ≡ false) where
-  asked-refused : (l : Lent) → asked R l (h .link) ≡ h .link
-  unfolding asked
-  asked-refused l = rw closed
-
-  feed-refused : (t : Text) → feed R h t ≡ h
-  unfolding feed
-  feed-refused t =
-      let a = asked-refused (lentBy h) in
-      ap (λ (s : Link). cond (isOpen s) (taken R (holding s (h .verdicts) (h .worked)) t) (holding s (h .verdicts) (h .worked))) a
-      ∙ ap (λ (b : Bool). cond b (taken R h t) h) closed
-
-  close-refused : (l : Lent) → close R l (h .link) ≡ unended (h .link)
-  unfolding close
-  close-refused l =
-      ap (λ (s : Link). cond (isOpen s) (ended R s) (unended s)) (asked-refused l)
-      ∙ ap (λ (b : Bool). cond b (ended R (h .link)) (unended (h .link))) closed
-
   pub refused-leaves : RefusedLeaves R h
-  refused-leaves = record { feeding = feed-refused; closing = close-refused }
+  refused-leaves =
+      record {
+        feeding = λ t. sym (feed-by R h t (h .link) (asked-refused R (lentBy h) (h .link) closed) closed);
+        closing = λ l. sym (close-by R l (h .link) (h .link) (asked-refused R l (h .link) closed) closed);
+      }
 
 module _ {R : Rules} (F : FitsLink R) (verdicts worked : List ℕ) where
   abbrev lends : Lent
@@ -234,7 +222,7 @@ module _ {R : Rules} (F : FitsLink R) (verdicts worked : List ℕ) where
       by true e = (total + n total k h holds e t, feed-taken total k h holds e t)
       by false e =
           let same : Asked.feed R lends k t ≡ k = rw e (refused-bytes R lends k t e) in
-          (total, subst (λ (j : Asked.Link). Holds total 0 j (feed R h t)) (sym same) (subst (Holds total 0 k) (sym (feed-refused R h (open-same total 0 k h holds ∙ e) t)) holds))
+          (total, subst (λ (j : Asked.Link). Holds total 0 j (feed R h t)) (sym same) (subst (Holds total 0 k) (sym (refused-leaves R h (open-same total 0 k h holds ∙ e) .feeding t)) holds))
 
   pieces-held : (ps : List Text) (total : ℕ) (k : Asked.Link) (h : Holding) → Holds total 0 k h → (more : ℕ) × Holds more 0 (Asked.fedAll R lends k ps) (heldAfter R h ps)
   unfolding Asked.fedAll heldAfter
@@ -291,7 +279,7 @@ module _ {R : Rules} (F : FitsLink R) (verdicts worked : List ℕ) where
         ∙ ap (λ (d : Declared). totals R d (recordsOf k)) (declared-is R (logOf k) (s .rated) (kept .log .rates) many)
 
     close-open : Closes k h
-    unfolding endedBy Asked.closedBy unended Asked.stopped stoppedBy
+    unfolding endedBy acceptedBy Asked.closedBy unended Asked.stopped stoppedBy
     close-open = by atLast refl
       where
         by : (a : Reading) → atLast ≡ a → Closes k h
@@ -317,7 +305,7 @@ module _ {R : Rules} (F : FitsLink R) (verdicts worked : List ℕ) where
           let still : Asked.asked lends k ≡ k = rw e in
           let same : Asked.close R lends k ≡ c =
           ap (Asked.closedIf R) still ∙ ap (λ (b : Bool). cond b (Asked.closedBy R k (atRest (k .due) (Asked.lineOf k) (Asked.restOf k))) c) e in
-          closes-so k h (unended (h .link)) c (close-refused R h (open-same total 0 k h holds ∙ e) (lentBy h)) same
+          closes-so k h (unended (h .link)) c (refused-leaves R h (open-same total 0 k h holds ∙ e) .closing (lentBy h)) same
           (holds .keeps .refusalIs) refl (holds .keeps .refusalIs)
 
   -- # From the opening on

@@ -1,25 +1,32 @@
 -- The numbers of the state: what is due, what is short, and what is sound.
 -- Assumes nothing.
-use Prim.Native.Nat.{ℕ, zero, suc, _-_, _*_, _≤_, _<_}
+use Prim.Native.Nat.{ℕ, zero, suc, _-_, _*_, _≤_, _<_, min}
 use native.Mathlib.Omega.{arith}
 use mathlib.Core.Path.{_≡_, refl, sym, ap, _∙_}
 use mathlib.Core.Bool.{Bool, true, false, cond, not, _&&_, and-true}
+use mathlib.Core.List.{[], _∷_, _++_, append-nil}
 use lib.Dec.{eqb, leb, ltb}
-use borrow.Author.Tests.{lt-ltb, le-ltb, le-leb, lt-leb, leb-true, leb-false, eq-eqb, ne-eqb, eqb-false}
+use lib.ListN.{length, length-append, length-take}
+use borrow.Author.Tests.{lt-ltb, le-ltb, le-leb, lt-leb, leb-true, leb-false, eq-eqb, ne-eqb, eqb-true, eqb-false}
 use Rattle.rules.specs.declared.Refusal.{Refusal}
 use Rattle.rules.specs.declared.Totals.{Totals}
+use Rattle.rules.specs.declared.Due.{Due}
 use Rattle.rules.specs.declared.Due.the-variants.{Identifier, Keyword, Remarks, Remark, Record, End}
+use Rattle.rules.specs.Text.{Text}
 use Rattle.rules.specs.Rules.{Rules}
 use Rattle.rules.specs.Log.{conjunction}
 use Rattle.rules.specs.Judging.{zeroTotals}
-use Rattle.rules.specs.Reading.{recordsDue}
+use Rattle.rules.specs.Reading.{refusal, recordsDue, refused, atRest}
+use Rattle.rules.specs.Answers.{noRefusal}
 use Rattle.rules.specs.Link.{isShort}
-use Rattle.rules.proofs.Tests.{and-l, and-r}
+use Rattle.rules.proofs.Tests.{and-l, and-r, never, clash}
 use Rattle.judge.specs.declared.Counts.{Counts}
-use Rattle.judge.specs.Narrow.{noCounts}
+use Rattle.judge.specs.Narrow.{noCounts, sumsIn}
+use Rattle.judge.specs.Sums.{totalsKept}
+use Rattle.link.specs.declared.Closing.{Closing}
 use Rattle.link.specs.declared.Rated.{Rated}
 use Rattle.link.specs.declared.Link.{Link}
-use Rattle.link.specs.Link.{noRates, noLine, stoppedBy, dueAt, isEnd, announced, lentOf, isSound, unended}
+use Rattle.link.specs.Link.{noRates, noLine, stoppedBy, lineOf, dueAt, isEnd, announced, begun, declaredIn, lentOf, isSound, unended, restOf, acceptedBy, endedBy, ended}
 
 -- A refusal, and nothing else.
 abbrev bare : Refusal → Counts → Rated → Link
@@ -92,20 +99,25 @@ module _ (stage records done : ℕ) (late : 38 < stage) where
       by true e = ap isEnd (due-end (leb-true records done e))
       by false e = ap isEnd (due-record (leb-false records done e))
 
-pub end-early : (stage left : ℕ) → stage < 39 → false ≡ isEnd (dueAt stage left)
+-- In front of the records: the identifier, a keyword, or a remark.
+early-is : (P : Due → Type 0) → P Identifier → ((k : ℕ) → P (Keyword k)) → P Remarks → P Remark → (stage left : ℕ) → stage < 39 → P (dueAt stage left)
 unfolding dueAt
-end-early stage left h = by (eqb stage 0) (leb stage 36) (eqb stage 37) (eqb stage 38) refl refl refl refl
+early-is P identifier keyword remarks remark stage left h =
+    by (eqb stage 0) (leb stage 36) (eqb stage 37) (eqb stage 38) refl refl refl
   where
-    by : (a b c d : Bool) → eqb stage 0 ≡ a → leb stage 36 ≡ b → eqb stage 37 ≡ c → eqb stage 38 ≡ d → false ≡ isEnd (cond a Identifier (cond b (Keyword (stage - 1)) (cond c Remarks (cond d Remark (recordsDue left)))))
-    by true b c d e f g k = refl
-    by false true c d e f g k = refl
-    by false false true d e f g k = refl
-    by false false false true e f g k = refl
-    by false false false false e f g k =
+    by : (a b c d : Bool) → leb stage 36 ≡ b → eqb stage 37 ≡ c → eqb stage 38 ≡ d → P (cond a Identifier (cond b (Keyword (stage - 1)) (cond c Remarks (cond d Remark (recordsDue left)))))
+    by true b c d f g k = identifier
+    by false true c d f g k = keyword (stage - 1)
+    by false false true d f g k = remarks
+    by false false false true f g k = remark
+    by false false false false f g k =
         let late = leb-false stage 36 f in
         let other = eqb-false stage 37 g in
         let another = eqb-false stage 38 k in
         absurd (omega (arith, other, another))
+
+pub end-early : (stage left : ℕ) → stage < 39 → false ≡ isEnd (dueAt stage left)
+end-early stage left h = early-is (λ due. false ≡ isEnd due) refl (λ k. refl) refl refl stage left h
 
 -- # What is lent
 
@@ -165,3 +177,73 @@ module _ (R : Rules) (s : Link) where
 pub unended-by : (s : Link) {t : Totals} → t ≡ zeroTotals → record { link = s; refusal = s .refusal; totals = t } ≡ unended s
 unfolding unended
 unended-by s e = λ i. record { link = s; refusal = s .refusal; totals = e i }
+
+-- All is there.
+pub accepted-by : (R : Rules) (s : Link) {j : Link} {t : Totals} → j ≡ stoppedBy (refusal 13 0 0) → t ≡ totalsKept R (sumsIn (s .points) (s .counts)) (declaredIn (s .rated)) → record { link = j; refusal = refusal 0 0 0; totals = t } ≡ acceptedBy R s
+unfolding acceptedBy noRefusal
+accepted-by R s e f = λ i. record { link = e i; refusal = refusal 0 0 0; totals = f i }
+
+-- The bytes behind the last finished line: there are some behind a CR, and where characters are held.
+module _ (s : Link) where
+  pub rest-returned : (s .returned ≡ 0 → ⊥) → true ≡ not (eqb (length (restOf s)) 0)
+  rest-returned n = rw (ne-eqb (s .returned) 0 n) (sym (ap not (ne-eqb (length (begun s ++ (13 ∷ []))) 0 (λ e. omega (arith, length-append (begun s) (13 ∷ []), e)))))
+
+  pub rest-plain : s .returned ≡ 0 → 0 < length (s .line) → not (eqb (s .held) 0) ≡ not (eqb (length (restOf s)) 0)
+  rest-plain e h = rw (eq-eqb (s .returned) 0 e) (by (eqb (s .held) 0) refl)
+    where
+      long : length (begun s ++ []) ≡ min (s .held) (length (s .line))
+      long = ap length (append-nil (begun s)) ∙ length-take (s .held) (s .line)
+
+      by : (b : Bool) → eqb (s .held) 0 ≡ b → not b ≡ not (eqb (length (begun s ++ [])) 0)
+      by true g = ap not (sym (eq-eqb (length (begun s ++ [])) 0 (omega (arith, long, eqb-true (s .held) 0 g))))
+      by false g =
+          let held = eqb-false (s .held) 0 g in
+          ap not (sym (ne-eqb (length (begun s ++ [])) 0 (λ z. held (omega (arith, long, z, h)))))
+
+some : (c : ℕ) (t : Text) → not (eqb (length (c ∷ t)) 0) ≡ true
+some c t = ap not (ne-eqb (length (c ∷ t)) 0 (λ e. omega (arith, e)))
+
+-- What the end of the bytes means: where a record is due, and where nothing is.
+rest-due : (m n : ℕ) (t : Text) (b : Bool) → not (eqb (length t) 0) ≡ b → refused (refusal (cond b 2 6) n 0) ≡ atRest (Record m) n t
+unfolding atRest
+rest-due m n [] true e = never e
+rest-due m n [] false e = refl
+rest-due m n (c ∷ t) true e = refl
+rest-due m n (c ∷ t) false e = clash (some c t) e
+
+rest-over : (n : ℕ) (t : Text) → not (eqb (length t) 0) ≡ true → refused (refusal 6 n 0) ≡ atRest End n t
+unfolding atRest
+rest-over n [] e = never e
+rest-over n (c ∷ t) e = refl
+
+module _ (R : Rules) (s : Link) where
+  abbrev rests : Due → Closing
+  rests due = endedBy R s (atRest due (lineOf s) (restOf s))
+
+  pub ends-early : s .stage < 39 → unended (stoppedBy (refusal 2 (lineOf s) 0)) ≡ ended R s
+  unfolding ended endedBy atRest
+  ends-early h =
+      early-is (λ due. unended (stoppedBy (refusal 2 (lineOf s) 0)) ≡ rests due) refl (λ k. refl) refl refl (s .stage) (s .records - s .done) h
+
+  module _ (late : 39 ≤ s .stage) where
+    pub ends-due : s .done < s .records → (b : Bool) → not (eqb (length (restOf s)) 0) ≡ b → unended (stoppedBy (refusal (cond b 2 6) (lineOf s) 0)) ≡ ended R s
+    unfolding ended endedBy
+    ends-due l b e =
+        ap (endedBy R s) (rest-due (s .records - s .done) (lineOf s) (restOf s) b e)
+        ∙ ap rests (due-record (s .stage) (s .records) (s .done) (omega (arith, late)) l)
+
+    pub ends-more : s .records ≤ s .done → not (eqb (length (restOf s)) 0) ≡ true → unended (stoppedBy (refusal 6 (lineOf s) 0)) ≡ ended R s
+    unfolding ended endedBy
+    ends-more l e =
+        ap (endedBy R s) (rest-over (lineOf s) (restOf s) e)
+        ∙ ap rests (due-end (s .stage) (s .records) (s .done) (omega (arith, late)) l)
+
+    pub ends-whole : s .records ≤ s .done → not (eqb (length (restOf s)) 0) ≡ false → acceptedBy R s ≡ ended R s
+    unfolding ended endedBy atRest
+    ends-whole l e =
+        whole (restOf s) e
+        ∙ ap rests (due-end (s .stage) (s .records) (s .done) (omega (arith, late)) l)
+      where
+        whole : (t : Text) → not (eqb (length t) 0) ≡ false → acceptedBy R s ≡ endedBy R s (atRest End (lineOf s) t)
+        whole [] g = refl
+        whole (c ∷ t) g = clash (some c t) g

@@ -3,28 +3,32 @@
 use Prim.Native.Nat.{ℕ, zero, suc, _+_, _-_, _%_, _≤_, _<_}
 use native.Mathlib.Omega.{arith}
 use mathlib.Core.Path.{_≡_, refl, sym, ap, _∙_}
-use mathlib.Core.Bool.{Bool, true, false, cond, not}
+use mathlib.Core.Bool.{Bool, true, false, cond, not, _&&_}
 use mathlib.Core.List.{List, [], _∷_}
 use lib.Dec.{eqb, leb}
 use lib.ListN.{length, set}
-use borrow.Author.Tests.{eq-eqb, ne-eqb, eqb-false, lt-ltb, le-ltb, not-true, not-false}
+use borrow.Author.Tests.{eq-eqb, ne-eqb, eqb-false, leb-false, lt-ltb, le-ltb, not-true, not-false}
 use Rattle.rules.specs.declared.Due.{Due}
 use Rattle.rules.specs.declared.Due.the-variants.{Identifier, Keyword, Remarks, Remark}
 use Rattle.rules.specs.declared.Next.the-variants.{Goes, Stops}
 use Rattle.rules.specs.Text.{Text}
 use Rattle.rules.specs.Rules.{Rules}
-use Rattle.rules.specs.Reading.{refusal, recordsDue, step}
+use Rattle.rules.specs.Reading.{refusal, RecordRule, keeps, breaks, recordRule, recordsDue, step}
 use Rattle.rules.specs.Link.{Lent, isShort, workedBytes}
+use Rattle.rules.proofs.FieldLaws.{record-is}
+use Rattle.rules.proofs.Tests.{clash}
+use Rattle.judge.specs.Bounds.{mostWorth}
 use Rattle.judge.specs.declared.Counted.{Counted}
 use Rattle.judge.specs.declared.Counts.{Counts}
 use Rattle.judge.specs.Narrow.{low, countedMore}
 use Rattle.writer.proofs.WrittenLaws.{written-byte}
 use Rattle.session.specs.declared.LineKept.{LineKept}
-use Rattle.session.specs.Entry.{lineKept, verdictsKept, bytesKept}
+use Rattle.session.specs.Entry.{recordOf, keepsRules, hasPlaceFor, isKept, toldLine, refusedLine, notTaken, lineKept, verdictsKept, bytesKept}
+use Rattle.session.proofs.ComeLaws.{worth-within}
 use Rattle.link.specs.declared.Link.{Link}
 use Rattle.link.specs.declared.Rated.{Rated}
-use Rattle.link.specs.Link.{Holding, holding, noLine, stoppedBy, lineOf, dueAt, dueOf, announced, bonusOn, multiplierOn, ratedAt, ratedBy, wentOn, ifLong, headGoes, headNext, headLine, withRecord, recordTold, recordLine, lentBy, finishes, withText, counted}
-use Rattle.link.proofs.StateLaws.{due-keyword}
+use Rattle.link.specs.Link.{Holding, holding, noLine, stoppedBy, lineOf, dueAt, dueOf, isEnd, announced, bonusOn, multiplierOn, ratedAt, ratedBy, wentOn, ifLong, headGoes, headNext, headLine, withRecord, recordTold, recordLine, lentBy, finishes, withText, counted}
+use Rattle.link.proofs.StateLaws.{due-keyword, end-late}
 
 -- # What is declared
 
@@ -174,6 +178,18 @@ module _ (R : Rules) (s : Link) (l : Text) (verdicts worked : List ℕ) where
       let test : eqb (told .refusal .number) 0 ≡ true = ap (λ (x : LineKept). eqb (x .refusal .number) 0) (sym e) ∙ eq-eqb (k .refusal .number) 0 n in
       g ∙ ap (λ (x : LineKept). withRecord s (x .worth) (x .mode) (x .number)) e ∙ rw test
 
+  -- What a line is worth.
+  worth-of : (rule : RecordRule) → recordRule R l ≡ rule → (b : Bool) → (cond (keepsRules rule && b) (toldLine R l (s .done) workedBytes worked) (notTaken rule)) .worth ≤ mostWorth R
+  unfolding toldLine notTaken refusedLine recordOf
+  worth-of keeps e true = worth-within R (recordOf l) (record-is R l e .rules)
+  worth-of keeps e false = omega arith
+  worth-of (breaks field) e b = omega arith
+
+  pub kept-worth : {k : LineKept} → k ≡ told → k .worth ≤ mostWorth R
+  unfolding lineKept isKept
+  kept-worth e =
+      omega (arith, ap (λ (x : LineKept). x .worth) e, worth-of (recordRule R l) refl (hasPlaceFor (s .done) workedBytes (length verdicts) (length worked)))
+
   pub record-verdicts : {out : List ℕ} → out ≡ verdictsKept R l (s .done) workedBytes verdicts worked → out ≡ (recordLine R h l) .verdicts
   unfolding recordLine
   record-verdicts e = e
@@ -191,6 +207,14 @@ module _ (R : Rules) (s : Link) (l : Text) (verdicts worked : List ℕ) where
   pub finished-record : 39 ≤ s .stage → recordLine R h l ≡ finishes R h l
   unfolding finishes
   finished-record e = rw (le-ltb (s .stage) 39 e)
+
+-- A record is due where something is, behind the count line.
+pub some-left : (s : Link) → 39 ≤ s .stage → isEnd (dueOf s) ≡ false → s .done < s .records
+some-left s late e = by (leb (s .records) (s .done)) refl
+  where
+    by : (b : Bool) → leb (s .records) (s .done) ≡ b → s .done < s .records
+    by true g = clash (sym (end-late (s .stage) (s .records) (s .done) (omega (arith, late))) ∙ g) e
+    by false g = leb-false (s .records) (s .done) g
 
 -- # One byte
 

@@ -2,19 +2,23 @@
 -- Assumes nothing.
 use Prim.Native.Nat.{ℕ, _+_, _-_, _≤_, _<_}
 use native.Mathlib.Omega.{arith}
-use mathlib.Core.Path.{_≡_, refl}
-use mathlib.Core.Bool.{true, false, cond, not, _&&_, and-true}
-use lib.Dec.{eqb, ltb}
+use mathlib.Core.Path.{_≡_, refl, _∙_}
+use mathlib.Core.Bool.{Bool, true, false, cond, not, _&&_, _||_, and-true}
+use mathlib.Core.List.{List}
+use lib.Dec.{eqb, leb, ltb}
 use lib.ListN.{length, drop, getD}
-use borrow.Author.Tests.{lt-ltb, le-ltb, le-leb, lt-leb, ltb-true, eq-eqb, ne-eqb, eqb-true, not-true}
+use borrow.Author.Tests.{lt-ltb, le-ltb, le-leb, lt-leb, leb-true, ltb-true, eq-eqb, ne-eqb, eqb-true, not-true}
 use Rattle.rules.specs.Text.{Text, allowed, span, begins}
 use Rattle.rules.specs.Rules.{Rules, base}
 use Rattle.rules.specs.Log.{conjunction, crlf}
+use Rattle.rules.specs.Reading.{refusal}
 use Rattle.rules.proofs.Tests.{and-l, and-r}
+use Rattle.reader.specs.Contact.{between}
+use Rattle.writer.specs.Written.{written}
 use Rattle.judge.specs.Bounds.{mostWorth}
 use Rattle.link.specs.declared.Link.{Link}
-use Rattle.link.specs.Link.{dueOf, isEnd}
-use Rattle.link.specs.Piece.{runEnd, isEnded, nextPlace, mayCome, takesByte}
+use Rattle.link.specs.Link.{stoppedBy, lineOf, dueOf, isEnd, heldAs}
+use Rattle.link.specs.Piece.{runEnd, isEnded, nextPlace, mayCome, heldOn, takesByte}
 
 -- # The limits
 
@@ -88,6 +92,30 @@ module _ (R : Rules) (held : ℕ) (s : Text) (at end : ℕ) where
   pub comes-return : held + (end - at) ≤ R .longestLine → (end ≡ length s → ⊥) → getD s end 0 ≡ 13 → eqb (end + 1) (length s) ≡ mayCome R held s at end
   unfolding mayCome
   comes-return h n c = rw (le-leb (held + (end - at)) (R .longestLine) h, ne-eqb end (length s) n, eq-eqb (getD s end 0) 13 c)
+
+-- # What is left is held
+
+module _ (R : Rules) (s : Link) (t : Text) (at end : ℕ) (over : Bool) where
+  pub hold-returned : (s .returned ≡ 0 → ⊥) → stoppedBy (refusal 2 (lineOf s) 0) ≡ heldOn R s t at end over
+  unfolding heldOn
+  hold-returned n = rw (ne-eqb (s .returned) 0 n)
+
+  pub hold-stray : s .returned ≡ 0 → mayCome R (s .held) t at end ≡ false → stoppedBy (refusal 2 (lineOf s) 0) ≡ heldOn R s t at end over
+  unfolding heldOn
+  hold-stray e m = rw (eq-eqb (s .returned) 0 e, m)
+
+  pub hold-over : s .returned ≡ 0 → mayCome R (s .held) t at end ≡ true → over ≡ true → stoppedBy (refusal 1 0 0) ≡ heldOn R s t at end over
+  unfolding heldOn
+  hold-over e m o = rw (eq-eqb (s .returned) 0 e, m, o)
+
+  pub hold-kept : s .returned ≡ 0 → mayCome R (s .held) t at end ≡ true → over ≡ false → {r : Link} {held returned : ℕ} {line : List ℕ} → r ≡ heldAs held returned line s → held ≡ s .held + (end - at) → returned ≡ cond (eqb end (length t)) 0 1 → line ≡ written (s .line) (s .held) (between t at end) → r ≡ heldOn R s t at end over
+  unfolding heldOn
+  hold-kept e m o g h c l = g ∙ (λ i. heldAs (h i) (c i) (l i) s) ∙ rw (eq-eqb (s .returned) 0 e, m, o)
+
+pub come-short : (R : Rules) (held : ℕ) (t : Text) (at end : ℕ) → mayCome R held t at end ≡ true → held + (end - at) ≤ R .longestLine
+unfolding mayCome
+come-short R held t at end e =
+    leb-true (held + (end - at)) (R .longestLine) (and-l (leb (held + (end - at)) (R .longestLine)) (eqb end (length t) || eqb (getD t end 0) 13 && eqb (end + 1) (length t)) e)
 
 -- # One byte
 

@@ -388,14 +388,18 @@ abbrev pub restOf : Link → Text
 restOf s = begun s ++ cond (hasReturn s) (13 ∷ []) []
 
 -- "13 a call after a closing that accepted": it is what every further call finds.
-unfoldable pub endedBy : Rules → Link → Reading → Closing
-unfolding stoppedBy noRefusal totalsKept sumsIn declaredIn unended
-endedBy R s (accepted log) =
+unfoldable pub acceptedBy : Rules → Link → Closing
+unfolding stoppedBy noRefusal totalsKept sumsIn declaredIn
+acceptedBy R s =
     record {
       link = stoppedBy (refusal 13 0 0);
       refusal = noRefusal;
       totals = totalsKept R (sumsIn (s .points) (s .counts)) (declaredIn (s .rated));
     }
+
+unfoldable pub endedBy : Rules → Link → Reading → Closing
+unfolding acceptedBy stoppedBy unended
+endedBy R s (accepted log) = acceptedBy R s
 endedBy R s (refused r) = unended (stoppedBy r)
 
 unfoldable pub ended : Rules → Link → Closing

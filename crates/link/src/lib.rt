@@ -13,7 +13,7 @@ ghost use Rattle.rules.specs.Link.{isShort};
 ghost use Rattle.reader.specs.Contact.{between};
 ghost use Rattle.judge.specs.Bounds.{mostWorth};
 ghost use Rattle.judge.specs.Narrow.{low};
-ghost use Rattle.link.specs.Link.{announced, begun, bytesIn, close, counted, declaredIn, dueOf, ended, feed, finishes, headGoes, headLine, heldAs, holding, ifLong, isEnd, isOpen, isSound, lentOf, lineOf, noRates, overrun, ratedBy, recordLine, stoppedBy, taken, unended, wentOn, withRecord, withText};
+ghost use Rattle.link.specs.Link.{acceptedBy, announced, begun, bytesIn, close, counted, declaredIn, dueOf, ended, feed, finishes, headGoes, headLine, heldAs, holding, ifLong, isEnd, isOpen, isSound, lentOf, lineOf, noRates, overrun, ratedBy, recordLine, restOf, stoppedBy, taken, unended, wentOn, withRecord, withText};
 ghost use Rattle.link.specs.Piece.{heldOn, isEnded, mayCome, nextPlace, runEnd, takesByte};
 use judge::Counts;
 use places::Declared;
@@ -307,6 +307,63 @@ fn with_record(s: Link, worth: u64, mode: u8, number: u8) -> Link
     }
 }
 
+// A record's line: its verdict and what is worked are written behind those of the records before it.
+fn record_line(s: Link, line: &[u8], verdicts: &mut [u8], worked: &mut [u8]) -> Link
+    requires { ⌜ (s .lines < 65536) × (s .done < s .records) ⌝ }
+    ensures answer { λ r. ⌜ r ≡ (recordLine base (holding s (now (verdicts .entry)) (now (worked .entry))) (now (line .entry))) .link ⌝ }
+    ensures verdicts { λ r. ⌜ now (verdicts .exit) ≡ (recordLine base (holding s (now (verdicts .entry)) (now (worked .entry))) (now (line .entry))) .verdicts ⌝ }
+    ensures worked { λ r. ⌜ now (worked .exit) ≡ (recordLine base (holding s (now (verdicts .entry)) (now (worked .entry))) (now (line .entry))) .worked ⌝ }
+{
+    let k = session::keep_line(
+        line,
+        s.done as usize,
+        session::WORKED_BYTES,
+        verdicts,
+        worked,
+    );
+    let refusal = k.refusal;
+    if refusal.number != 0 {
+        return stopped_here(s, refusal.number, refusal.field);
+    }
+    with_record(s, k.worth, k.mode, k.number)
+}
+
+// A line is finished: its LF came.
+fn finished(s: Link, line: &[u8], verdicts: &mut [u8], worked: &mut [u8]) -> Link
+    requires { ⌜ (s .lines < 65536) × (isEnd (dueOf s) ≡ false) ⌝ }
+    ensures answer { λ r. ⌜ r ≡ (finishes base (holding s (now (verdicts .entry)) (now (worked .entry))) (now (line .entry))) .link ⌝ }
+    ensures verdicts { λ r. ⌜ now (verdicts .exit) ≡ (finishes base (holding s (now (verdicts .entry)) (now (worked .entry))) (now (line .entry))) .verdicts ⌝ }
+    ensures worked { λ r. ⌜ now (worked .exit) ≡ (finishes base (holding s (now (verdicts .entry)) (now (worked .entry))) (now (line .entry))) .worked ⌝ }
+{
+    if s.stage < RECORDS {
+        return head_line(s, line, verdicts.len(), worked.len());
+    }
+    record_line(s, line, verdicts, worked)
+}
+
+// A line is finished whose last characters lie in the piece: it is read where it lies, and only where some of it is held those come in front.
+fn joined(
+    s: Link,
+    bytes: &[u8],
+    at: usize,
+    end: usize,
+    verdicts: &mut [u8],
+    worked: &mut [u8],
+) -> Link
+    requires { ⌜ (s .lines < 65536) × (isEnd (dueOf s) ≡ false) × (at ≤ end) × (end ≤ length (now bytes)) × (s .held + (end - at) ≤ 75) ⌝ }
+    ensures answer { λ r. ⌜ r ≡ (finishes base (holding s (now (verdicts .entry)) (now (worked .entry))) (begun s ++ between (now (bytes .entry)) at end)) .link ⌝ }
+    ensures verdicts { λ r. ⌜ now (verdicts .exit) ≡ (finishes base (holding s (now (verdicts .entry)) (now (worked .entry))) (begun s ++ between (now (bytes .entry)) at end)) .verdicts ⌝ }
+    ensures worked { λ r. ⌜ now (worked .exit) ≡ (finishes base (holding s (now (verdicts .entry)) (now (worked .entry))) (begun s ++ between (now (bytes .entry)) at end)) .worked ⌝ }
+{
+    let held = s.held as usize;
+    if held == 0 {
+        return finished(s, &bytes[at..end], verdicts, worked);
+    }
+    let mut line = s.line;
+    let long = writer::put_text(&mut line, held, &bytes[at..end]);
+    finished(s, &line[..long], verdicts, worked)
+}
+
 // # A piece
 
 // Where the characters end that come behind those that are held: none do behind a CR.
@@ -395,6 +452,26 @@ fn held_as(s: Link, held: u16, returned: u8, line: [u8; rules::LONGEST_LINE]) ->
     }
 }
 
+// What is left of a piece is held, or it is refused. Bytes that are too many for the log may be behind it.
+fn held_on(s: Link, bytes: &[u8], at: usize, end: usize, over: bool) -> Link
+    requires { ⌜ (s .lines < 65536) × (at ≤ end) × (end ≤ length (now bytes)) × (s .held ≤ 75) ⌝ }
+    ensures { λ r. ⌜ r ≡ heldOn base s (now (bytes .entry)) at end over ⌝ }
+{
+    if s.returned != 0 {
+        return stopped_here(s, 2, 0);
+    }
+    let held = s.held as usize;
+    if !may_come(held, bytes, at, end) {
+        return stopped_here(s, 2, 0);
+    }
+    if over {
+        return stopped(1, 0, 0);
+    }
+    let mut line = s.line;
+    let long = writer::put_text(&mut line, held, &bytes[at..end]);
+    held_as(s, low(long as u64), one_if_more(bytes, end), line)
+}
+
 // So many bytes more came.
 fn counted(s: Link, n: usize) -> Link
     requires { ⌜ (s .count ≤ 65535) × (n ≤ 65535) ⌝ }
@@ -451,10 +528,185 @@ fn takes(s: Link, b: u8) -> bool
     reader::is_allowed(b)
 }
 
+fn with_byte(s: Link, b: u8) -> Link
+    requires { ⌜ takesByte base s b ≡ true ⌝ }
+    ensures { λ r. ⌜ r ≡ counted 1 (withText (b ∷ []) s) ⌝ }
+{
+    let refusal = s.refusal;
+    let counts = s.counts;
+    let rated = s.rated;
+    let mut line = s.line;
+    line[s.held as usize] = b;
+    Link {
+        refusal,
+        count: s.count + 1,
+        lines: s.lines,
+        points: s.points,
+        counts,
+        rated,
+        records: s.records,
+        done: s.done,
+        stage: s.stage,
+        held: s.held + 1,
+        returned: 0,
+        line,
+    }
+}
+
+// All bytes of a piece, which are counted already: from line to line, and what is left is held.
+fn went(s: Link, bytes: &[u8], over: bool, verdicts: &mut [u8], worked: &mut [u8]) -> Link
+    requires { ⌜ (isOpen s ≡ true) × (s .held ≤ 75) × (s .lines + length (now bytes) ≤ 65535) ⌝ }
+    ensures answer { λ r. ⌜ r ≡ (overrun over (bytesIn base (holding s (now (verdicts .entry)) (now (worked .entry))) (now (bytes .entry)))) .link ⌝ }
+    ensures verdicts { λ r. ⌜ now (verdicts .exit) ≡ (overrun over (bytesIn base (holding s (now (verdicts .entry)) (now (worked .entry))) (now (bytes .entry)))) .verdicts ⌝ }
+    ensures worked { λ r. ⌜ now (worked .exit) ≡ (overrun over (bytesIn base (holding s (now (verdicts .entry)) (now (worked .entry))) (now (bytes .entry)))) .worked ⌝ }
+{
+    let mut t = s;
+    let mut at = 0;
+    while at < bytes.len() {
+        if is_complete(t) {
+            return stopped_here(t, 6, 0);
+        }
+        let end = run_end(t.returned, bytes, at);
+        if !is_ended(t.held as usize, t.returned, bytes, at, end) {
+            return held_on(t, bytes, at, end, over);
+        }
+        let next = behind(t.returned, end);
+        t = joined(t, bytes, at, end, verdicts, worked);
+        if t.refusal.number != 0 {
+            return t;
+        }
+        at = next;
+    }
+    if over {
+        return stopped(1, 0, 0);
+    }
+    t
+}
+
+// As many bytes are taken as there is room for.
+fn taken(s: Link, bytes: &[u8], verdicts: &mut [u8], worked: &mut [u8]) -> Link
+    requires { ⌜ (isOpen s ≡ true) × (isSound base s ≡ true) ⌝ }
+    ensures answer { λ r. ⌜ r ≡ (taken base (holding s (now (verdicts .entry)) (now (worked .entry))) (now (bytes .entry))) .link ⌝ }
+    ensures verdicts { λ r. ⌜ now (verdicts .exit) ≡ (taken base (holding s (now (verdicts .entry)) (now (worked .entry))) (now (bytes .entry))) .verdicts ⌝ }
+    ensures worked { λ r. ⌜ now (worked .exit) ≡ (taken base (holding s (now (verdicts .entry)) (now (worked .entry))) (now (bytes .entry))) .worked ⌝ }
+{
+    let n = room_for(s.count, bytes.len());
+    went(
+        counted(s, n),
+        &bytes[..n],
+        n < bytes.len(),
+        verdicts,
+        worked,
+    )
+}
+
+// Bytes come. One that is put behind others of its line is asked for by itself, so that a link which brings each byte alone costs little.
+pub fn fed(s: Link, bytes: &[u8], verdicts: &mut [u8], worked: &mut [u8]) -> Link
+    ensures { λ r. ⌜ (r ≡ (feed base (holding s (now (verdicts .entry)) (now (worked .entry))) (now (bytes .entry))) .link)
+        × (now (verdicts .exit) ≡ (feed base (holding s (now (verdicts .entry)) (now (worked .entry))) (now (bytes .entry))) .verdicts)
+        × (now (worked .exit) ≡ (feed base (holding s (now (verdicts .entry)) (now (worked .entry))) (now (bytes .entry))) .worked) ⌝ }
+{
+    if s.refusal.number != 0 {
+        return s;
+    }
+    if !is_sound(s) {
+        return stopped(13, 0, 0);
+    }
+    if !lends_enough(s, verdicts.len(), worked.len()) {
+        return stopped(7, 0, 0);
+    }
+    if bytes.len() == 1 {
+        if takes(s, bytes[0]) {
+            return with_byte(s, bytes[0]);
+        }
+    }
+    taken(s, bytes, verdicts, worked)
+}
+
 // # Closing
 
 pub struct Closing {
     pub link: Link,
     pub refusal: Refusal,
     pub totals: Totals,
+}
+
+// The closing refuses, or repeats a refusal.
+fn unended(s: Link) -> Closing
+    ensures { λ r. ⌜ r ≡ unended s ⌝ }
+{
+    let refusal = s.refusal;
+    Closing {
+        link: s,
+        refusal,
+        totals: judge::no_totals(),
+    }
+}
+
+// Some bytes are behind the last finished line.
+fn has_rest(s: Link) -> bool
+    ensures { λ r. ⌜ r ≡ not (eqb (length (restOf s)) 0) ⌝ }
+{
+    if s.returned != 0 {
+        return true;
+    }
+    s.held != 0
+}
+
+// All is there: what it comes to.
+fn accepted(s: Link) -> Closing
+    ensures { λ r. ⌜ r ≡ acceptedBy base s ⌝ }
+{
+    Closing {
+        link: stopped(13, 0, 0),
+        refusal: Refusal {
+            number: 0,
+            line: 0,
+            field: 0,
+        },
+        totals: judge::totals_kept(judge::sums_of(s.points, s.counts), declared_of(s.rated)),
+    }
+}
+
+// What the end of the bytes means here.
+fn ended(s: Link) -> Closing
+    requires { ⌜ s .lines < 65536 ⌝ }
+    ensures { λ r. ⌜ r ≡ ended base s ⌝ }
+{
+    if s.stage < RECORDS {
+        return unended(stopped_here(s, 2, 0));
+    }
+    if s.done < s.records {
+        if has_rest(s) {
+            return unended(stopped_here(s, 2, 0));
+        }
+        return unended(stopped_here(s, 6, 0));
+    }
+    if has_rest(s) {
+        return unended(stopped_here(s, 6, 0));
+    }
+    accepted(s)
+}
+
+// No byte comes any more.
+pub fn closed(s: Link, verdicts: &[u8], worked: &[u8]) -> Closing
+    ensures { λ r. ⌜ r ≡ close base (lentOf (length (now (verdicts .entry))) (length (now (worked .entry)))) s ⌝ }
+{
+    if s.refusal.number != 0 {
+        return unended(s);
+    }
+    if !is_sound(s) {
+        return unended(stopped(13, 0, 0));
+    }
+    if !lends_enough(s, verdicts.len(), worked.len()) {
+        return unended(stopped(7, 0, 0));
+    }
+    ended(s)
+}
+
+// The link behind the closing.
+pub fn link_of(c: Closing) -> Link
+    ensures { λ r. ⌜ r ≡ c .link ⌝ }
+{
+    c.link
 }
