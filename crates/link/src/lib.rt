@@ -105,12 +105,6 @@ fn stopped_here(s: Link, number: u32, field: u32) -> Link
     stopped(number, s.lines + 1, field)
 }
 
-pub fn refusal_of(s: Link) -> Refusal
-    ensures { λ r. ⌜ r ≡ s .refusal ⌝ }
-{
-    s.refusal
-}
-
 // The last two bytes of a number.
 fn low(n: u64) -> u16
     ensures { λ r. ⌜ r ≡ low n ⌝ }

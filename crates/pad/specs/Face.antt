@@ -12,6 +12,7 @@ use Rattle.rules.specs.Reading.{Reading}
 use Rattle.places.specs.declared.Declared.{Declared}
 use Rattle.session.specs.declared.Session.{Session}
 use Rattle.session.specs.Session.{totalsNow}
+use Rattle.link.specs.declared.Closing.{Closing}
 use Rattle.rules.specs.Answers.{noRefusal, Viewing, Judgement, refusalOfReading, recordsOfReading, respeltOfReading, refusalOfView, startOfView, viewed, listedOfView, refusalOfJudgement, totalsOfJudgement, Writing, refusalOfWriting, bytesOfWriting}
 use Rattle.pad.specs.declared.SumpquinceRefusal.{SumpquinceRefusal}
 use Rattle.pad.specs.declared.SumpquinceReading.{SumpquinceReading}
@@ -100,3 +101,10 @@ declaredFace d =
 unfoldable pub sessionFace : Session → SumpquinceJudgement
 unfolding totalsFace refusalFace noRefusal totalsNow
 sessionFace s = totalsFace (refusalFace noRefusal) (totalsNow base s)
+
+-- # The packet link
+
+-- The totals, or zeros behind a refusal.
+unfoldable pub closingFace : Closing → SumpquinceJudgement
+unfolding totalsFace refusalFace
+closingFace c = totalsFace (refusalFace (c .refusal)) (c .totals)

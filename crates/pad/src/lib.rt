@@ -4,13 +4,16 @@
 ghost use mathlib.Core.Path.{_≡_};
 ghost use lib.ListN.{length};
 ghost use Rattle.rules.specs.Rules.{base};
-ghost use Rattle.rules.specs.Reading.{read};
+ghost use Rattle.rules.specs.Reading.{read, refusal};
 ghost use Rattle.rules.specs.Answers.{noRefusal, view, judge, numbersOfJudgement, write, bytesOfWriting, over};
 ghost use Rattle.rules.specs.Mending.{mend, bytesOfMending, kindsOfMending, linesOfMending};
 ghost use Rattle.mender.specs.Answer.{roomsOf};
 ghost use Rattle.session.specs.Session.{givenBack, keptTaken, started, taken, verdictsTaken};
-ghost use Rattle.pad.specs.Face.{declaredFace, refusalFace, oneIf, readingFace, viewFace, totalsFace, judgementFace, writtenFace, mendedFace, sessionFace};
+ghost use Rattle.link.specs.Link.{close, feed, holding, lentOf, stoppedBy};
+ghost use Rattle.pad.specs.Face.{closingFace, declaredFace, refusalFace, oneIf, readingFace, viewFace, totalsFace, judgementFace, writtenFace, mendedFace, sessionFace};
 use judge::Judged;
+use link::Closing;
+use link::Link;
 use mender::MendAnswer;
 use places::Declared;
 use places::ViewRead;
@@ -319,4 +322,57 @@ pub extern "C" fn sumpquince_session_totals(session: Session) -> SumpquinceJudge
     ensures { λ r. ⌜ r ≡ sessionFace session ⌝ }
 {
     totals_face(no_refusal(), session::totals(session))
+}
+
+// # The packet link
+
+fn link_face(s: Link) -> SumpquinceRefusal
+    ensures { λ f. ⌜ f ≡ refusalFace (s .refusal) ⌝ }
+{
+    refusal_face(s.refusal)
+}
+
+fn closing_face(c: Closing) -> SumpquinceJudgement
+    ensures { λ f. ⌜ f ≡ closingFace c ⌝ }
+{
+    totals_face(refusal_face(c.refusal), c.totals)
+}
+
+#[no_mangle]
+pub extern "C" fn sumpquince_link_open(link: &mut Link)
+    ensures { λ r. ⌜ now (link .exit) ≡ stoppedBy (refusal 0 0 0) ⌝ }
+{
+    *link = link::opened();
+}
+
+#[no_mangle]
+pub extern "C" fn sumpquince_link_feed(
+    link: &mut Link,
+    bytes: &[u8],
+    verdicts: &mut [u8],
+    worked: &mut [u8],
+) -> SumpquinceRefusal
+    ensures { λ r. ⌜ (now (link .exit) ≡ (feed base (holding (now (link .entry)) (now (verdicts .entry)) (now (worked .entry))) (now (bytes .entry))) .link)
+        × (now (verdicts .exit) ≡ (feed base (holding (now (link .entry)) (now (verdicts .entry)) (now (worked .entry))) (now (bytes .entry))) .verdicts)
+        × (now (worked .exit) ≡ (feed base (holding (now (link .entry)) (now (verdicts .entry)) (now (worked .entry))) (now (bytes .entry))) .worked)
+        × (r ≡ refusalFace ((feed base (holding (now (link .entry)) (now (verdicts .entry)) (now (worked .entry))) (now (bytes .entry))) .link .refusal)) ⌝ }
+{
+    let t = link::fed(*link, bytes, verdicts, worked);
+    *link = t;
+    link_face(t)
+}
+
+#[no_mangle]
+pub extern "C" fn sumpquince_link_close(
+    link: &mut Link,
+    verdicts: &[u8],
+    worked: &[u8],
+) -> SumpquinceJudgement
+    ensures { λ r. ⌜ (now (link .exit) ≡ (close base (lentOf (length (now (verdicts .entry))) (length (now (worked .entry)))) (now (link .entry))) .link)
+        × (r ≡ closingFace (close base (lentOf (length (now (verdicts .entry))) (length (now (worked .entry)))) (now (link .entry)))) ⌝ }
+{
+    let t = link::closed(*link, verdicts, worked);
+    let s = link::link_of(t);
+    *link = s;
+    closing_face(t)
 }
