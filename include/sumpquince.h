@@ -204,6 +204,21 @@ typedef struct {
 /* How many bytes of the slice `kept` go with each record of a session. */
 #define SUMPQUINCE_KEPT_BYTES 28
 
+/* A link: what of a log came so far, in numbers, and the line that is not finished. It has no pointer and no padding. */
+typedef struct {
+    SumpquinceRefusal refusal;
+    uint32_t count, lines, points;
+    uint16_t credited, voids, duplicates, errors, squares, exchanges, countries;
+    uint16_t modes[SUMPQUINCE_MODES];
+    uint16_t square_bonus, square_multiplier, exchange_bonus, exchange_multiplier, country_bonus, country_multiplier;
+    uint16_t records, done, stage, held;
+    uint8_t returned;
+    uint8_t line[75];
+} SumpquinceLink; /* 156 bytes */
+
+/* How many bytes of the slice `worked` go with each record of a link. */
+#define SUMPQUINCE_WORKED_BYTES 24
+
 /* A verdict is one byte: one of the four classes, and on a credited record the marks that it earns, added. So 96 is a credited record with a new
  * square and a new country. (verdict & SUMPQUINCE_CLASS) is the class. */
 #define SUMPQUINCE_CREDITED 0
@@ -307,6 +322,14 @@ SumpquinceRefusal sumpquince_session_give_back(SumpquinceSession *session, const
 /* The totals of the records now present, as sumpquince_judge tells them of a log with these records and these declared numbers. The refusal is
  * always 0 0 0; of a session that no run of calls can have made every number is 0. */
 SumpquinceJudgement sumpquince_session_totals(SumpquinceSession session);
+
+void sumpquince_link_open(SumpquinceLink *link);
+
+SumpquinceRefusal sumpquince_link_feed(SumpquinceLink *link, const uint8_t *bytes, size_t bytes_len, uint8_t *verdicts, size_t verdicts_len,
+                                       uint8_t *worked, size_t worked_len);
+
+SumpquinceJudgement sumpquince_link_close(SumpquinceLink *link, const uint8_t *verdicts, size_t verdicts_len, const uint8_t *worked,
+                                          size_t worked_len);
 
 #ifdef __cplusplus
 }
