@@ -79,16 +79,33 @@ impl<'a> Entry<'a> {
     }
 }
 
+/// What of a record the credited ones before it have too.
+#[derive(Clone, Copy)]
+pub struct Before {
+    pub call: bool,
+    pub square: bool,
+    pub exchange: bool,
+}
+
+impl Before {
+    fn among(earlier_credited: &[&Entry], entry: &Entry) -> Before {
+        Before {
+            call: earlier_credited.iter().any(|other| other.call == entry.call),
+            square: earlier_credited.iter().any(|other| other.square == entry.square),
+            exchange: earlier_credited.iter().any(|other| other.exchange == entry.exchange),
+        }
+    }
+}
+
 /// W3: "A record with 0 points and no D is void even if its call was credited
 /// before; a duplicate needs points or a claimed D." The claim alone makes no
 /// duplicate: without an earlier credited record of the call there is nothing
 /// to repeat.
-fn class_of(entry: &Entry, earlier_credited: &[&Entry]) -> u8 {
+fn class_of(entry: &Entry, before: Before) -> u8 {
     let claims_a_contact = entry.points != 0 || entry.claims_duplicate;
-    let was_credited = earlier_credited.iter().any(|other| other.call == entry.call);
     if entry.call == fields::ERROR_CALL {
         ERROR
-    } else if was_credited && claims_a_contact {
+    } else if before.call && claims_a_contact {
         DUPLICATE
     } else if entry.points == 0 {
         VOID
@@ -97,15 +114,13 @@ fn class_of(entry: &Entry, earlier_credited: &[&Entry]) -> u8 {
     }
 }
 
-/// The marks of a credited record, given the credited ones before it.
-fn marks_of(entry: &Entry, earlier_credited: &[&Entry]) -> u8 {
+/// The marks of a credited record.
+fn marks_of(entry: &Entry, before: Before) -> u8 {
     let mut marks = 0;
-    let old_exchange = earlier_credited.iter().any(|other| other.exchange == entry.exchange);
-    if !entry.exchange.is_empty() && !old_exchange {
+    if !entry.exchange.is_empty() && !before.exchange {
         marks += NEW_EXCHANGE;
     }
-    let old_square = earlier_credited.iter().any(|other| other.square == entry.square);
-    if !entry.square.is_empty() && !old_square {
+    if !entry.square.is_empty() && !before.square {
         marks += NEW_SQUARE;
     }
     if entry.claims_country {
@@ -114,17 +129,22 @@ fn marks_of(entry: &Entry, earlier_credited: &[&Entry]) -> u8 {
     marks
 }
 
+pub fn verdict_of(entry: &Entry, before: Before) -> u8 {
+    match class_of(entry, before) {
+        CREDITED => CREDITED + marks_of(entry, before),
+        class => class,
+    }
+}
+
 fn verdicts_of(entries: &[Entry]) -> Vec<u8> {
     let mut credited: Vec<&Entry> = Vec::new();
     let mut verdicts = Vec::new();
     for entry in entries {
-        let class = class_of(entry, &credited);
-        if class == CREDITED {
-            verdicts.push(CREDITED + marks_of(entry, &credited));
+        let verdict = verdict_of(entry, Before::among(&credited, entry));
+        if class(verdict) == CREDITED {
             credited.push(entry);
-        } else {
-            verdicts.push(class);
         }
+        verdicts.push(verdict);
     }
     verdicts
 }
@@ -155,8 +175,12 @@ pub struct Rates {
 
 /// The bonus and the multiplier declared under one of the three keywords.
 fn declared(log: &Log, keyword: &str) -> Rate {
-    let text = log.text(log.argument(keyword));
-    let parts: Vec<&[u8]> = text.split(|&b| b == b';').collect();
+    rate_of(log.text(log.argument(keyword)))
+}
+
+/// The bonus and the multiplier in an argument of one of these keywords.
+pub fn rate_of(argument: &[u8]) -> Rate {
+    let parts: Vec<&[u8]> = argument.split(|&b| b == b';').collect();
     let bonus = fields::up_to_9999(parts[1]).expect("a bonus was read");
     let multiplier = fields::multiplier(parts[2]).expect("a multiplier was read");
     Rate { bonus, multiplier }

@@ -11,6 +11,8 @@ pub mod faults;
 pub mod fields;
 pub mod generate;
 pub mod judging;
+pub mod link;
+pub mod links;
 pub mod mending;
 pub mod random;
 pub mod reading;

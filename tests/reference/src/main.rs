@@ -4,8 +4,10 @@
 //! reference desk < LOG                     the desk program's answer
 //! reference trials --count N --seed S      N trials as a binary stream
 //! reference calls --calls M --seed S       M calls in scripts, as another
+//! reference links --links K --seed S       K scripts of a link, as a third
 //! reference show --seed S --index I        the raw log of one trial
 //! reference script --seed S --index I      the calls of one script in words
+//! reference link --seed S --index I        those of one script of a link
 //! reference tags                           every tag, one on a line
 //! ```
 //!
@@ -75,9 +77,36 @@
 //! told where memory that no run of calls made leaves open what is answered; no
 //! call comes behind one of these before the numbers, and the record that was
 //! taken, are altered.
+//!
+//! The stream of `links`, with the same numbers, bytes and answers:
+//!
+//! ```text
+//! stream   8 bytes "SQLINKS1", u64 seed, u32 number of scripts, the scripts
+//! script   u32 index
+//!          bytes tag
+//!          bytes verdicts         what lies in that slice at first
+//!          bytes worked           what lies in that slice at first
+//!          u32 number of steps, the steps
+//! step     u32 kind: 0 alter, 1 open, 2 feed, 3 close; 1 to 3 are calls
+//!   alter  link, u32 number of writes; each write: u32 slice (0 verdicts,
+//!          1 worked), u32 place in it, bytes
+//!   open   told
+//!   feed   lent, bytes piece, told
+//!   close  lent, 12 x u64 totals, 11 x u64 modes, told
+//! lent     u32 verdicts, u32 worked: how much of each slice the call is lent
+//! told     answer, link, u32 place, bytes verdicts, bytes worked
+//! link     156 bytes: the struct
+//! ```
+//!
+//! `told` has the struct after the call, and the verdicts and entries that the
+//! call wrote, for one record after the other from `place` on; all else in the
+//! slices is as it was. The answer of `open`, which answers nothing, is three
+//! zeros. Before the first step byte i of the struct is what the lowest byte of 29
+//! times i is with the bits of 0xA5 turned.
 
 use reference::calls::{script, scripts, tags, Script, Slice, Step, Told, Wrote};
 use reference::generate::{Generator, Trial};
+use reference::links::{self, Links};
 use reference::reading::{KEYWORDS, LONGEST_LOG};
 use reference::session::Numbers;
 use reference::{desk, judge, mend, read, view, write, Lent, Mended, Refusal, Totals};
@@ -85,7 +114,7 @@ use std::io::{self, BufWriter, Read, Write};
 use std::process::ExitCode;
 
 const USAGE: &str =
-    "usage: reference desk | trials --count N --seed S | calls --calls M --seed S | show|script --seed S --index I | tags";
+    "usage: reference desk | trials --count N --seed S | calls --calls M --seed S | links --links K --seed S | show|script|link --seed S --index I | tags";
 
 fn main() -> ExitCode {
     let arguments: Vec<String> = std::env::args().skip(1).collect();
@@ -111,8 +140,14 @@ fn run(arguments: &[String]) -> Result<(), String> {
             let calls = u32::try_from(calls).map_err(|_| "too many calls".to_string())?;
             write_calls(option(arguments, "--seed")?, calls)
         }
+        Some("links") => {
+            let scripts = option(arguments, "--links")?;
+            let scripts = u32::try_from(scripts).map_err(|_| "too many scripts".to_string())?;
+            write_links(option(arguments, "--seed")?, scripts)
+        }
         Some("show") => show(option(arguments, "--seed")?, option(arguments, "--index")?),
         Some("script") => show_script(option(arguments, "--seed")?, option(arguments, "--index")?),
+        Some("link") => show_link(option(arguments, "--seed")?, option(arguments, "--index")?),
         Some("tags") => show_tags(),
         _ => return Err(USAGE.to_string()),
     };
@@ -159,8 +194,25 @@ fn show_script(seed: u64, index: u64) -> io::Result<()> {
     io::stdout().write_all(text.as_bytes())
 }
 
+fn show_link(seed: u64, index: u64) -> io::Result<()> {
+    let script = Links::new(seed).script(index);
+    let mut text = format!("{}, slices of {} and {} bytes\n", script.tag, script.verdicts.len(), script.worked.len());
+    for (step, told) in &script.steps {
+        text += &match step {
+            links::Step::Alter { link, writes } => format!("alter {link:?}, {writes:?}\n"),
+            links::Step::Open => "open".to_string(),
+            links::Step::Feed { piece, lent } => format!("feed \"{}\", lent {} {}", piece.escape_ascii(), lent.verdicts, lent.worked),
+            links::Step::Close { lent } => format!("close, lent {} {}", lent.verdicts, lent.worked),
+        };
+        if let Some(links::Told { answer, verdicts, place, totals, .. }) = told {
+            text += &format!(": {} {} {}, verdicts {verdicts:?} at {place}, total {}\n", answer.number, answer.line, answer.field, totals.total);
+        }
+    }
+    io::stdout().write_all(text.as_bytes())
+}
+
 fn show_tags() -> io::Result<()> {
-    let of_scripts = tags().into_iter().map(str::to_string);
+    let of_scripts = tags().into_iter().chain(links::tags()).map(str::to_string);
     let all: Vec<String> = Generator::new(0).tags().into_iter().chain(of_scripts).collect();
     let text = all.join("\n") + "\n";
     io::stdout().write_all(text.as_bytes())
@@ -208,9 +260,7 @@ fn put_trial(out: &mut impl Write, index: u32, trial: &Trial) -> io::Result<()> 
     let answer = judge(&trial.log, trial.verdicts_len);
     put_answer(out, &answer)?;
     let (totals, verdicts) = answer.unwrap_or((Totals::default(), Vec::new()));
-    for number in totals.as_list().into_iter().chain(totals.modes) {
-        put_u64(out, number)?;
-    }
+    put_totals(out, &totals)?;
     put_bytes(out, &verdicts)?;
 
     let answer = write(&trial.log, trial.output_len);
@@ -288,9 +338,7 @@ fn put_told(out: &mut impl Write, told: &Told) -> io::Result<()> {
             put_u32(out, 0)?;
             put_answer(out, answer)?;
             put_numbers(out, numbers)?;
-            for number in totals.as_list().into_iter().chain(totals.modes) {
-                put_u64(out, number)?;
-            }
+            put_totals(out, totals)?;
             put_u32(out, u32::from(wrote.is_some()))?;
             if let Some(Wrote { place, verdict, kept }) = wrote {
                 put_size(out, *place)?;
@@ -327,6 +375,78 @@ fn listed_bits(log: &[u8]) -> u64 {
 
 fn put_u32(out: &mut impl Write, value: u32) -> io::Result<()> {
     out.write_all(&value.to_le_bytes())
+}
+
+fn write_links(seed: u64, scripts: u32) -> io::Result<()> {
+    let mut out = BufWriter::with_capacity(1 << 16, io::stdout().lock());
+    out.write_all(b"SQLINKS1")?;
+    put_u64(&mut out, seed)?;
+    put_u32(&mut out, scripts)?;
+    let links = Links::new(seed);
+    for index in 0..scripts {
+        put_u32(&mut out, index)?;
+        put_link_script(&mut out, &links.script(u64::from(index)))?;
+    }
+    out.flush()
+}
+
+fn put_link_script(out: &mut impl Write, script: &links::Script) -> io::Result<()> {
+    put_bytes(out, script.tag.as_bytes())?;
+    put_bytes(out, &script.verdicts)?;
+    put_bytes(out, &script.worked)?;
+    put_size(out, script.steps.len())?;
+    for (step, told) in &script.steps {
+        put_link_step(out, step)?;
+        let Some(told) = told else { continue };
+        if let links::Step::Close { .. } = step {
+            put_totals(out, &told.totals)?;
+        }
+        put_link_told(out, told)?;
+    }
+    Ok(())
+}
+
+fn put_link_step(out: &mut impl Write, step: &links::Step) -> io::Result<()> {
+    match step {
+        links::Step::Alter { link, writes } => {
+            put_u32(out, 0)?;
+            out.write_all(&link.as_bytes())?;
+            put_size(out, writes.len())?;
+            for write in writes {
+                put_u32(out, u32::from(write.slice == links::Slice::Worked))?;
+                put_size(out, write.at)?;
+                put_bytes(out, &write.bytes)?;
+            }
+            Ok(())
+        }
+        links::Step::Open => put_u32(out, 1),
+        links::Step::Feed { piece, lent } => {
+            put_u32(out, 2)?;
+            put_size(out, lent.verdicts)?;
+            put_size(out, lent.worked)?;
+            put_bytes(out, piece)
+        }
+        links::Step::Close { lent } => {
+            put_u32(out, 3)?;
+            put_size(out, lent.verdicts)?;
+            put_size(out, lent.worked)
+        }
+    }
+}
+
+fn put_link_told(out: &mut impl Write, told: &links::Told) -> io::Result<()> {
+    let answer = &told.answer;
+    for number in [answer.number, answer.line, answer.field] {
+        put_u32(out, number)?;
+    }
+    out.write_all(&told.link.as_bytes())?;
+    put_size(out, told.place)?;
+    put_bytes(out, &told.verdicts)?;
+    put_bytes(out, &told.worked)
+}
+
+fn put_totals(out: &mut impl Write, totals: &Totals) -> io::Result<()> {
+    totals.as_list().into_iter().chain(totals.modes).try_for_each(|number| put_u64(out, number))
 }
 
 fn put_u64(out: &mut impl Write, value: u64) -> io::Result<()> {

@@ -35,7 +35,7 @@ pub struct Refusal {
 }
 
 impl Refusal {
-    /// A refusal that points at no line: 1, and 7 to 12, and a session's 4.
+    /// A refusal that points at no line: 1, and 7 to 13, and a session's 4.
     pub fn whole(number: u32) -> Refusal {
         Refusal { number, line: 0, field: 0 }
     }
@@ -130,6 +130,11 @@ pub fn read(bytes: &[u8]) -> Result<Log<'_>, Refusal> {
     if bytes.len() > LONGEST_LOG {
         return Err(Refusal::whole(1));
     }
+    read_of_any_length(bytes)
+}
+
+/// Reads a log line by line, however long it is.
+pub fn read_of_any_length(bytes: &[u8]) -> Result<Log<'_>, Refusal> {
     let mut lines = Lines { bytes, position: 0, due: 1 };
     take_fixed_line(&mut lines, IDENTIFIER)?;
     let (keywords, arguments) = take_header(&mut lines)?;
@@ -154,18 +159,26 @@ fn take_header(lines: &mut Lines) -> Result<(Vec<Span>, Vec<Span>), Refusal> {
     let mut arguments = Vec::new();
     for keyword in KEYWORDS {
         let (span, line) = lines.take()?;
-        if !begins_with_keyword(lines.text(span), keyword) {
-            return Err(Refusal::at(3, line));
-        }
+        keyword_line(lines.text(span), keyword).map_err(|number| Refusal::at(number, line))?;
         let equals = span.start + keyword.len();
-        let argument = Span { start: equals + 1, end: span.end };
-        if !argument_holds(keyword, lines.text(argument)) {
-            return Err(Refusal::at(4, line));
-        }
         keywords.push(Span { start: span.start, end: equals });
-        arguments.push(argument);
+        arguments.push(Span { start: equals + 1, end: span.end });
     }
     Ok((keywords, arguments))
+}
+
+/// The argument of a line where this keyword is due, or the number that it is
+/// refused with.
+pub fn keyword_line<'a>(line: &'a [u8], keyword: &str) -> Result<&'a [u8], u32> {
+    if !begins_with_keyword(line, keyword) {
+        return Err(3);
+    }
+    let argument = &line[keyword.len() + 1..];
+    if argument_holds(keyword, argument) {
+        Ok(argument)
+    } else {
+        Err(4)
+    }
 }
 
 /// Whether a line begins with this keyword, each of its letters in either
@@ -188,10 +201,17 @@ fn is_same_letter(one: u8, other: u8) -> bool {
 fn take_remarks_and_count(lines: &mut Lines) -> Result<usize, Refusal> {
     loop {
         let (span, line) = lines.take()?;
-        if let Some(rest) = lines.text(span).strip_prefix(COUNT_START) {
-            return count_value(rest).ok_or(Refusal::at(4, line));
+        if let Some(count) = count_line(lines.text(span)) {
+            return count.map_err(|number| Refusal::at(number, line));
         }
     }
+}
+
+/// What a line behind `[Remarks]` says of the records: nothing if it is a
+/// remark, else how many there are, or the number that it is refused with.
+pub fn count_line(line: &[u8]) -> Option<Result<usize, u32>> {
+    let rest = line.strip_prefix(COUNT_START)?;
+    Some(count_value(rest).ok_or(4))
 }
 
 fn count_value(rest: &[u8]) -> Option<usize> {

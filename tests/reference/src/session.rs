@@ -104,7 +104,8 @@ impl Session {
     }
 }
 
-fn filled(text: &[u8], length: usize) -> Vec<u8> {
+/// A text with zero bytes behind it, up to this length.
+pub fn filled(text: &[u8], length: usize) -> Vec<u8> {
     let mut bytes = text.to_vec();
     bytes.resize(length, 0);
     bytes
