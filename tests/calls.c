@@ -7,7 +7,7 @@
  * A difference is told in a line, 20 of them at most; the rest of its script is left out, since one call rests on those before it. The status is 0
  * where there is no difference, 1 where there is one, and 2 where the stream is broken. */
 #define PROGRAM "calls"
-#include "stream.h"
+#include "script.h"
 
 enum { NUMBERS = 25, DECLARED = 6, CLASSES = 4 };
 enum { ALTER, START, TAKE, GIVE_BACK }; /* what a step does: all but the first are calls */
@@ -21,13 +21,6 @@ enum { CREDITED = DECLARED, VOIDS, DUPLICATES, ERRORS, POINTS, SQUARES, EXCHANGE
 static const char *const number_names[MODES] = {"square_bonus", "square_multiplier", "exchange_bonus", "exchange_multiplier", "country_bonus",
                                                 "country_multiplier", "credited", "voids", "duplicates", "errors", "points", "squares",
                                                 "exchanges", "countries"};
-
-/* Memory to lend, with fences around it that no function may touch, and what should be in it and in them. */
-typedef struct {
-    const char *name;
-    size_t length;
-    uint8_t *block, *wanted;
-} Lent;
 
 typedef struct {
     uint32_t kind, verdicts_len, kept_len;
@@ -47,48 +40,7 @@ typedef struct {
 
 static Lent session, verdicts, kept;
 
-static struct {
-    uint32_t script, call;
-    Bytes tag;
-    const char *function;
-    unsigned long long calls, differences;
-} run;
-
-/* ---- Differences ---- */
-
-static void differ(const char *what, uint64_t got, uint64_t wanted) {
-    run.differences++;
-    if (run.differences > MOST_LINES) return;
-    printf("script %u (%.*s), call %u, %s: %s is %llu and should be %llu\n", run.script, (int)run.tag.length, (const char *)run.tag.at, run.call,
-           run.function, what, (unsigned long long)got, (unsigned long long)wanted);
-}
-
-static void hold(const char *what, uint64_t got, uint64_t wanted) {
-    if (got != wanted) differ(what, got, wanted);
-}
-
-static void hold_refusal(SumpquinceRefusal got, SumpquinceRefusal wanted) {
-    hold("the refusal's number", got.number, wanted.number);
-    hold("the refusal's line", got.line, wanted.line);
-    hold("the refusal's field", got.field, wanted.field);
-}
-
 /* ---- Lent memory ---- */
-
-static Lent lend(const char *name, size_t length) {
-    size_t all = length + 2 * FENCE;
-    Lent lent = {name, length, allocate(all), allocate(all)};
-    for (size_t i = 0; i < all; i++) lent.block[i] = lent.wanted[i] = filling(i - FENCE); /* that of 0 is the first behind a fence */
-    return lent;
-}
-
-static void take_back(Lent *lent) {
-    free(lent->block);
-    free(lent->wanted);
-}
-
-static uint8_t *slice_of(const Lent *lent) { return lent->block + FENCE; }
-static uint8_t *wanted_of(const Lent *lent) { return lent->wanted + FENCE; }
 
 /* The block is aligned for every type, and so is what lies a fence behind its start. */
 static SumpquinceSession *the_session(void) { return (SumpquinceSession *)(void *)slice_of(&session); }
@@ -98,20 +50,6 @@ static void want_numbers(const uint64_t *numbers) { memcpy(wanted_of(&session), 
 static void want_record(uint32_t place, uint8_t verdict, const uint8_t *bytes) {
     wanted_of(&verdicts)[place] = verdict;
     memcpy(wanted_of(&kept) + (size_t)place * SUMPQUINCE_KEPT_BYTES, bytes, SUMPQUINCE_KEPT_BYTES);
-}
-
-/* Holds memory to what should be in it and around it. One line tells of the first wrong byte: the others mostly follow from it. */
-static void hold_slice(const Lent *lent) {
-    size_t all = lent->length + 2 * FENCE, i = 0;
-    if (memcmp(lent->block, lent->wanted, all) == 0) return;
-    while (lent->block[i] == lent->wanted[i]) i++;
-    char what[64];
-    if (i >= FENCE && i - FENCE < lent->length) {
-        snprintf(what, sizeof what, "byte %llu of the %s", (unsigned long long)(i - FENCE), lent->name);
-    } else {
-        snprintf(what, sizeof what, "a byte %s the %s", i < FENCE ? "before" : "after", lent->name);
-    }
-    differ(what, lent->block[i], lent->wanted[i]);
 }
 
 /* The numbers by their names first. */
@@ -139,25 +77,13 @@ static void hold_memory(void) {
 
 /* ---- The stream ---- */
 
-static void take_numbers(uint64_t *numbers, int count) {
-    for (int i = 0; i < count; i++) numbers[i] = take_u64();
-}
-
 /* What the caller sets, in the lent memory and in what should be there alike. */
 static void alter(void) {
     uint64_t numbers[NUMBERS];
     take_numbers(numbers, NUMBERS);
     want_numbers(numbers);
     memcpy(slice_of(&session), numbers, sizeof numbers);
-    for (uint32_t left = take_u32(); left > 0; left--) {
-        const Lent *slice = take_u32() == 0 ? &verdicts : &kept;
-        uint32_t place = take_u32();
-        Bytes bytes = take_bytes();
-        if (place > slice->length || bytes.length > slice->length - place) stop("the stream is broken");
-        memcpy(slice_of(slice) + place, bytes.at, bytes.length);
-        memcpy(wanted_of(slice) + place, bytes.at, bytes.length);
-        free(bytes.at);
-    }
+    take_writes(&verdicts, &kept);
 }
 
 static Step take_call(uint32_t kind) {
@@ -229,18 +155,8 @@ static SumpquinceRefusal call_give_back(const Step *step) {
 static void hold_totals(const uint64_t *totals, const uint64_t *modes) {
     const SumpquinceRefusal none = {0, 0, 0};
     SumpquinceJudgement judgement = sumpquince_session_totals(*the_session());
-    uint64_t got[TOTALS];
-    char what[64];
-    list_totals(&judgement, got);
     hold_refusal(judgement.refusal, none);
-    for (int i = 0; i < TOTALS; i++) {
-        snprintf(what, sizeof what, "the totals' %s", total_names[i]);
-        hold(what, got[i], totals[i]);
-    }
-    for (int i = 0; i < SUMPQUINCE_MODES; i++) {
-        snprintf(what, sizeof what, "the totals' modes[%d]", i);
-        hold(what, judgement.modes[i], modes[i]);
-    }
+    hold_judged(&judgement, totals, modes);
 }
 
 static void hold_all(const Told *told, SumpquinceRefusal answer) {
