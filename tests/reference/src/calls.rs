@@ -97,8 +97,8 @@ struct Pools {
 }
 
 /// Calls and exchanges that differ at their ends alone.
-const CALLS_ALIKE: [&str; 7] = ["OZ1ABCDE/12345", "OZ1ABCDE/12346", "OZ1ABCDE/1234", "OZ1ABCDE", "OZ1ABCDE/", "OZ1ABCD", "DL/OZ1ABCDE/PM"];
-const EXCHANGES_ALIKE: [&str; 6] = ["ABCD", "ABCDE", "ABCDF", "ABCDEF", "ABCDEG", "ABC"];
+pub const CALLS_ALIKE: [&str; 7] = ["OZ1ABCDE/12345", "OZ1ABCDE/12346", "OZ1ABCDE/1234", "OZ1ABCDE", "OZ1ABCDE/", "OZ1ABCD", "DL/OZ1ABCDE/PM"];
+pub const EXCHANGES_ALIKE: [&str; 6] = ["ABCD", "ABCDE", "ABCDF", "ABCDEF", "ABCDEG", "ABC"];
 
 fn pools(random: &mut Random, calls: usize) -> Pools {
     let call = |random: &mut Random| match random.below(4) {

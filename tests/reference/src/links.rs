@@ -2,10 +2,10 @@
 //! the caller's memory after it. Script `index` of `seed` is the same on every
 //! machine.
 
-use crate::calls::filling;
+use crate::calls::{filling, CALLS_ALIKE, EXCHANGES_ALIKE};
 use crate::draft::{self, Draft, Wish};
 use crate::faults;
-use crate::generate::Generator;
+use crate::generate::{damage, Generator};
 use crate::judging::{Entry, Totals};
 use crate::link::{worked_of, Lent, Link, LINK_BYTES, RECORDS_DUE, WORKED_BYTES};
 use crate::random::Random;
@@ -244,7 +244,20 @@ fn good_draft(random: &mut Random) -> Draft {
         1 => Wish { records: random.between(1, 3), calls: 2, compact: true },
         _ => Wish { records: random.below(13), calls: random.between(1, 12), compact: false },
     };
-    draft::draft(random, wish)
+    let mut made = draft::draft(random, wish);
+    if random.chance(30) {
+        make_alike(random, &mut made);
+    }
+    made
+}
+
+/// Calls, squares and exchanges that differ at their ends alone.
+fn make_alike(random: &mut Random, made: &mut Draft) {
+    for record in made.records.iter_mut().filter(|record| record[2] != b"ERROR") {
+        record[2] = random.pick(&CALLS_ALIKE).as_bytes().to_vec();
+        record[8] = random.pick(&EXCHANGES_ALIKE).as_bytes().to_vec();
+        record[9] = random.pick(&["JO65", "JO66", "JO65AA", "JO66AA", "JN65", ""]).as_bytes().to_vec();
+    }
 }
 
 fn good_log(random: &mut Random) -> Vec<u8> {
@@ -281,7 +294,7 @@ fn bad_log(random: &mut Random) -> Vec<u8> {
         return if log.len() < 6_000 { log } else { good_log(random) };
     }
     let mut log = good_log(random);
-    crate::generate::damage(random, &mut log);
+    damage(random, &mut log);
     log
 }
 
@@ -860,23 +873,31 @@ fn every_stage(player: &mut Player) {
 /// Bytes that lines never have, and some that they have.
 const ODD: &[u8] = b"\x00\x01\t\n\r\x1f\x80\x9f\xa0\xff;;; 09AZaz\x7f";
 
-/// A line in the struct, as if it had come, with some of its bytes altered.
-fn hold_line(random: &mut Random, link: &mut Link, line: &[u8]) {
-    let line = &line[..line.len().min(LONGEST_LINE)];
-    link.held = line.len() as u16;
-    link.line[..line.len()].copy_from_slice(line);
-    link.returned = u8::from(random.chance(60));
+/// The front of a line in the struct, as if it had come, with some of its bytes
+/// altered; what is left of the line is yet to come.
+fn hold_front(random: &mut Random, link: &mut Link, line: &[u8]) -> Vec<u8> {
+    let most = line.len().min(LONGEST_LINE);
+    let held = if random.chance(60) { most } else { random.below(most + 1) };
+    link.held = held as u16;
+    link.line[..held].copy_from_slice(&line[..held]);
     for _ in 0..random.between(1, 2) {
-        if !line.is_empty() {
-            link.line[random.below(line.len())] = *random.pick(ODD);
+        if held > 0 {
+            link.line[random.below(held)] = *random.pick(ODD);
         }
     }
+    if held == line.len() && random.chance(60) {
+        link.returned = 1;
+        return b"\n".to_vec();
+    }
+    [&line[held..], b"\r\n"].concat()
 }
 
-/// The rest of a line whose front lies in the struct.
-fn finish(player: &mut Player) {
-    let end = if player.link.returned != 0 { &b"\n"[..] } else { &b"\r\n"[..] };
-    player.feed(end, player.room());
+/// The rest of a line whose front lies in the struct, and at times more.
+fn finish(player: &mut Player, mut rest: Vec<u8>) {
+    if player.random.chance(30) {
+        rest.extend(some_record(player.random));
+    }
+    player.feed(&rest, player.room());
     player.close(player.room());
 }
 
@@ -889,17 +910,14 @@ fn altered_record_line(player: &mut Player) {
     let reached = player.link;
     for _ in 0..player.random.between(4, 10) {
         let mut link = reached;
-        let mut line = some_record(player.random);
-        line.truncate(line.len() - 2);
+        let mut record = draft::plain_record(player.random, b"OZ1AA", false);
         if player.random.chance(30) {
             // The exchange is the one field with nearly any character.
-            let mut record = draft::plain_record(player.random, b"OZ1AA", false);
             record[8] = vec![*player.random.pick(ODD)];
-            line = record.join(&b';');
         }
-        hold_line(player.random, &mut link, &line);
+        let rest = hold_front(player.random, &mut link, &record.join(&b';'));
         player.alter(link, Vec::new());
-        finish(player);
+        finish(player, rest);
     }
 }
 
@@ -914,9 +932,9 @@ fn altered_head_line(player: &mut Player) {
     for _ in 0..player.random.between(4, 12) {
         let stage = if player.random.chance(25) { *player.random.pick(&NEARLY_ANY) } else { player.random.below(39) };
         let mut link = Link { stage: stage as u16, count: 65, lines: stage as u32, ..Link::OPENED };
-        hold_line(player.random, &mut link, &lines[stage]);
+        let rest = hold_front(player.random, &mut link, &lines[stage]);
         player.alter(link, Vec::new());
-        finish(player);
+        finish(player, rest);
     }
 }
 
@@ -1020,7 +1038,10 @@ fn altered_slices(player: &mut Player) {
 /// place where it comes and from there on; and entries that have it no more.
 fn worked_or_not(player: &mut Player) {
     let wish = Wish { records: player.random.between(4, 14), calls: 3, compact: false };
-    let made = draft::draft(player.random, wish);
+    let mut made = draft::draft(player.random, wish);
+    if player.random.chance(50) {
+        make_alike(player.random, &mut made);
+    }
     let (lines, first) = (made.lines(), made.first_record());
     let records = made.records.len();
     let room = enough(player.random, records);
@@ -1063,6 +1084,14 @@ fn full_log(random: &mut Random, calls: usize) -> Vec<u8> {
     draft::draft(random, Wish { records, calls, compact: true }).bytes()
 }
 
+/// At times something is wrong in a log, with many records before it.
+fn perhaps_damaged(random: &mut Random, mut log: Vec<u8>) -> Vec<u8> {
+    if random.chance(40) {
+        damage(random, &mut log);
+    }
+    log
+}
+
 /// In large pieces, and the last bytes one by one.
 fn full(player: &mut Player) {
     let log = full_log(player.random, 2_000);
@@ -1082,12 +1111,14 @@ fn full_in_64(player: &mut Player) {
 fn full_of_repeats(player: &mut Player) {
     let calls = player.random.between(1, 200);
     let log = full_log(player.random, calls);
+    let log = perhaps_damaged(player.random, log);
     play_log(player, &log, &cuts_of(&log, 4_096));
 }
 
 fn some_hundred(player: &mut Player) {
     let wish = Wish { records: player.random.between(50, 400), calls: player.random.between(20, 400), compact: false };
     let log = draft::draft(player.random, wish).bytes();
+    let log = perhaps_damaged(player.random, log);
     let cuts = few_cuts(player.random, &log);
     play_log(player, &log, &cuts);
 }
