@@ -17,10 +17,11 @@ enum { ALTER, OPEN, FEED, CLOSE }; /* what a step does: all but the first are ca
 /* The parts of the struct, where the reference has them. */
 #define PARTS(each)                                                                                                                                  \
     each(refusal.number, 0, 4) each(refusal.line, 4, 4) each(refusal.field, 8, 4) each(count, 12, 4) each(lines, 16, 4) each(points, 20, 4)          \
-        each(credited, 24, 2) each(voids, 26, 2) each(duplicates, 28, 2) each(errors, 30, 2) each(squares, 32, 2) each(exchanges, 34, 2)             \
-            each(countries, 36, 2) each(modes, 38, 22) each(square_bonus, 60, 2) each(square_multiplier, 62, 2) each(exchange_bonus, 64, 2)          \
-                each(exchange_multiplier, 66, 2) each(country_bonus, 68, 2) each(country_multiplier, 70, 2) each(records, 72, 2) each(done, 74, 2)   \
-                    each(stage, 76, 2) each(held, 78, 2) each(returned, 80, 1) each(line, 81, 75)
+    each(credited, 24, 2) each(voids, 26, 2) each(duplicates, 28, 2) each(errors, 30, 2)                                                             \
+    each(squares, 32, 2) each(exchanges, 34, 2) each(countries, 36, 2) each(modes, 38, 22)                                                           \
+    each(square_bonus, 60, 2) each(square_multiplier, 62, 2) each(exchange_bonus, 64, 2) each(exchange_multiplier, 66, 2)                            \
+    each(country_bonus, 68, 2) each(country_multiplier, 70, 2) each(records, 72, 2) each(done, 74, 2) each(stage, 76, 2) each(held, 78, 2)           \
+    each(returned, 80, 1) each(line, 81, 75)
 
 #define IS_THERE(part, at, length)                                                                                                                   \
     _Static_assert(offsetof(SumpquinceLink, part) == (at) && sizeof((SumpquinceLink){0}.part) == (length), "the place of " #part);
@@ -212,9 +213,8 @@ static void try_script(void) {
 }
 
 int main(void) {
-    uint32_t scripts;
     take_name("SQLINKS1");
-    scripts = take_u32();
+    uint32_t scripts = take_u32();
     for (uint32_t left = scripts; left > 0; left--) try_script();
     take_end();
     printf("%u scripts of links, %llu calls, %llu differences\n", scripts, run.calls, run.differences);
