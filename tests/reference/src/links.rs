@@ -264,8 +264,8 @@ fn good_log(random: &mut Random) -> Vec<u8> {
     good_draft(random).bytes()
 }
 
-/// At times every line has as few characters as it can, so that a log is short
-/// enough for many calls.
+/// Empty where it may be, with few records, so that it is short enough for a call
+/// for each of its bytes.
 fn short_log(random: &mut Random) -> Vec<u8> {
     let mut made = good_draft(random);
     made.remarks.truncate(2);
@@ -366,8 +366,8 @@ const SCRIPTS: &[(&str, usize, Play)] = &[
     ("link/cut-short", 6, cut_short),
     ("link/bytes-behind", 4, bytes_behind),
     ("link/opened-in-the-middle", 4, opened_in_the_middle),
-    ("link/near-the-limit", 4, near_the_limit),
-    ("link/settled-at-the-limit", 3, settled_at_the_limit),
+    ("link/near-the-limit", 6, near_the_limit),
+    ("link/settled-at-the-limit", 8, settled_at_the_limit),
     ("slices/short-at-the-count-line", 5, short_at_the_count_line),
     ("slices/short-later", 6, short_later),
     ("slices/any-before-the-count-line", 4, any_before_the_count_line),
@@ -383,7 +383,7 @@ const SCRIPTS: &[(&str, usize, Play)] = &[
     ("altered/record-line", 4, altered_record_line),
     ("altered/head-line", 3, altered_head_line),
     ("altered/behind-the-line", 2, |player| altered(player, alter_behind_the_line)),
-    ("altered/sums", 4, |player| altered(player, alter_sums)),
+    ("altered/sums", 4, sums_run_over),
     ("altered/refusal", 3, |player| altered(player, alter_refusal)),
     ("altered/line-and-field-alone", 2, |player| altered(player, alter_line_and_field)),
     ("altered/all", 6, all_altered),
@@ -452,10 +452,18 @@ impl Links {
     }
 }
 
+fn enough_for(random: &mut Random, log: &[u8]) -> Lent {
+    let records = announced(log).unwrap_or(3);
+    enough(random, records)
+}
+
 /// A log from its opening to its closing and beyond, with slices that suffice.
 fn play_log(player: &mut Player, log: &[u8], cuts: &[usize]) {
-    let records = announced(log).unwrap_or(3);
-    let room = enough(player.random, records);
+    let room = enough_for(player.random, log);
+    play_with(player, log, cuts, room);
+}
+
+fn play_with(player: &mut Player, log: &[u8], cuts: &[usize], room: Lent) {
     player.lend(room);
     player.open();
     player.feed_cut(log, cuts);
@@ -562,7 +570,7 @@ fn long_log(random: &mut Random, length: usize) -> Vec<u8> {
 
 /// The front in large pieces, and the last bytes up to the limit and beyond one
 /// by one, or in a piece that goes over it.
-fn play_long(player: &mut Player, log: &[u8]) {
+fn play_long(player: &mut Player, log: &[u8], room: Lent) {
     let near = LONGEST_LOG - player.random.below(80);
     let size = *player.random.pick(&[4_096, 30_000, 65_535, 65_536]);
     let mut cuts = cuts_of(log, size);
@@ -573,7 +581,7 @@ fn play_long(player: &mut Player, log: &[u8]) {
     }
     cuts.retain(|&cut| cut <= log.len());
     cuts.sort_unstable();
-    play_log(player, log, &cuts);
+    play_with(player, log, &cuts, room);
 }
 
 fn near_the_limit(player: &mut Player) {
@@ -587,7 +595,8 @@ fn near_the_limit(player: &mut Player) {
     if player.random.chance(30) {
         log.extend(player.random.pick(&[&b"\r"[..], b"\n", b"A", b"\r\n", b"\x00\x00"]).iter());
     }
-    play_long(player, &log);
+    let room = enough_for(player.random, &log);
+    play_long(player, &log, room);
 }
 
 /// The byte before the last that is read, that one, or the one behind it is such
@@ -596,22 +605,31 @@ fn near_the_limit(player: &mut Player) {
 fn settled_at_the_limit(player: &mut Player) {
     let mut made = good_draft(player.random);
     let ends_at = LONGEST_LOG - 1 + player.random.below(3);
-    let bad_record = player.random.chance(40);
-    if bad_record {
-        let mut record = draft::plain_record(player.random, b"DK1AA", false);
-        record[player.random.below(15)] = b"?:".to_vec();
-        made.records.push(record);
-    } else if player.random.chance(40) {
-        made.records.clear();
+    let sort = player.random.below(4);
+    match sort {
+        0 | 1 => {
+            let mut record = draft::plain_record(player.random, b"DK1AA", false);
+            record[player.random.below(15)] = b"?:".to_vec();
+            made.records.push(record);
+        }
+        2 => made.records.clear(),
+        _ => {}
     }
     let now = made.bytes().len();
     made.pad(player.random, ends_at - now);
     let mut log = made.bytes();
-    if !bad_record {
-        log[ends_at - 1] = *player.random.pick(b"\n\x00\r;\xff");
+    let mut room = Lent::of(made.records.len());
+    match sort {
+        2 => {
+            // One record is announced, and none is there yet.
+            log[ends_at - b"0]\r\n".len()] = b'1';
+            room = short_by_one(player.random, Lent::of(1));
+        }
+        3 => log[ends_at - 1] = *player.random.pick(b"\n\x00\r;\xff"),
+        _ => {}
     }
     log.extend(some_record(player.random));
-    play_long(player, &log);
+    play_long(player, &log, room);
 }
 
 /// Too little for N when the count line is finished, in any of the two slices.
@@ -687,7 +705,6 @@ fn any_before_the_count_line(player: &mut Player) {
         player.feed(&front[from..to], lent);
         from = to;
     }
-    let mut from = from;
     for to in few_cuts(player.random, &log).into_iter().filter(|&to| to >= count_ends).chain([log.len()]) {
         let lent = Lent {
             verdicts: player.random.between(records, room.verdicts),
@@ -702,10 +719,16 @@ fn any_before_the_count_line(player: &mut Player) {
 
 // ---- Altered ----
 
-/// A log with records, and where its records begin.
+/// A log with records, some of which can bring nothing new, and where its records
+/// begin.
 fn log_with_records(random: &mut Random) -> (Vec<u8>, usize) {
     let wish = Wish { records: random.between(2, 12), calls: random.between(1, 8), compact: false };
-    let made = draft::draft(random, wish);
+    let mut made = draft::draft(random, wish);
+    for record in &mut made.records {
+        if random.chance(30) {
+            [8, 9, 13].into_iter().for_each(|field| record[field].clear());
+        }
+    }
     (made.bytes(), draft::join(&made.lines()[..made.first_record()]).len())
 }
 
@@ -809,8 +832,8 @@ fn alter_behind_the_line(random: &mut Random, link: &mut Link) {
 
 /// Counts on the way from the highest number to zero.
 fn alter_sums(random: &mut Random, link: &mut Link) {
-    let high = |random: &mut Random| u16::MAX - random.below(3) as u16;
-    let all = random.chance(40);
+    let high = |random: &mut Random| u16::MAX - random.below(2) as u16;
+    let all = random.chance(60);
     for number in link.classes.iter_mut().chain(&mut link.modes) {
         if all || random.chance(40) {
             *number = high(random);
@@ -823,6 +846,24 @@ fn alter_sums(random: &mut Random, link: &mut Link) {
     }
     if all || random.chance(60) {
         link.points = u32::MAX - *random.pick(&[0, 1, 100, 999_999, 5_000_000]);
+    }
+}
+
+/// Record by record from there on, so that each sum is seen as it runs over.
+fn sums_run_over(player: &mut Player) {
+    let (log, records_begin) = log_with_records(player.random);
+    player.lend(Lent::of(announced(&log).expect("a count line")));
+    player.open();
+    player.feed(&log[..records_begin], player.room());
+    let reached = player.link;
+    for _ in 0..player.random.between(2, 4) {
+        let mut link = reached;
+        alter_sums(player.random, &mut link);
+        player.alter(link, Vec::new());
+        for record in log[records_begin..].split_inclusive(|&byte| byte == b'\n') {
+            player.feed(record, player.room());
+        }
+        player.close(player.room());
     }
 }
 
