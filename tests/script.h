@@ -1,5 +1,5 @@
-/* What the programs that play scripts of calls share: where a script is, how a difference is told, and memory to lend. Whoever includes this has named
- * itself in PROGRAM. */
+/* What the programs that play scripts of calls share: where a script is, how a difference is told, and memory to lend. Whoever includes this has
+ * named itself in PROGRAM. */
 #include "stream.h"
 
 /* Memory to lend, with fences around it that no function may touch, and what should be in it and in them. */
