@@ -2,9 +2,12 @@
  *
  *     drive read|view|judge|write|mend LOG TIMES
  *     drive take|give-back|totals LOG TIMES
+ *     drive feed-1|feed-64|feed-4096 LOG TIMES
  *
  * The second three are called on a session with the log's records: `take` takes the last of them behind all others, `give-back` gives it back. Since
  * a call changes the session, each works on a copy of it, and all copies are made before the first call, as many for one as for several.
+ *
+ * The last three open a link, feed it the whole log in pieces of so many bytes, the last of which may be shorter, and close it: that is once.
  *
  * Prints the last answer in short, so that whoever counts sees that two libraries did the same work. */
 #include "log.h"
@@ -21,6 +24,7 @@ static uint8_t written[LONGEST_LOG];
 static uint8_t kinds[MOST_CHANGES];
 static uint32_t lines[MOST_CHANGES];
 static SumpquinceSession copies[COPIES];
+static uint8_t worked[MOST_RECORDS * SUMPQUINCE_WORKED_BYTES];
 
 static _Noreturn void stop(const char *why) {
     fprintf(stderr, "drive: %s\n", why);
@@ -110,12 +114,45 @@ static void drive_totals(size_t length, unsigned long long times) {
     show(answer.refusal, "total", answer.total);
 }
 
+static SumpquinceJudgement fed(size_t length, size_t piece) {
+    SumpquinceLink link;
+    sumpquince_link_open(&link);
+    for (size_t at = 0; at < length; at += piece) {
+        size_t left = length - at;
+        sumpquince_link_feed(&link, log_bytes + at, left < piece ? left : piece, verdicts, sizeof verdicts, worked, sizeof worked);
+    }
+    return sumpquince_link_close(&link, verdicts, sizeof verdicts, worked, sizeof worked);
+}
+
+/* A sum that tells one run of bytes from most others. */
+static uint64_t sum_of(const uint8_t *bytes, size_t length) {
+    uint64_t sum = 0;
+    for (size_t i = 0; i < length; i++) sum = sum * 31 + bytes[i];
+    return sum;
+}
+
+static void drive_feed(size_t length, size_t piece, unsigned long long times) {
+    SumpquinceJudgement answer = {{0, 0, 0}, 0, 0, 0, 0, 0, 0, 0, 0, 0, 0, 0, 0, {0}};
+    for (; times > 0; times--) answer = fed(length, piece);
+    show(answer.refusal, "total", answer.total);
+    show(answer.refusal, "credited", answer.credited);
+    show(answer.refusal, "duplicates", answer.duplicates);
+    show(answer.refusal, "exchanges", answer.exchanges);
+    show(answer.refusal, "verdicts", sum_of(verdicts, sizeof verdicts));
+    show(answer.refusal, "worked", sum_of(worked, sizeof worked));
+}
+
+static void drive_feed_1(size_t length, unsigned long long times) { drive_feed(length, 1, times); }
+static void drive_feed_64(size_t length, unsigned long long times) { drive_feed(length, 64, times); }
+static void drive_feed_4096(size_t length, unsigned long long times) { drive_feed(length, 4096, times); }
+
 int main(int count, char **words) {
     static const struct {
         const char *name;
         void (*drive)(size_t, unsigned long long);
-    } functions[] = {{"read", drive_read}, {"view", drive_view}, {"judge", drive_judge},         {"write", drive_write},
-                     {"mend", drive_mend}, {"take", drive_take}, {"give-back", drive_give_back}, {"totals", drive_totals}};
+    } functions[] = {{"read", drive_read},     {"view", drive_view},       {"judge", drive_judge},        {"write", drive_write},
+                     {"mend", drive_mend},     {"take", drive_take},       {"give-back", drive_give_back}, {"totals", drive_totals},
+                     {"feed-1", drive_feed_1}, {"feed-64", drive_feed_64}, {"feed-4096", drive_feed_4096}};
     if (count == 4) {
         for (size_t i = 0; i < sizeof functions / sizeof functions[0]; i++) {
             if (strcmp(words[1], functions[i].name) != 0) continue;
@@ -123,6 +160,6 @@ int main(int count, char **words) {
             return 0;
         }
     }
-    fputs("usage: drive read|view|judge|write|mend|take|give-back|totals LOG TIMES\n", stderr);
+    fputs("usage: drive read|view|judge|write|mend|take|give-back|totals|feed-1|feed-64|feed-4096 LOG TIMES\n", stderr);
     return 2;
 }

@@ -23,7 +23,7 @@ enum { CQSOS = 26, CQSOP, CWWLS, CWWLB, CEXCS, CEXCB, CDXCS, CDXCB, CTOSC };
 enum { DATE, TIME, CALL, MODE, SENT_REPORT, SENT_NUMBER, GOT_REPORT, GOT_NUMBER, EXCHANGE, LOCATOR, POINTS, NEW_EXCHANGE, NEW_SQUARE, NEW_COUNTRY,
        DUPLICATE };
 
-/* Reading and mending share the rules of a line. Each has them in its own code, as it would if it were alone. */
+/* Reading, mending, the session and the link share the rules of a line. Each has them in its own code, as it would if it were alone. */
 #define INLINE inline __attribute__((always_inline))
 #define NOINLINE __attribute__((noinline))
 
@@ -343,17 +343,22 @@ static SumpquinceRefusal read_keyword(Reader *reader, size_t keyword, Log *out) 
 
 static bool is_count_line(Text line) { return line.length >= COUNT_START_LENGTH && memcmp(line.at, COUNT_START, COUNT_START_LENGTH) == 0; }
 
+/* Whether the number of a count line and the `]` behind it follow their rule, and what the number is. */
+static INLINE bool holds_count(Text line, uint64_t *count) {
+    Text rest = {line.at + COUNT_START_LENGTH, line.length - COUNT_START_LENGTH};
+    if (rest.length == 0 || rest.at[rest.length - 1] != ']') return false;
+    rest.length--;
+    return is_number(rest, 3, count);
+}
+
 /* Passes over the remarks, and reads the number of the count line that ends them. */
 static SumpquinceRefusal read_count(Reader *reader, size_t *count) {
     Text line;
     do {
         if (!next_line(reader, &line)) return refuse_line(reader, 2);
     } while (!is_count_line(line));
-    Text rest = {line.at + COUNT_START_LENGTH, line.length - COUNT_START_LENGTH};
-    if (rest.length == 0 || rest.at[rest.length - 1] != ']') return refuse_line(reader, 4);
-    rest.length--;
     uint64_t number;
-    if (!is_number(rest, 3, &number)) return refuse_line(reader, 4);
+    if (!holds_count(line, &number)) return refuse_line(reader, 4);
     *count = (size_t)number;
     return ACCEPTED;
 }
@@ -728,7 +733,8 @@ static Text digits_in(Text line) {
     return digits;
 }
 
-static uint32_t head_fault(Text text, uint32_t number) {
+/* What is wrong with the line of this number, 0 if nothing is, where the identifier, a keyword or the remarks' mark is due. */
+static INLINE uint32_t head_fault(Text text, uint32_t number) {
     Text argument;
     bool respelt;
     if (number == 1) return is_text(text, IDENTIFIER, sizeof IDENTIFIER - 1) ? 0 : 3;
@@ -862,7 +868,7 @@ static bool all_allowed(Text text) {
 }
 
 /* A line comes with no promise of what bytes it has. The exchange is the one field whose rule rests on that: all others name theirs. */
-static uint32_t first_bad_field_of_line(const Text *fields, bool error, uint64_t *points) {
+static INLINE uint32_t first_bad_field_of_line(const Text *fields, bool error, uint64_t *points) {
     uint32_t bad = first_bad_field(fields, error, points);
     if ((bad == 0 || bad > EXCHANGE + 1) && !all_allowed(fields[EXCHANGE])) return EXCHANGE + 1;
     return bad;
@@ -892,25 +898,30 @@ static uint32_t four_bytes(const uint8_t *at) {
     return number;
 }
 
-/* The three searches look for a part of the entry `last`, which stands behind all others, so that each ends there at the latest. Most calls and
- * exchanges differ in the bytes that are compared first. Each search is a function of its own, where the compiler has registers enough. */
-static NOINLINE bool is_known_call(const Kept *entry, const Kept *last) {
-    const uint64_t first = eight_bytes(last->call);
-    while (eight_bytes(entry->call) != first || memcmp(entry->call + 8, last->call + 8, 6) != 0) entry++;
-    return entry != last;
+/* The three searches look for a part of the last entry, which stands behind all others, so that each ends there at the latest. Entries lie `width`
+ * bytes apart. Most calls and exchanges differ in the bytes that are compared first. */
+static INLINE bool finds_call(const uint8_t *call, const uint8_t *last, size_t width) {
+    const uint64_t first = eight_bytes(last);
+    while (eight_bytes(call) != first || memcmp(call + 8, last + 8, 6) != 0) call += width;
+    return call != last;
 }
 
-static NOINLINE bool is_known_square(const Kept *entry, const Kept *last) {
-    const uint32_t square = four_bytes(last->square);
-    while (four_bytes(entry->square) != square) entry++;
-    return entry != last;
+static INLINE bool finds_square(const uint8_t *square, const uint8_t *last, size_t width) {
+    const uint32_t wanted = four_bytes(last);
+    while (four_bytes(square) != wanted) square += width;
+    return square != last;
 }
 
-static NOINLINE bool is_known_exchange(const Kept *entry, const Kept *last) {
-    const uint32_t first = four_bytes(last->exchange);
-    while (four_bytes(entry->exchange) != first || memcmp(entry->exchange + 4, last->exchange + 4, 2) != 0) entry++;
-    return entry != last;
+static INLINE bool finds_exchange(const uint8_t *exchange, const uint8_t *last, size_t width) {
+    const uint32_t first = four_bytes(last);
+    while (four_bytes(exchange) != first || memcmp(exchange + 4, last + 4, 2) != 0) exchange += width;
+    return exchange != last;
 }
+
+/* Each search is a function of its own, where the compiler has registers enough. */
+static NOINLINE bool is_known_call(const Kept *first, const Kept *last) { return finds_call(first->call, last->call, sizeof(Kept)); }
+static NOINLINE bool is_known_square(const Kept *first, const Kept *last) { return finds_square(first->square, last->square, sizeof(Kept)); }
+static NOINLINE bool is_known_exchange(const Kept *first, const Kept *last) { return finds_exchange(first->exchange, last->exchange, sizeof(Kept)); }
 
 static size_t mode_kept(const Kept *entry) { return entry->mode == 0 ? SUMPQUINCE_BLANK_MODE : (size_t)(entry->mode - '0'); }
 
@@ -991,6 +1002,251 @@ static bool uncount_record(SumpquinceSession *session, uint8_t verdict, const Ke
     case SUMPQUINCE_ERROR: return uncount(&session->errors);
     default: return false;
     }
+}
+
+/* ---- The link ---- */
+
+/* What is due of a log: the identifier, keyword number 1 to 36, the remarks' mark, remarks or the count line, and then records or the end. */
+enum { PEXCH_DUE = 5, CWWLS_DUE = 29, CEXCS_DUE = 31, CDXCS_DUE = 33, REMARK_DUE = 38, RECORD_DUE = 39 };
+
+/* What is kept of a credited record, as it lies in the lent slice. Of any other record it is zero. */
+typedef struct {
+    uint8_t call[14], square[SQUARE_LENGTH], exchange[6];
+} Worked;
+_Static_assert(sizeof(Worked) == SUMPQUINCE_WORKED_BYTES && _Alignof(Worked) == 1, "entries lie side by side, wherever the slice begins");
+
+/* The two slices. */
+typedef struct {
+    uint8_t *verdicts;
+    Worked *worked;
+    size_t verdicts_length, worked_length; /* in bytes */
+} Lent;
+
+static NOINLINE bool is_worked_call(const Worked *first, const Worked *last) { return finds_call(first->call, last->call, sizeof(Worked)); }
+static NOINLINE bool is_worked_square(const Worked *first, const Worked *last) { return finds_square(first->square, last->square, sizeof(Worked)); }
+static NOINLINE bool is_worked_exchange(const Worked *first, const Worked *last) {
+    return finds_exchange(first->exchange, last->exchange, sizeof(Worked));
+}
+
+/* Keeps the refusal, and nothing else. */
+static void stop(SumpquinceLink *link, SumpquinceRefusal refusal) {
+    memset(link, 0, sizeof *link);
+    link->refusal = refusal;
+}
+
+static void stop_at_line(SumpquinceLink *link, uint32_t number, uint32_t field) { stop(link, refuse(number, link->lines + 1, field)); }
+
+static bool is_stopped(const SumpquinceLink *link) { return link->refusal.number != 0; }
+
+/* Whether an opening and calls can have made these three numbers. The others do no harm, whatever they are. */
+static bool was_opened(const SumpquinceLink *link) {
+    return link->count <= LONGEST_LOG && link->lines <= link->count && link->held <= LONGEST_LINE;
+}
+
+/* Whether the count line was read, and a slice has too little room for its number. */
+static bool is_short(const SumpquinceLink *link, size_t verdicts_length, size_t worked_length) {
+    return link->stage >= RECORD_DUE && (verdicts_length < link->records || worked_length < link->records * sizeof(Worked));
+}
+
+/* What each call asks before all else. */
+static void ask(SumpquinceLink *link, size_t verdicts_length, size_t worked_length) {
+    if (is_stopped(link)) return;
+    if (!was_opened(link)) {
+        stop(link, refuse(13, 0, 0));
+    } else if (is_short(link, verdicts_length, worked_length)) {
+        stop(link, refuse(7, 0, 0));
+    }
+}
+
+static bool ends_here(const SumpquinceLink *link) { return link->stage >= RECORD_DUE && link->done >= link->records; }
+
+/* The bonus and the multiplier on the line of CWWLs, CExcs or CDXCs, which is known to follow its rule. */
+static void take_rates(Text line, uint16_t *bonus, uint16_t *multiplier) {
+    Text argument = {line.at + KEYWORD_LENGTH + 1, line.length - KEYWORD_LENGTH - 1}, parts[3];
+    uint64_t value = 0;
+    if (!cut(argument, parts, 3)) return;
+    if (is_number(parts[1], 4, &value)) *bonus = (uint16_t)value;
+    if (is_number(parts[2], 2, &value)) *multiplier = (uint16_t)value;
+}
+
+/* A line in front of the remarks. The link's own line may come with any bytes; PExch has the one rule that does not name those that it takes. */
+static void take_head_line(SumpquinceLink *link, Text line) {
+    uint32_t fault = head_fault(line, link->stage + 1u);
+    if (fault == 0 && link->stage == PEXCH_DUE && !all_allowed(line)) fault = 4;
+    if (fault != 0) {
+        stop_at_line(link, fault, 0);
+        return;
+    }
+    if (link->stage == CWWLS_DUE) take_rates(line, &link->square_bonus, &link->square_multiplier);
+    if (link->stage == CEXCS_DUE) take_rates(line, &link->exchange_bonus, &link->exchange_multiplier);
+    if (link->stage == CDXCS_DUE) take_rates(line, &link->country_bonus, &link->country_multiplier);
+    link->stage++;
+}
+
+static void take_remark(SumpquinceLink *link, Text line, const Lent *lent) {
+    uint64_t count;
+    if (!is_count_line(line)) return;
+    if (!holds_count(line, &count)) {
+        stop_at_line(link, 4, 0);
+        return;
+    }
+    link->records = (uint16_t)count;
+    link->done = 0;
+    link->stage = RECORD_DUE;
+    if (is_short(link, lent->verdicts_length, lent->worked_length)) stop(link, refuse(7, 0, 0));
+}
+
+static void put_worked(Worked *entry, const Text *fields) {
+    memset(entry, 0, sizeof *entry);
+    memcpy(entry->call, fields[CALL].at, fields[CALL].length);
+    if (fields[LOCATOR].length != 0) memcpy(entry->square, fields[LOCATOR].at, SQUARE_LENGTH);
+    memcpy(entry->exchange, fields[EXCHANGE].at, fields[EXCHANGE].length);
+}
+
+static uint8_t worked_marks(const Worked *first, const Worked *last, bool new_country) {
+    uint8_t marks = 0;
+    if (last->exchange[0] != 0 && !is_worked_exchange(first, last)) marks |= SUMPQUINCE_NEW_EXCHANGE;
+    if (last->square[0] != 0 && !is_worked_square(first, last)) marks |= SUMPQUINCE_NEW_SQUARE;
+    if (new_country) marks |= SUMPQUINCE_NEW_COUNTRY;
+    return marks;
+}
+
+/* Puts the entry of a record behind those before it, and gives its verdict. */
+static uint8_t judge_worked(const Text *fields, bool error, uint64_t points, const Worked *first, Worked *last) {
+    uint8_t verdict = error ? SUMPQUINCE_ERROR : SUMPQUINCE_VOID;
+    if (!error && (points != 0 || fields[DUPLICATE].length != 0)) {
+        put_worked(last, fields);
+        if (is_worked_call(first, last)) {
+            verdict = SUMPQUINCE_DUPLICATE;
+        } else if (points != 0) {
+            return SUMPQUINCE_CREDITED | worked_marks(first, last, fields[NEW_COUNTRY].length != 0);
+        }
+    }
+    memset(last, 0, sizeof *last);
+    return verdict;
+}
+
+static void count_record(SumpquinceLink *link, uint8_t verdict, uint64_t points, Text mode) {
+    switch (class_of(verdict)) {
+    case SUMPQUINCE_VOID: link->voids++; break;
+    case SUMPQUINCE_DUPLICATE: link->duplicates++; break;
+    case SUMPQUINCE_ERROR: link->errors++; break;
+    default:
+        link->credited++;
+        link->points += (uint32_t)points;
+        link->squares += (verdict & SUMPQUINCE_NEW_SQUARE) != 0;
+        link->exchanges += (verdict & SUMPQUINCE_NEW_EXCHANGE) != 0;
+        link->countries += (verdict & SUMPQUINCE_NEW_COUNTRY) != 0;
+        link->modes[mode.length == 0 ? SUMPQUINCE_BLANK_MODE : mode.at[0] - '0']++;
+    }
+}
+
+static void take_record_line(SumpquinceLink *link, Text line, const Lent *lent) {
+    Text fields[FIELDS];
+    uint64_t points = 0;
+    if (!cut_record(line, fields)) {
+        stop_at_line(link, 5, 0);
+        return;
+    }
+    bool error = is_error_call(fields[CALL]);
+    uint32_t bad = first_bad_field_of_line(fields, error, &points);
+    if (bad != 0) {
+        stop_at_line(link, 5, bad);
+        return;
+    }
+    uint8_t verdict = judge_worked(fields, error, points, lent->worked, lent->worked + link->done);
+    lent->verdicts[link->done] = verdict;
+    count_record(link, verdict, points, fields[MODE]);
+    link->done++;
+}
+
+/* The line is finished: its LF came. */
+static void finish_line(SumpquinceLink *link, Text line, const Lent *lent) {
+    if (link->stage < REMARK_DUE) {
+        take_head_line(link, line);
+    } else if (link->stage == REMARK_DUE) {
+        take_remark(link, line, lent);
+    } else {
+        take_record_line(link, line, lent);
+    }
+    if (is_stopped(link)) return;
+    link->lines++;
+    link->held = 0;
+    link->returned = 0;
+    memset(link->line, 0, sizeof link->line);
+}
+
+/* Takes bytes up to the end of a line, or as many as there are, at least one; says how many. A line that lies there from its first character to its
+ * LF is read where it lies, and of any other the characters are kept. */
+static size_t take_stretch(SumpquinceLink *link, const uint8_t *bytes, size_t length, const Lent *lent) {
+    size_t room = LONGEST_LINE - link->held, most = length < room ? length : room, i = 0;
+    while (i < most && is_between(bytes[i], 32, 127)) i++;
+    if (link->held == 0 && length - i >= 2 && bytes[i] == '\r' && bytes[i + 1] == '\n') {
+        Text line = {bytes, i};
+        finish_line(link, line, lent);
+        return i + 2;
+    }
+    memcpy(link->line + link->held, bytes, i);
+    link->held += (uint16_t)i;
+    if (i == length) return i;
+    if (bytes[i] == '\r') {
+        link->returned = 1;
+    } else {
+        stop_at_line(link, 2, 0);
+    }
+    return i + 1;
+}
+
+/* The byte behind the CR of the line that is kept. */
+static void take_feed(SumpquinceLink *link, uint8_t byte, const Lent *lent) {
+    Text line = {link->line, link->held};
+    if (byte == '\n') {
+        finish_line(link, line, lent);
+    } else {
+        stop_at_line(link, 2, 0);
+    }
+}
+
+static void take_bytes(SumpquinceLink *link, const uint8_t *bytes, size_t length, const Lent *lent) {
+    size_t at = 0;
+    while (at < length && !is_stopped(link)) {
+        if (ends_here(link)) {
+            stop_at_line(link, 6, 0);
+        } else if (link->returned != 0) {
+            take_feed(link, bytes[at++], lent);
+        } else {
+            at += take_stretch(link, bytes + at, length - at, lent);
+        }
+    }
+}
+
+/* Why a log that ends here is refused, 0 if it is not. */
+static uint32_t end_fault(const SumpquinceLink *link) {
+    bool begun = link->held != 0 || link->returned != 0;
+    if (link->stage < RECORD_DUE) return 2;
+    if (ends_here(link)) return begun ? 6 : 0;
+    return begun ? 2 : 6;
+}
+
+/* A link's numbers as those of a session, which asks whether they can be those of some records. */
+static SumpquinceSession session_of(const SumpquinceLink *link) {
+    SumpquinceSession session = {link->square_bonus,
+                                 link->square_multiplier,
+                                 link->exchange_bonus,
+                                 link->exchange_multiplier,
+                                 link->country_bonus,
+                                 link->country_multiplier,
+                                 link->credited,
+                                 link->voids,
+                                 link->duplicates,
+                                 link->errors,
+                                 link->points,
+                                 link->squares,
+                                 link->exchanges,
+                                 link->countries,
+                                 {0}};
+    for (size_t i = 0; i < SUMPQUINCE_MODES; i++) session.modes[i] = link->modes[i];
+    return session;
 }
 
 /* ---- The face ---- */
@@ -1131,5 +1387,37 @@ SumpquinceJudgement sumpquince_session_totals(SumpquinceSession session) {
     answer.total = (session.points + answer.square_bonus + answer.exchange_bonus + answer.country_bonus) * session.square_multiplier *
                    session.exchange_multiplier * session.country_multiplier;
     memcpy(answer.modes, session.modes, sizeof answer.modes);
+    return answer;
+}
+
+void sumpquince_link_open(SumpquinceLink *link) { memset(link, 0, sizeof *link); }
+
+SumpquinceRefusal sumpquince_link_feed(SumpquinceLink *link, const uint8_t *bytes, size_t bytes_len, uint8_t *verdicts, size_t verdicts_len,
+                                       uint8_t *worked, size_t worked_len) {
+    ask(link, verdicts_len, worked_len);
+    if (is_stopped(link)) return link->refusal;
+    const Lent lent = {verdicts, (Worked *)worked, verdicts_len, worked_len};
+    size_t room = LONGEST_LOG - link->count, length = bytes_len < room ? bytes_len : room;
+    link->count += (uint32_t)length;
+    take_bytes(link, bytes, length, &lent);
+    if (length < bytes_len && !is_stopped(link)) stop(link, refuse(1, 0, 0));
+    return link->refusal;
+}
+
+SumpquinceJudgement sumpquince_link_close(SumpquinceLink *link, const uint8_t *verdicts, size_t verdicts_len, const uint8_t *worked,
+                                          size_t worked_len) {
+    SumpquinceJudgement answer = {ACCEPTED, 0, 0, 0, 0, 0, 0, 0, 0, 0, 0, 0, 0, {0}};
+    (void)verdicts, (void)worked;
+    ask(link, verdicts_len, worked_len);
+    if (!is_stopped(link)) {
+        uint32_t fault = end_fault(link);
+        if (fault == 0) {
+            answer = sumpquince_session_totals(session_of(link));
+            stop(link, refuse(13, 0, 0));
+            return answer;
+        }
+        stop_at_line(link, fault, 0);
+    }
+    answer.refusal = link->refusal;
     return answer;
 }
