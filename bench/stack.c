@@ -1,4 +1,4 @@
-/* Tells how many bytes of stack each function of sumpquince.h takes on one log, and on a session with its records.
+/* Tells how many bytes of stack each function of sumpquince.h takes on one log, on a session with its records, and on a link that it comes over.
  *
  *     stack LOG
  *
@@ -17,6 +17,8 @@ static uint8_t answer[256];
 static uint8_t written[LONGEST_LOG];
 static uint8_t kinds[MOST_CHANGES];
 static uint32_t lines[MOST_CHANGES];
+static uint8_t worked[MOST_RECORDS * SUMPQUINCE_WORKED_BYTES];
+static SumpquinceLink lent; /* the one that a function is lent */
 
 /* The parameters of a function: what is in registers, and what is on the stack, as the 25 numbers of a session. By the calling convention of x86-64
  * Linux an answer of more than two words is written to where the first register points, and a struct of more than two is a parameter on the stack. A
@@ -90,6 +92,36 @@ static void show_session(SumpquinceSession session, Line last) {
     show("session_start", (const void *)sumpquince_session_start, starting);
 }
 
+/* A call changes the link, so that it is lent as it was before for each colour. */
+static void show_on(SumpquinceLink before, const char *name, const void *function, Parameters parameters) {
+    lent = before;
+    size_t one = depth(0xA5, function, &parameters);
+    lent = before;
+    size_t other = depth(0x5A, function, &parameters);
+    printf("%s %llu\n", name, (unsigned long long)(one < other ? other : one));
+}
+
+static void show_feed(SumpquinceLink before, size_t start, size_t length) {
+    const Parameters feeding = {{(size_t)&lent, (size_t)(log_bytes + start), length, (size_t)verdicts, sizeof verdicts, (size_t)worked},
+                                {sizeof worked}};
+    show_on(before, "link_feed", (const void *)sumpquince_link_feed, feeding);
+}
+
+/* The log comes whole, so that each line is read where it lies; and cut in two inside its last line, which is then finished where the link keeps it.
+ * What the last call has left is closed. */
+static void show_link(size_t length) {
+    const Parameters opening = {{(size_t)&lent}, {0}};
+    const Parameters closing = {{(size_t)answer, (size_t)&lent, (size_t)verdicts, sizeof verdicts, (size_t)worked, sizeof worked}, {0}};
+    const size_t cut = length < 8 ? 0 : length - 8;
+    SumpquinceLink link;
+    sumpquince_link_open(&link);
+    show_on(link, "link_open", (const void *)sumpquince_link_open, opening);
+    show_feed(link, 0, length);
+    sumpquince_link_feed(&link, log_bytes, cut, verdicts, sizeof verdicts, worked, sizeof worked);
+    show_feed(link, cut, length - cut);
+    show_on(lent, "link_close", (const void *)sumpquince_link_close, closing);
+}
+
 int main(int count, char **words) {
     if (count != 2) {
         fputs("usage: stack LOG\n", stderr);
@@ -99,6 +131,7 @@ int main(int count, char **words) {
     Line last;
     size_t length = load(words[1]);
     show_log(length);
+    show_link(length);
     if (session_without_last(length, &session, &last)) show_session(session, last);
     return 0;
 }
