@@ -1,6 +1,6 @@
 /* Tries what include/sumpquince.h says of its shapes and of empty slices: that the structs have the sizes that it gives, that the modes of a
- * judgement and the numbers of a session lie where it says and add up, that a slice of length 0 may have a null pointer, for each function and each
- * of its slices, and that a session that no run of calls can have made is answered.
+ * judgement and the numbers of a session and of a link lie where it says and add up, that a slice of length 0 may have a null pointer, for each
+ * function and each of its slices, and that a session or a link that no run of calls can have made is answered.
  *
  *     face < LOG
  *
@@ -8,6 +8,7 @@
  * 2 where the log is of no use. */
 #include "sumpquince.h"
 
+#include <stdbool.h>
 #include <stdio.h>
 #include <string.h>
 
@@ -19,11 +20,12 @@ _Static_assert(sizeof(SumpquinceWritten) == 24 && _Alignof(SumpquinceWritten) ==
 _Static_assert(sizeof(SumpquinceMended) == 32 && _Alignof(SumpquinceMended) == 8, "a log that was mended");
 _Static_assert(sizeof(SumpquinceDeclared) == 24 && _Alignof(SumpquinceDeclared) == 4, "what a session is started with");
 _Static_assert(sizeof(SumpquinceSession) == 200 && _Alignof(SumpquinceSession) == 8, "a session");
+_Static_assert(sizeof(SumpquinceLink) == 156 && _Alignof(SumpquinceLink) == 4, "a link");
 
 enum { LONGEST_LOG = 65535, MOST_RECORDS = 999, MOST_CHANGES = 32767 };
 
 static uint8_t log[LONGEST_LOG], none[LONGEST_LOG], verdicts[MOST_RECORDS], out[LONGEST_LOG], kinds[MOST_CHANGES];
-static uint8_t kept[MOST_RECORDS * SUMPQUINCE_KEPT_BYTES];
+static uint8_t kept[MOST_RECORDS * SUMPQUINCE_KEPT_BYTES], worked[MOST_RECORDS * SUMPQUINCE_WORKED_BYTES + 1];
 static uint32_t lines[MOST_CHANGES];
 static int tries, differences;
 
@@ -220,6 +222,168 @@ static void try_impossible_sessions(const uint8_t *line, size_t length) {
     }
 }
 
+static size_t place_in_link(const SumpquinceLink *link, const void *part) { return (size_t)((const uint8_t *)part - (const uint8_t *)link); }
+
+static void try_link_shape(void) {
+    SumpquinceLink link;
+    sumpquince_link_open(&link);
+    hold("the place of a link's refusal", place_in_link(&link, &link.refusal), 0);
+    hold("the place of its count of bytes", place_in_link(&link, &link.count), 12);
+    hold("the place of its lines", place_in_link(&link, &link.lines), 16);
+    hold("the place of its points", place_in_link(&link, &link.points), 20);
+    hold("the place of its credited records", place_in_link(&link, &link.credited), 24);
+    hold("the place of its first mode", place_in_link(&link, &link.modes[0]), 38);
+    hold("the place of its blank mode", place_in_link(&link, &link.modes[SUMPQUINCE_BLANK_MODE]), 58);
+    hold("the place of its first declared number", place_in_link(&link, &link.square_bonus), 60);
+    hold("the place of its records", place_in_link(&link, &link.records), 72);
+    hold("the place of its stage", place_in_link(&link, &link.stage), 76);
+    hold("the place of its CR", place_in_link(&link, &link.returned), 80);
+    hold("the place of its line", place_in_link(&link, &link.line[0]), 81);
+}
+
+/* All bytes are zero behind the refusal. */
+static bool keeps_nothing_else(const SumpquinceLink *link) {
+    const uint8_t *bytes = (const uint8_t *)link;
+    for (size_t i = sizeof link->refusal; i < sizeof *link; i++) {
+        if (bytes[i] != 0) return false;
+    }
+    return true;
+}
+
+static SumpquinceRefusal feed(SumpquinceLink *link, size_t from, size_t to) {
+    return sumpquince_link_feed(link, log + from, to - from, verdicts, sizeof verdicts, worked, sizeof worked);
+}
+
+static SumpquinceJudgement close_link(SumpquinceLink *link) { return sumpquince_link_close(link, verdicts, sizeof verdicts, worked, sizeof worked); }
+
+/* A log that comes in two pieces, over a link that held something else, is counted where the header has it; the closing tells what judging tells. */
+static void try_link(size_t length) {
+    const SumpquinceReading reading = sumpquince_read(log, length);
+    const SumpquinceJudgement judgement = sumpquince_judge(log, length, verdicts, sizeof verdicts);
+    SumpquinceLink link;
+    memset(&link, 0xFF, sizeof link);
+    sumpquince_link_open(&link);
+    hold("the refusal of an opened link", digits(link.refusal), 0);
+    hold("whether it has a byte that is not zero", !keeps_nothing_else(&link), 0);
+    hold("the refusal of a piece", digits(feed(&link, 0, length - 1)), 0);
+    hold("whether its last CR is kept", link.returned, 1);
+    hold("the first character of its last line", link.line[0], log[length - 2 - link.held]);
+    hold("the refusal of a last byte", digits(feed(&link, length - 1, length)), 0);
+    hold("the bytes that came", link.count, length);
+    hold("the records announced", link.records, reading.records);
+    hold("the records taken", link.done, reading.records);
+    hold("the credited records", link.credited, judgement.credited);
+    hold("their points", link.points, judgement.points);
+    hold("their blank modes", link.modes[SUMPQUINCE_BLANK_MODE], judgement.modes[SUMPQUINCE_BLANK_MODE]);
+    hold("the characters that are kept", link.held, 0);
+    hold("the first of them", link.line[0], 0);
+    const SumpquinceJudgement closing = close_link(&link);
+    const size_t totals = sizeof closing - (size_t)((const uint8_t *)&closing.credited - (const uint8_t *)&closing);
+    hold("the refusal of the closing", digits(closing.refusal), 0);
+    hold("whether it tells other totals than judging", memcmp(&closing.credited, &judgement.credited, totals) != 0, 0);
+    hold("the refusal that it keeps", digits(link.refusal), 1300);
+    hold("whether it keeps anything else", !keeps_nothing_else(&link), 0);
+    hold("the refusal of a byte behind it", digits(feed(&link, 0, 1)), 1300);
+    hold("the refusal of closing again", digits(close_link(&link).refusal), 1300);
+}
+
+static SumpquinceRefusal feed_without_slices(SumpquinceLink *link, const uint8_t *bytes, size_t length) {
+    return sumpquince_link_feed(link, bytes, length, NULL, 0, NULL, 0);
+}
+
+/* Slices may be missing up to a count line, and behind it too where it announces no records. */
+static void try_link_with_no_records(size_t length) {
+    const size_t shorter = without_records(length);
+    SumpquinceLink link;
+    sumpquince_link_open(&link);
+    hold("the refusal of no bytes and no slices", digits(feed_without_slices(&link, NULL, 0)), 0);
+    hold("whether a link is changed by no bytes", !keeps_nothing_else(&link), 0);
+    hold("the refusal of a log with no records", digits(feed_without_slices(&link, none, shorter)), 0);
+    SumpquinceJudgement judgement = sumpquince_link_close(&link, NULL, 0, NULL, 0);
+    hold("the refusal of its closing", digits(judgement.refusal), 0);
+    hold("its total", judgement.total, 0);
+    sumpquince_link_open(&link);
+    judgement = sumpquince_link_close(&link, NULL, 0, NULL, 0);
+    hold("the refusal of closing where nothing came", digits(judgement.refusal), 210);
+    hold("the refusal of closing again", digits(sumpquince_link_close(&link, NULL, 0, NULL, 0).refusal), 210);
+}
+
+/* A link that has read the count line, and is due to take its first record. */
+static SumpquinceLink link_at_records(size_t first) {
+    SumpquinceLink link;
+    sumpquince_link_open(&link);
+    hold("the refusal of a log up to its records", digits(feed(&link, 0, first)), 0);
+    return link;
+}
+
+/* Where records are announced a missing slice is refused: at the count line, before any byte behind it, and in the closing. */
+static void try_link_without_slices(size_t length, size_t first) {
+    SumpquinceLink link;
+    sumpquince_link_open(&link);
+    hold("the refusal of a count line into nothing", digits(feed_without_slices(&link, log, first)), 700);
+    hold("the refusal of slices that come too late", digits(feed(&link, first, length)), 700);
+    sumpquince_link_open(&link);
+    hold("the refusal of a log without verdicts", digits(sumpquince_link_feed(&link, log, length, NULL, 0, worked, sizeof worked)), 700);
+    sumpquince_link_open(&link);
+    hold("the refusal of a log without worked bytes", digits(sumpquince_link_feed(&link, log, length, verdicts, sizeof verdicts, NULL, 0)), 700);
+    link = link_at_records(first);
+    hold("the refusal of no bytes into nothing", digits(feed_without_slices(&link, NULL, 0)), 700);
+    hold("whether a link keeps more than its refusal", !keeps_nothing_else(&link), 0);
+    link = link_at_records(first);
+    hold("the refusal of a closing with no slices", digits(sumpquince_link_close(&link, NULL, 0, NULL, 0).refusal), 700);
+    hold("the refusal of closing again", digits(close_link(&link).refusal), 700);
+}
+
+/* Slices that are just long enough will do, at any address. */
+static void try_short_slices(size_t length, size_t first) {
+    const size_t records = (size_t)sumpquince_read(log, length).records, bytes = records * SUMPQUINCE_WORKED_BYTES;
+    SumpquinceLink link = link_at_records(first);
+    hold("the refusal of slices that are just long enough",
+         digits(sumpquince_link_feed(&link, log + first, length - first, verdicts, records, worked + 1, bytes)), 0);
+    hold("the refusal of their closing", digits(sumpquince_link_close(&link, verdicts, records, worked + 1, bytes).refusal), 0);
+    link = link_at_records(first);
+    hold("the refusal of a verdict too few", digits(sumpquince_link_feed(&link, NULL, 0, verdicts, records - 1, worked, bytes)), 700);
+    link = link_at_records(first);
+    hold("the refusal of a worked byte too few", digits(sumpquince_link_close(&link, verdicts, records, worked, bytes - 1).refusal), 700);
+}
+
+/* More bytes than a log has, more lines than bytes, and more characters than a line has: what each call tells of such a link, it keeps. */
+static void try_impossible_links(void) {
+    for (int i = 0; i < 3; i++) {
+        SumpquinceLink links[2];
+        memset(links, 0, sizeof links);
+        links[0].count = i == 0 ? 65536 : 0;
+        links[0].lines = i == 1;
+        links[0].held = i == 2 ? 76 : 0;
+        links[1] = links[0];
+        hold("the refusal of no bytes for an impossible link", digits(feed_without_slices(&links[0], NULL, 0)), 1300);
+        const SumpquinceJudgement judgement = close_link(&links[1]);
+        hold("the refusal of its closing", digits(judgement.refusal), 1300);
+        hold("its total", judgement.total, 0);
+        for (int k = 0; k < 2; k++) {
+            hold("the refusal that it keeps", digits(links[k].refusal), 1300);
+            hold("whether it keeps anything else", !keeps_nothing_else(&links[k]), 0);
+        }
+        sumpquince_link_open(&links[0]);
+        hold("whether it is a good one then", digits(feed(&links[0], 0, 1)), 0);
+    }
+}
+
+/* Numbers that are answered, though no bytes can have made them: as many bytes as a log has, and a credited record that no line brought. */
+static void try_unlikely_links(void) {
+    SumpquinceLink link;
+    sumpquince_link_open(&link);
+    link.count = LONGEST_LOG;
+    hold("the refusal of no byte behind 65,535", digits(feed(&link, 0, 0)), 0);
+    hold("the refusal of the 65,536th byte", digits(feed(&link, 0, 1)), 100);
+    sumpquince_link_open(&link);
+    link.stage = 39;
+    link.credited = 1;
+    const SumpquinceJudgement judgement = close_link(&link);
+    hold("the refusal of a closing with a record that never came", digits(judgement.refusal), 0);
+    hold("its credited records", judgement.credited, 0);
+}
+
 int main(void) {
     size_t length = fread(log, 1, sizeof log, stdin);
     SumpquinceReading reading = sumpquince_read(log, length);
@@ -236,6 +400,13 @@ int main(void) {
     try_session_shape(log + record, record_length);
     try_session_without_slices(log + record, record_length);
     try_impossible_sessions(log + record, record_length);
-    printf("face: %d tries of shapes, null pointers and impossible sessions, %d differences\n", tries, differences);
+    try_link_shape();
+    try_link(length);
+    try_link_with_no_records(length);
+    try_link_without_slices(length, record);
+    try_short_slices(length, record);
+    try_impossible_links();
+    try_unlikely_links();
+    printf("face: %d tries of shapes, null pointers and impossible sessions and links, %d differences\n", tries, differences);
     return differences == 0 ? 0 : 1;
 }
