@@ -1,4 +1,5 @@
-/* Sumpquince: a reader, judge, writer and mender of REG1TEST version 1 contest logs, and a session that judges records as they come.
+/* Sumpquince: a reader, judge, writer and mender of REG1TEST version 1 contest logs, a session that judges records as they come, and a link that
+ * judges a log whose bytes come in pieces.
  *
  * A log is a run of bytes: the line "[REG1TEST;1]", 36 keyword lines, "[Remarks]", any remark lines, "[QSORecords;N]" and N records, each line
  * ended by CR LF. Five functions take such a log where it lies in memory:
@@ -16,24 +17,33 @@
  *     sumpquince_session_give_back   drops the last record
  *     sumpquince_session_totals      the totals of the records now present
  *
- * Each either accepts or refuses. A refusal says why by a number, a line and a field; all other numbers of the answer are then 0, and no byte
- * of the memory that was lent for results has been changed; a session that refuses keeps its totals. Every input gets an answer: there is nothing to
- * check before a call, but for what stands under "Pointers".
+ * Three more judge a log that comes in pieces, as over a packet link, wherever it is cut, so that it need not lie in memory as a whole:
+ *
+ *     sumpquince_link_open    begins anew, with no byte
+ *     sumpquince_link_feed    takes the bytes that come next, and judges the records that they finish
+ *     sumpquince_link_close   no more bytes come: the totals
+ *
+ * Each either accepts or refuses, but for sumpquince_link_open, which has nothing to refuse. A refusal says why by a number, a line and a field; all
+ * other numbers of the answer are then 0, and no byte of the memory that was lent for results has been changed; a session that refuses keeps its
+ * totals. A link is different in this: it keeps its refusal, to tell it in each further call, and what it wrote of the records in front of the
+ * refusal stays. Every input gets an answer: there is nothing to check before a call, but for what stands under "Pointers".
  *
  * Keywords: a keyword is read with each of its letters in either case, so that "SAnth" and "santh" are both SAntH. Its listed spelling is the one in
  * the list at sumpquince_view. All else stands as it is given here, letter for letter.
  *
  * Sizes: a log has at most 65,535 bytes and at most 999 records, and a log that is written or mended has at most 65,535 bytes. A longer log may be
- * handed over; it is refused with number 1. A session has at most 999 records: the 1,000th is refused with number 11.
+ * handed over; it is refused with number 1, over a link by its 65,536th byte, unless a byte before that is refused. A session has at most 999
+ * records: the 1,000th is refused with number 11.
  *
  * Pointers: a pointer must be valid for its length. Where the length is 0 it may be NULL, since nothing is then read or written through it. Bytes
- * need no alignment; `lines` of sumpquince_mend is aligned as uint32_t is, and a session as uint64_t is. The log, a record's line, a session and the
- * slices that are lent must not overlap. The functions read the `log_len` bytes at `log` and no others, or the `line_len` bytes at `line`, never
- * write to them, and write nowhere but in the session and the lent slices. `session` is never NULL.
+ * need no alignment; `lines` of sumpquince_mend and a link are aligned as uint32_t is, and a session as uint64_t is. The log, a piece of one, a
+ * record's line, a session, a link and the slices that are lent must not overlap. The functions read the `log_len` bytes at `log` and no others, or
+ * the `line_len` bytes at `line`, or the `bytes_len` bytes at `bytes`, never write to them, and write nowhere but in the session, the link and the
+ * lent slices. `session` and `link` are never NULL.
  *
  * State: the functions allocate nothing, keep nothing between calls, and have no variables outside the stack. So they may be called from several
- * threads at once and from a signal handler, as long as no slice and no session that one of them writes is used by another call or thread at the
- * time. What a session knows is in the caller's memory alone: in its struct and in the two slices that go with it.
+ * threads at once and from a signal handler, as long as no slice, no session and no link that one of them writes is used by another call or thread at
+ * the time. What a session or a link knows is in the caller's memory alone: in its struct and in the two slices that go with it.
  *
  * The library, target/staticlib/libpad.a, is built by `rt staticlib pad`. It is for x86-64 and the calling convention of System V (Linux), uses no
  * instruction beyond those that every x86-64 processor has, and may be loaded at any address. Of C it needs
@@ -43,7 +53,8 @@
  * and nothing else: no other function, no start-up code, no file, no clock.
  *
  * Bytes of flash and of stack, as `bench/sizes` measures them of the library as the kit builds it. Flash is the code and the constants that a program
- * takes which calls this function alone; functions share much of it. Stack was measured on logs of 26 and of 999 records, and on sessions of them:
+ * takes which calls this function alone; functions share much of it. Stack was measured on logs of 26 and of 999 records, on sessions of them, and on
+ * links that they came over:
  *
  *                                     flash     stack
  *     sumpquince_read                11,049       824
@@ -55,7 +66,10 @@
  *     sumpquince_session_take         7,092       968
  *     sumpquince_session_give_back    2,071       520
  *     sumpquince_session_totals         858       232
- *     all nine                       32,566
+ *     sumpquince_link_open             TODO      TODO
+ *     sumpquince_link_feed             TODO      TODO
+ *     sumpquince_link_close            TODO      TODO
+ *     all twelve                       TODO
  *
  * No bound of the stack is proved. None of the functions calls itself, so what is measured does not grow with the log.
  */
@@ -91,6 +105,10 @@ extern "C" {
  *     5        taking a record into a session: it breaks a rule                              0                             0 to 15
  *     11       taking a record: the session is full                                          0                             0
  *     12       giving a record back: there is none                                           0                             0
+ *     1        over a link: the 65,536th byte came                                           0                             0
+ *     7        over a link: N is announced, and the slice for verdicts is shorter than N or
+ *              the other one shorter than 24 * N                                             0                             0
+ *     13       over a link: it was closed, and the log accepted; or no opening made it       0                             0
  *
  * Lines are counted from 1, the identifier's. In 5 the field is the first of the record that breaks its rule: 1 date, 2 time, 3 call, 4 mode, 5 sent
  * report, 6 sent number, 7 received report, 8 received number, 9 received exchange, 10 received locator, 11 points, 12 new exchange, 13 new square,
@@ -98,9 +116,13 @@ extern "C" {
  *
  * The first thing wrong is the one reported: 9, then 1, then the lines from the first to the last, and 7, 10 or 8 only of a log that follows the
  * format, 10 before 8. Of an empty log that is number 2 in line 1. In mending, 2 to 6 are about the mended log, whose lines are those of the log that
- * was handed over, and 1 is about either of the two. A session knows no lines, and tells 5 before 11. */
+ * was handed over, and 1 is about either of the two. A session knows no lines, and tells 5 before 11.
+ *
+ * Over a link lines are counted from the first byte that comes. A call tells the refusal that the link keeps, if there is one; then 13, where no
+ * opening made it; then 7, where N was announced before; and only then are its bytes taken, one after the other, up to the first that is refused. So
+ * 1 comes only where none of the 65,535 bytes before is refused, and 7 before anything behind the line "[QSORecords;N]" is looked at. */
 typedef struct {
-    uint32_t number; /* 0 for accepted, or 1 to 12 */
+    uint32_t number; /* 0 for accepted, or 1 to 13 */
     uint32_t line;   /* as in the table above */
     uint32_t field;  /* as in the table above */
 } SumpquinceRefusal; /* 12 bytes */
@@ -132,7 +154,7 @@ typedef struct {
 #define SUMPQUINCE_MODES 11
 #define SUMPQUINCE_BLANK_MODE 10 /* behind the codes 0 to 9 */
 
-/* The answer of sumpquince_judge and of sumpquince_session_totals. Every number is 0 on refusal. */
+/* The answer of sumpquince_judge, of sumpquince_session_totals and of sumpquince_link_close. Every number is 0 on refusal. */
 typedef struct {
     SumpquinceRefusal refusal;
     /* How many records are of each class: they add up to the number of records. */
@@ -204,16 +226,42 @@ typedef struct {
 /* How many bytes of the slice `kept` go with each record of a session. */
 #define SUMPQUINCE_KEPT_BYTES 28
 
-/* A link: what of a log came so far, in numbers, and the line that is not finished. It has no pointer and no padding. */
+/* A link: what has come of a log, in numbers, and the characters of the line that is not finished. It has no pointer and no padding, so it may be
+ * copied, compared and stored as it is; a copy is worth something together with copies of the two slices. The caller declares one, opens it, and
+ * leaves what is in it alone: only reading it is of use. A link whose bytes are all 0 is an opened one. There is nothing to end: a link that is not
+ * wanted any more need not be closed.
+ *
+ * Where the slices suffice, the same bytes make the same link, however they were cut. Once it has refused, it has the refusal, and all else in it is
+ * 0; so it is after a closing that accepted, where the refusal is 13 0 0.
+ *
+ * Whatever bytes are in it, each call answers. Where the number of its refusal is 0, and `count` is over 65,535, `lines` over `count` or `held` over
+ * 75, no opening made the link: feeding or closing it is refused with 13, which it then keeps. Every other link is taken as it stands, even where no
+ * run of calls can have made it:
+ *
+ *     its refusal is told by feeding as it stands, line and field too, and where the number is not 0 by both calls, with no change to anything
+ *     a stage over 39 stands for 39, and a `returned` that is not 0 for 1
+ *     a character outside 32 to 127 makes its field of a record a bad one (5), and breaks the rule of an argument that has one (4)
+ *     a count of 16 bits goes on from 0 behind 65,535, and the points do behind 4,294,967,295
+ *     characters or a CR where nothing more is due are refused by the closing (6)
+ *     a closing that accepts has zero totals where a session with these numbers is one that no run of calls can have made */
 typedef struct {
-    SumpquinceRefusal refusal;
-    uint32_t count, lines, points;
+    SumpquinceRefusal refusal; /* the one that is kept; its number is 0 as long as there is none */
+    uint32_t count;            /* how many bytes have come, 0 to 65,535 */
+    uint32_t lines;            /* how many lines are finished */
+    /* Of the records taken so far, as in a judgement. */
+    uint32_t points;
     uint16_t credited, voids, duplicates, errors, squares, exchanges, countries;
     uint16_t modes[SUMPQUINCE_MODES];
+    /* What CWWLs, CExcs and CDXCs declare, each pair 0 until its line is finished. As in a session, each bonus is that of one. */
     uint16_t square_bonus, square_multiplier, exchange_bonus, exchange_multiplier, country_bonus, country_multiplier;
-    uint16_t records, done, stage, held;
-    uint8_t returned;
-    uint8_t line[75];
+    uint16_t records; /* N, 0 until the line "[QSORecords;N]" is finished */
+    uint16_t done;    /* how many records were taken */
+    /* Which line is due: 0 the identifier, 1 to 36 the keyword of that number, 37 "[Remarks]", 38 a remark or "[QSORecords;N]", 39 a record as long
+     * as `done` is less than `records`, and then none. */
+    uint16_t stage;
+    uint16_t held;    /* how many characters have come of the line that is not finished, 0 to 75 */
+    uint8_t returned; /* 1 where its CR has come too, else 0 */
+    uint8_t line[75]; /* these characters, and zero bytes behind them */
 } SumpquinceLink; /* 156 bytes */
 
 /* How many bytes of the slice `worked` go with each record of a link. */
@@ -323,11 +371,46 @@ SumpquinceRefusal sumpquince_session_give_back(SumpquinceSession *session, const
  * always 0 0 0; of a session that no run of calls can have made every number is 0. */
 SumpquinceJudgement sumpquince_session_totals(SumpquinceSession session);
 
+/* Opens a link: no byte has come, whatever it held before. All its bytes become 0. */
 void sumpquince_link_open(SumpquinceLink *link);
 
+/* Takes the `bytes_len` bytes at `bytes`, those of the log that come next. They may end anywhere, also between CR and LF, and there may be none. The
+ * answer is the refusal that the link then has, 0 0 0 as long as nothing is refused; that does not yet say that the line which is coming will do.
+ *
+ * Where record i, counted from 0, is finished by its LF and breaks no rule, verdicts[i] becomes its verdict, and the 24 bytes from worked[24 * i] on
+ * become what is worked with it: of a credited record its call in 14 bytes, its square, which is the first four characters of its locator, in 4, and
+ * its exchange in 6, each filled up with zero bytes behind; of any other record zero bytes. No call changes any other byte of the two slices. What
+ * `worked` has of the records before is read, so the caller lends the same two slices to each call and leaves what is in them alone. They need not
+ * be cleared before the first record.
+ *
+ * `verdicts_len` and `worked_len` are the lengths of the slices in bytes: 999 and 23,976 are enough for every log. Before the LF of the line
+ * "[QSORecords;N]" they may be of any length. At that LF and in each call behind it, also one without bytes, at least N and 24 * N are asked for.
+ *
+ * Refusals, before any byte is taken: the one that the link keeps, with no change to anything; 13 where no opening made it; 7 where N was announced
+ * in a call before, and a slice is too short for it. Then the bytes are taken, and the first one that is refused is the last one that is looked at,
+ * each by the first of these that is true of it:
+ *
+ *     1         it is the 65,536th
+ *     6         it comes behind the last record
+ *     2         it is neither CR nor of code 32 to 127, or not CR behind 75 characters; or, behind CR, it is not LF
+ *     3, 4, 5   it is the LF of a line that breaks its rule
+ *     7         it is the LF of the line "[QSORecords;N]", and a slice is too short for N
+ *
+ * The link then keeps the refusal, and all else in it is 0. What the slices have of the records that were taken before stays, also of those that this
+ * call took. */
 SumpquinceRefusal sumpquince_link_feed(SumpquinceLink *link, const uint8_t *bytes, size_t bytes_len, uint8_t *verdicts, size_t verdicts_len,
                                        uint8_t *worked, size_t worked_len);
 
+/* Says that no more bytes come, and gives the totals of the log. They are those that sumpquince_judge gives for all the bytes joined, and so are the
+ * refusal and, on acceptance, the verdicts, but for two things: of more than 65,535 bytes sumpquince_judge tells 1 at once, and a link only where
+ * none of the first 65,535 is refused; and sumpquince_judge tells 7 behind all else, of the verdicts alone, and a link at the line "[QSORecords;N]",
+ * of either slice. The two slices are those that were lent before. Nothing in them is read or changed: only their lengths are asked for.
+ *
+ * On acceptance the refusal of the link becomes 13 0 0, and all else in it 0, so that every further call is refused until it is opened again.
+ *
+ * Refusals: the one that the link keeps, with no change to anything; 13 where no opening made it; 7 where N was announced and a slice is too short
+ * for it. Then 2 where the line "[QSORecords;N]" is not finished, or a record's line is begun and not finished; 6 where a record is due and no byte
+ * of it has come. The link then keeps the refusal, and all else in it is 0. */
 SumpquinceJudgement sumpquince_link_close(SumpquinceLink *link, const uint8_t *verdicts, size_t verdicts_len, const uint8_t *worked,
                                           size_t worked_len);
 
