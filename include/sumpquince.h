@@ -392,7 +392,7 @@ void sumpquince_link_open(SumpquinceLink *link);
  *
  *     1         it is the 65,536th
  *     6         it comes behind the last record
- *     2         it is neither CR nor of code 32 to 127, or not CR behind 75 characters; or, behind CR, it is not LF
+ *     2         no CR has come in its line, and it is neither CR nor one of 75 characters of code 32 to 127; or CR has, and it is not LF
  *     3, 4, 5   it is the LF of a line that breaks its rule
  *     7         it is the LF of the line "[QSORecords;N]", and a slice is too short for N
  *
