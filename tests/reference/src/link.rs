@@ -7,10 +7,10 @@
 //! is, is asked of the readers and of judging.
 
 use crate::fields;
-use crate::judging::{class, has_mark, rate_of, verdict_of, Before, Entry, Rate, Totals};
+use crate::judging::{class, has_mark, rate_of, verdict_of, Before, Entry, Rate, Rates, Totals};
 use crate::judging::{CREDITED, DUPLICATE, ERROR, NEW_COUNTRY, NEW_EXCHANGE, NEW_SQUARE, VOID};
 use crate::reading::{count_line, keyword_line, Refusal, IDENTIFIER, KEYWORDS, LONGEST_LINE, LONGEST_LOG, REMARKS_MARK};
-use crate::session::{filled, read_line};
+use crate::session::{filled, read_line, Counts, Numbers};
 
 /// How many bytes the struct has.
 pub const LINK_BYTES: usize = 156;
@@ -330,11 +330,12 @@ impl Link {
         }
     }
 
-    /// The numbers of any struct have totals: a product that no log has runs over.
+    /// A struct whose numbers no run of calls can have made has zero totals, as
+    /// such a session has.
     fn totals(&self) -> Totals {
         let count = |class: u8| u64::from(self.classes[usize::from(class)]);
-        let [square_bonus, square_times, exchange_bonus, exchange_times, country_bonus, country_times] = self.rates.map(u64::from);
-        let mut totals = Totals {
+        let rate = |place: usize| Rate { bonus: self.rates[place].into(), multiplier: self.rates[place + 1].into() };
+        let counts = Counts {
             credited: count(CREDITED),
             voids: count(VOID),
             duplicates: count(DUPLICATE),
@@ -344,14 +345,8 @@ impl Link {
             exchanges: self.exchanges.into(),
             countries: self.countries.into(),
             modes: self.modes.map(u64::from),
-            ..Totals::default()
         };
-        totals.square_bonus = totals.squares * square_bonus;
-        totals.exchange_bonus = totals.exchanges * exchange_bonus;
-        totals.country_bonus = totals.countries * country_bonus;
-        let sum = totals.points + totals.square_bonus + totals.exchange_bonus + totals.country_bonus;
-        totals.total = sum.wrapping_mul(square_times).wrapping_mul(exchange_times).wrapping_mul(country_times);
-        totals
+        Numbers { rates: Rates { squares: rate(0), exchanges: rate(2), countries: rate(4) }, counts }.totals()
     }
 
     /// The numbers of two bytes, in the order of the struct.

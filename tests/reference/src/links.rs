@@ -388,7 +388,7 @@ const SCRIPTS: &[(&str, usize, Play)] = &[
     ("altered/line-and-field-alone", 2, |player| altered(player, alter_line_and_field)),
     ("altered/all", 6, all_altered),
     ("altered/totals", 4, totals_of_any_numbers),
-    ("altered/total-runs-over", 2, total_runs_over),
+    ("altered/totals-out-of-reach", 4, totals_out_of_reach),
 ];
 
 /// These take as long as many others, so they come seldom.
@@ -1015,26 +1015,61 @@ fn all_altered(player: &mut Player) {
 fn totals_of_any_numbers(player: &mut Player) {
     player.lend(Lent::of(3));
     for _ in 0..8 {
-        let mut link = ended(player.random);
-        for place in [1, 3, 5] {
-            link.rates[place] &= 0x1FF;
-        }
+        let link = with_sums(player.random);
         player.alter(link, Vec::new());
         player.close(player.room());
         player.call_on();
     }
 }
 
-fn total_runs_over(player: &mut Player) {
+/// One number is just beyond what the others allow, or all of them are wild.
+fn totals_out_of_reach(player: &mut Player) {
     player.lend(Lent::of(3));
     for _ in 0..8 {
-        let mut link = ended(player.random);
-        for place in [1, 3, 5] {
-            link.rates[place] |= 0xF000;
+        let mut link = with_sums(player.random);
+        let credited = link.classes[0];
+        let place = player.random.below(3);
+        match player.random.below(11) {
+            0 => link.rates[2 * place] = 10_000,
+            1 => link.rates[2 * place + 1] = *player.random.pick(&[0, 100]),
+            2 => link.classes[1] = 1_000 - credited - link.classes[2] - link.classes[3],
+            3 => link.points = u32::from(credited) * 999_999 + 1,
+            4 => link.points = u32::from(credited).saturating_sub(1),
+            5 => link.squares = credited + 1,
+            6 => link.exchanges = credited + 1,
+            7 => link.countries = credited + 1,
+            8 => link.modes[player.random.below(11)] += 1,
+            9 => {
+                link = Link { points: 0, squares: 0, exchanges: 0, countries: 0, modes: [0; 11], ..link };
+                link.classes[0] = 0;
+                link.classes[2] = player.random.below(2) as u16;
+            }
+            _ => link = ended(player.random),
         }
         player.alter(link, Vec::new());
         player.close(player.room());
     }
+}
+
+/// A link whose log is whole, with sums that a log can come to.
+fn with_sums(random: &mut Random) -> Link {
+    let mut link = ended(random);
+    let credited = random.below(400);
+    let duplicates = if credited == 0 { 0 } else { random.below(200) };
+    link.classes = [credited, random.below(200), duplicates, random.below(199)].map(|count| count as u16);
+    link.points = (credited + random.below(credited * 999_998 + 1)) as u32;
+    link.squares = random.below(credited + 1) as u16;
+    link.exchanges = random.below(credited + 1) as u16;
+    link.countries = random.below(credited + 1) as u16;
+    link.modes = [0; 11];
+    for _ in 0..credited {
+        link.modes[random.below(11)] += 1;
+    }
+    for place in [0, 2, 4] {
+        link.rates[place] = random.below(10_000) as u16;
+        link.rates[place + 1] = random.between(1, 99) as u16;
+    }
+    link
 }
 
 fn ended(random: &mut Random) -> Link {
