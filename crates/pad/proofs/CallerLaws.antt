@@ -2,7 +2,7 @@
 -- Assumes nothing.
 use Prim.Native.Nat.{ℕ, _≤_, _<_}
 use native.Mathlib.Omega.{arith}
-use mathlib.Core.Bool.{Bool, true, false}
+use mathlib.Core.Bool.{Bool, true, false, cond}
 use mathlib.Core.Logic.{_⊎_, _↔_, inl, inr, ⊎-elim}
 use mathlib.Core.Path.{_≡_, refl, sym, ap, _∙_}
 use mathlib.Core.List.{List, [], map}
@@ -11,10 +11,11 @@ use lib.ListN.{length, getD, length-map}
 use borrow.Author.Tests.{leb-true, leb-false}
 use Rattle.rules.specs.Text.{Text}
 use Rattle.rules.specs.Rules.{base}
+use Rattle.rules.specs.declared.Refusal.{Refusal}
 use Rattle.rules.specs.declared.Totals.{Totals}
-use Rattle.rules.specs.Judging.{modeNumbers, modesTogether, zeroTotals}
+use Rattle.rules.specs.Judging.{verdictNumber, verdictsOfLog, modeNumbers, modesTogether, zeroTotals}
 use Rattle.rules.specs.Demands.{sumOver, AddUp}
-use Rattle.rules.specs.Reading.{Reading, accepted, refused, read}
+use Rattle.rules.specs.Reading.{Reading, accepted, refused, read, refusal, atRest}
 use Rattle.rules.specs.Answers.{noRefusal, refusalOfJudgement, respeltOfReading, Viewing, seen, unseen, view, listedOfView, Judgement, judged, unjudged, judge, totalsOfJudgement, numbersOfJudgement, Writing, written, unwritten, write, bytesOfWriting, over}
 use Rattle.rules.proofs.Format.{accepted-when-written}
 use Rattle.rules.proofs.Refusals.{refused-reading}
@@ -26,7 +27,11 @@ use Rattle.rules.specs.MendingDemands.{ListIsTooLong}
 use Rattle.rules.proofs.MendingGiven.{given-by-mending, mend-all}
 use Rattle.rules.specs.Session.{session, declaredRule, sessionAfter}
 use Rattle.rules.specs.SessionDemands.{InRange}
-use Rattle.rules.proofs.AllProved.{the-base-session}
+use Rattle.rules.proofs.AllProved.{the-base-session, the-base-link}
+use Rattle.rules.specs.Log.{Log}
+use Rattle.rules.specs.Link.{Lent, isShort, logOf, linkVerdicts}
+use Rattle.rules.specs.Link as Asked
+use Rattle.rules.specs.LinkDemands.{joinedAll, fed, closing, SaysAs}
 use Rattle.rules.proofs.Tests.{clash}
 use Rattle.rules.proofs.SessionLaws.{in-range, range-kept}
 use Rattle.mender.specs.Answer.{roomsOf}
@@ -36,9 +41,13 @@ use Rattle.session.specs.declared.Replied.{Replied}
 use Rattle.session.specs.Session.{totalsNow, started, refusedBy}
 use Rattle.session.specs.Keeping.{Holding, roomOf, Calling, starting, callOf, repliedTo, holdingAfter, holdingAfterAll}
 use Rattle.session.proofs.KeepingLaws.{started-not, started-anew, the-base-session-keeps}
+use Rattle.link.specs.declared.Closing.{Closing}
+use Rattle.link.specs.Link as Over
+use Rattle.link.specs.Keeping.{KeptAsFed}
+use Rattle.link.proofs.FedLaws.{the-link-keeps, base-fits}
 use Rattle.pad.specs.declared.SumpquinceDeclared.{SumpquinceDeclared}
-use Rattle.pad.specs.Face.{refusalFace, oneIf, readingFace, viewFace, totalsFace, judgementFace, writtenFace, mendedFace, declaredFace, sessionFace}
-use Rattle.pad.specs.Caller.{Accepts, ToldByRead, ToldByView, ToldByJudge, ToldByWrite, ListFits, ToldByMend, ToldBySession, ToldByStart, ToldByTotals, AsTheLog, ForTheCaller}
+use Rattle.pad.specs.Face.{refusalFace, oneIf, readingFace, viewFace, totalsFace, judgementFace, writtenFace, mendedFace, declaredFace, sessionFace, closingFace}
+use Rattle.pad.specs.Caller.{refusalIn, Accepts, cameOver, closedOver, AsJoinedUp, ToldByRead, ToldByView, ToldByJudge, ToldByWrite, ListFits, ToldByMend, ToldBySession, ToldByStart, ToldByTotals, AsTheLog, ForTheCaller}
 
 -- # What a refused call leaves
 
@@ -206,6 +215,83 @@ on-the-screen h d cs r =
           );
     }
 
+-- # Over the link
+
+-- Closing adds no verdict and drops none.
+module _ (lent : Lent) where
+  asked-same : (k : Asked.Link) → logOf (Asked.asked lent k) ≡ logOf k
+  unfolding Asked.asked Asked.ifLong Asked.stopped logOf
+  asked-same k = by (Asked.isOpen k) (isShort lent (k .announced))
+    where
+      by : (a b : Bool) → logOf (cond a (cond b (Asked.stopped k (refusal 7 0 0)) k) k) ≡ logOf k
+      by true true = refl
+      by true false = refl
+      by false b = refl
+
+  closed-same : (k : Asked.Link) → linkVerdicts base ((Asked.closedIf base k) .link) ≡ linkVerdicts base k
+  unfolding Asked.closedIf linkVerdicts logOf
+  closed-same k = by (Asked.isOpen k) (atRest (k .due) (Asked.lineOf k) (Asked.restOf k))
+    where
+      by : (a : Bool) (r : Reading) → linkVerdicts base ((cond a (Asked.closedBy base k r) (record { link = k; refusal = k .refusal; totals = zeroTotals })) .link) ≡ linkVerdicts base k
+      by true (accepted log) = unfold Asked.closedBy Asked.stopped in refl
+      by true (refused r) = unfold Asked.closedBy Asked.stopped in refl
+      by false r = refl
+
+  verdicts-same : (k : Asked.Link) → linkVerdicts base ((Asked.close base lent k) .link) ≡ linkVerdicts base k
+  unfolding Asked.close linkVerdicts
+  verdicts-same k =
+      closed-same (Asked.asked lent k) ∙ ap (λ (log : Log). map verdictNumber (verdictsOfLog base log)) (asked-same k)
+
+module _ (ps : List Text) (verdicts worked : List ℕ) where
+  abbrev lends : Lent
+  lends = Over.lentOf (length verdicts) (length worked)
+
+  abbrev joined : Text
+  joined = joinedAll ps
+
+  keeps : KeptAsFed base verdicts worked ps
+  keeps = (the-link-keeps base base-fits) .keptAsFed verdicts worked ps
+
+  cut : Asked.fedAll base lends Asked.opened ps ≡ fed base lends joined
+  cut = (the-base-link .cutAnywhere) lends .any ps
+
+  abbrev closes : Closing
+  closes = let h = cameOver ps verdicts worked in Over.close base (Over.lentBy h) (h .link)
+
+  refusal-is : closes .refusal ≡ (closing base lends joined) .refusal
+  refusal-is = keeps .closes .0 ∙ ap (λ (k : Asked.Link). (Asked.close base lends k) .refusal) cut
+
+  totals-are : closes .totals ≡ (closing base lends joined) .totals
+  totals-are = keeps .closes .1 ∙ ap (λ (k : Asked.Link). (Asked.close base lends k) .totals) cut
+
+  refusal-told : refusalIn ((closedOver ps verdicts worked) .refusal) ≡ (closing base lends joined) .refusal
+  unfolding closingFace totalsFace refusalFace
+  refusal-told = refusal-is
+
+  module _ (j : Judgement) (said : SaysAs base (closing base lends joined) j) where
+    answer-told : closedOver ps verdicts worked ≡ judgementFace j
+    unfolding closingFace judgementFace
+    answer-told = λ i. totalsFace (refusalFace ((refusal-is ∙ said .refusal) i)) ((totals-are ∙ said .totals) i)
+
+    classes-told : Accepts ((closedOver ps verdicts worked) .refusal) → (cameOver ps verdicts worked) .verdicts ≡ over (numbersOfJudgement j) verdicts
+    classes-told a =
+        let number : (closing base lends joined) .refusal .number ≡ 0 = ap (λ (r : Refusal). r .number) (sym refusal-told) ∙ a in
+        keeps .held .verdictsAre
+        ∙ ap (λ (l : List ℕ). over l verdicts) (ap (linkVerdicts base) cut ∙ sym (verdicts-same lends (fed base lends joined)) ∙ said .classes number)
+
+  as-joined-up : AsJoinedUp ps verdicts worked
+  as-joined-up =
+      record {
+        judges = λ short suffice.
+            let j = judge base (length verdicts) joined in
+            let said = (the-base-link .asJoined) lends joined .judges short suffice in
+            (answer-told j said, classes-told j said);
+        tooLong = λ long suffice.
+            let said = (the-base-link .asJoined) lends joined .tooLong long suffice in
+            ((λ r s. refusal-told ∙ said .0 r s), (λ none. refusal-told ∙ said .1 none));
+        tooShort = λ short. refusal-told ∙ (the-base-link .asJoined) lends joined .tooShort short;
+      }
+
 pub for-the-caller : ForTheCaller
 for-the-caller =
     record {
@@ -218,4 +304,6 @@ for-the-caller =
       starting = told-by-start;
       totalling = told-by-totals;
       onTheScreen = on-the-screen;
+      overTheLink = as-joined-up;
+      refusedLink = (the-link-keeps base base-fits) .refusedLeaves;
     }

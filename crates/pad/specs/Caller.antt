@@ -1,7 +1,8 @@
--- What a caller in C may rely on, of any log, any keyword number, any session and any lent slice: demand 1 over the answers of include/sumpquince.h.
+-- What a caller in C may rely on, of any log, any keyword number, any session, any link and any lent slice: demand 1 over the answers of include/sumpquince.h.
 -- Assumes nothing.
-use Prim.Native.Nat.{ℕ, _≤_}
+use Prim.Native.Nat.{ℕ, _≤_, _<_}
 use mathlib.Core.Path.{_≡_}
+use mathlib.Core.Bool.{true, false}
 use mathlib.Core.Logic.{_↔_}
 use mathlib.Core.List.{List, [], map}
 use lib.ListN.{length, take, getD}
@@ -20,11 +21,15 @@ use Rattle.rules.specs.Given.{LineAndField}
 use Rattle.rules.specs.Session.{session, sessionAfter}
 use Rattle.rules.specs.Session.{Session as Records}
 use Rattle.rules.specs.SessionDemands.{InRange}
+use Rattle.rules.specs.Link.{isShort}
+use Rattle.rules.specs.LinkDemands.{joinedAll, Settled, announcedIn, Suffice}
 use Rattle.mender.specs.Answer.{roomsOf}
 use Rattle.judge.specs.Count.{asDeclared}
 use Rattle.session.specs.declared.Session.{Session}
 use Rattle.session.specs.Session.{started}
 use Rattle.session.specs.Keeping.{Holding, roomOf, Calling, starting as begins, callOf, repliedTo, holdingAfter, holdingAfterAll, ToldFor}
+use Rattle.link.specs.Link as Over
+use Rattle.link.specs.Keeping.{opened, heldAfter, RefusedLeaves}
 use Rattle.pad.specs.declared.SumpquinceRefusal.{SumpquinceRefusal}
 use Rattle.pad.specs.declared.SumpquinceReading.{SumpquinceReading}
 use Rattle.pad.specs.declared.SumpquinceView.{SumpquinceView}
@@ -32,7 +37,7 @@ use Rattle.pad.specs.declared.SumpquinceJudgement.{SumpquinceJudgement}
 use Rattle.pad.specs.declared.SumpquinceWritten.{SumpquinceWritten}
 use Rattle.pad.specs.declared.SumpquinceMended.{SumpquinceMended}
 use Rattle.pad.specs.declared.SumpquinceDeclared.{SumpquinceDeclared}
-use Rattle.pad.specs.Face.{refusalFace, readingFace, viewFace, totalsFace, judgementFace, writtenFace, mendedFace, declaredFace, sessionFace}
+use Rattle.pad.specs.Face.{refusalFace, readingFace, viewFace, totalsFace, judgementFace, writtenFace, mendedFace, declaredFace, sessionFace, closingFace}
 
 -- The struct of a refusal, as document 01 has it.
 abbrev pub refusalIn : SumpquinceRefusal → Refusal
@@ -131,6 +136,39 @@ pub record AsTheLog (after : Holding) (s : Records) : Type 0 where
       (sessionFace (after .numbers) ≡ judgementFace (judge base (length slice) t))
       × (take (length (s .records)) (after .verdicts) ≡ numbersOfJudgement (judge base (length slice) t))
 
+-- sumpquince_link_open, then sumpquince_link_feed with each of these pieces: what the caller has, who lends the same two slices to each call.
+abbrev pub cameOver : List Text → List ℕ → List ℕ → Over.Holding
+cameOver ps verdicts worked = heldAfter base (Over.holding opened verdicts worked) ps
+
+-- Then sumpquince_link_close.
+abbrev pub closedOver : List Text → List ℕ → List ℕ → SumpquinceJudgement
+closedOver ps verdicts worked =
+    let h = cameOver ps verdicts worked in
+    closingFace (Over.close base (Over.lentBy h) (h .link))
+
+-- "After the closing call, classes, totals and refusal are those for the joined bytes, wherever they were cut": it tells what sumpquince_judge tells of
+-- them, and the verdicts are those that it writes. "Two exceptions: number 1 comes at the 65,536th byte, unless the bytes before it already settle a
+-- refusal; and a short slice is refused when the count line is read, before any record."
+pub record AsJoinedUp (ps : List Text) (verdicts worked : List ℕ) : Type 0 where
+  pub judges :
+      let s = joinedAll ps in
+      length s ≤ base .longestLog →
+      Suffice (Over.lentOf (length verdicts) (length worked)) (announcedIn base s) →
+      (closedOver ps verdicts worked ≡ judgementFace (judge base (length verdicts) s))
+      × (Accepts ((closedOver ps verdicts worked) .refusal) →
+      (cameOver ps verdicts worked) .verdicts ≡ over (numbersOfJudgement (judge base (length verdicts) s)) verdicts)
+  pub tooLong :
+      let s = joinedAll ps in
+      base .longestLog < length s →
+      let front = take (base .longestLog) s in
+      Suffice (Over.lentOf (length verdicts) (length worked)) (announcedIn base front) →
+      ((r : Refusal) → Settled base front r → refusalIn ((closedOver ps verdicts worked) .refusal) ≡ r)
+      × (((r : Refusal) → Settled base front r → ⊥) → refusalIn ((closedOver ps verdicts worked) .refusal) ≡ refusal 1 0 0)
+  pub tooShort :
+      let front = take (base .longestLog) (joinedAll ps) in
+      isShort (Over.lentOf (length verdicts) (length worked)) (announcedIn base front) ≡ true →
+      refusalIn ((closedOver ps verdicts worked) .refusal) ≡ refusal 7 0 0
+
 -- The answers and the slices are those of the contracts of src/lib.rt.
 pub record ForTheCaller : Type 0 where
   pub reading : (s : Text) → ToldByRead s (readingFace (read base s))
@@ -165,3 +203,5 @@ pub record ForTheCaller : Type 0 where
       AsTheLog
       (holdingAfterAll base (holdingAfter base h (begins (declaredFace d))) cs)
       (sessionAfter base (roomOf h) (session (asDeclared (declaredFace d)) []) (map callOf cs))
+  pub overTheLink : (ps : List Text) (verdicts worked : List ℕ) → AsJoinedUp ps verdicts worked
+  pub refusedLink : (h : Over.Holding) → Over.isOpen (h .link) ≡ false → RefusedLeaves base h
