@@ -20,7 +20,7 @@ static const char *refusal_in_words(uint32_t number) {
     case 4: return "what stands behind the keyword breaks its rule";
     case 5: return "the record breaks a rule";
     case 6: return "the log ends where a record is due, or goes on after the last";
-    default: return "the verdicts do not fit the slice that was lent for them";
+    default: return "a slice that was lent is too short for the records";
     }
 }
 
