@@ -8,13 +8,17 @@ use mathlib.Core.List.{[], _∷_}
 use lib.Dec.{ltb}
 use lib.ListN.{length, take, getD}
 use borrow.Author.Tests.{eq-eqb, not-true, not-false}
+use Rattle.rules.specs.declared.Due.{Due}
+use Rattle.rules.specs.declared.Due.the-variants.{Identifier, Keyword, Remarks, Remark, Record, End}
 use Rattle.rules.specs.Text.{Text, all}
 use Rattle.rules.specs.Rules.{Rules}
-use Rattle.rules.specs.Reading.{refusal}
+use Rattle.rules.specs.Reading.{refusal, Reading, accepted, refused, atRest}
 use Rattle.rules.specs.Link.{Lent, isShort}
 use Rattle.link.specs.declared.Closing.{Closing}
 use Rattle.link.specs.declared.Link.{Link}
-use Rattle.link.specs.Link.{Holding, holding, stoppedBy, isOpen, announced, lentBy, ifLong, withText, onLink, bytesIn, isSound, asked, counted, overrun, taken, feed, unended, ended, close}
+use Rattle.link.specs.Link.{Holding, holding, stoppedBy, isOpen, announced, lentBy, ifLong, withText, onLink, bytesIn, isSound, asked, counted, overrun, taken, feed, unended, lineOf, dueOf, restOf, acceptedBy, endedBy, ended, close}
+use Rattle.link.specs.Piece.{restedBy}
+use Rattle.rules.proofs.Tests.{never, clash}
 use Rattle.link.proofs.ByteLaws.{Buffered, bytes-run}
 use Rattle.link.proofs.TestLaws.{Takes}
 
@@ -38,6 +42,17 @@ module _ (R : Rules) (lent : Lent) (s : Link) where
     unfolding asked ifLong
     asked-well e = rw (o, sound, not-true (isShort lent (announced s)) e)
 
+  -- A call that goes on finds the state as it is, and that is sound.
+  pub asked-on : isOpen (asked R lent s) ≡ true → (asked R lent s ≡ s) × (isSound R s ≡ true)
+  unfolding asked ifLong stoppedBy
+  asked-on e = by (isOpen s) (isSound R s) (isShort lent (announced s)) e refl
+    where
+      by : (a b c : Bool) → isOpen (cond a (cond b (cond c (stoppedBy (refusal 7 0 0)) s) (stoppedBy (refusal 13 0 0))) s) ≡ true → isOpen s ≡ a → (cond a (cond b (cond c (stoppedBy (refusal 7 0 0)) s) (stoppedBy (refusal 13 0 0))) s ≡ s) × (b ≡ true)
+      by true true true g o = never g
+      by true true false g o = (refl, refl)
+      by true false c g o = never g
+      by false b c g o = clash g o
+
 -- # What is answered
 
 module _ (R : Rules) where
@@ -60,13 +75,42 @@ module _ (R : Rules) where
     abbrev closes : Link → Closing
     closes a = cond (isOpen a) (ended R a) (unended a)
 
+    -- The closing refuses, or it says what the end of the bytes means: that is refused, or all is there.
     pub close-by : (a : Link) → asked R lent s ≡ a → isOpen a ≡ false → unended a ≡ close R lent s
     unfolding close
     close-by a e c = ap (λ (b : Bool). cond b (ended R a) (unended a)) (sym c) ∙ ap closes (sym e)
 
-    pub close-on : asked R lent s ≡ s → isOpen s ≡ true → ended R s ≡ close R lent s
+    close-on : (a : Link) → asked R lent s ≡ a → isOpen a ≡ true → ended R a ≡ close R lent s
     unfolding close
-    close-on e o = ap (λ (b : Bool). cond b (ended R s) (unended s)) (sym o) ∙ ap closes (sym e)
+    close-on a e o = ap (λ (b : Bool). cond b (ended R a) (unended a)) (sym o) ∙ ap closes (sym e)
+
+    module _ (a : Link) (is : asked R lent s ≡ a) (o : isOpen a ≡ true) (t : Link) (rests : t ≡ restedBy a (atRest (dueOf a) (lineOf a) (restOf a))) where
+      pub close-unended : isOpen t ≡ false → unended t ≡ close R lent s
+      unfolding ended
+      close-unended c = by (atRest (dueOf a) (lineOf a) (restOf a)) rests ∙ close-on a is o
+        where
+          by : (r : Reading) → t ≡ restedBy a r → unended t ≡ endedBy R a r
+          by (accepted log) e = unfold restedBy in clash (ap isOpen e ∙ o) c
+          by (refused r) e = unfold restedBy endedBy in ap unended e
+
+      -- What is refused there has a number.
+      all-there : (due : Due) (n : ℕ) (u : Text) → isOpen (restedBy a (atRest due n u)) ≡ true → acceptedBy R (restedBy a (atRest due n u)) ≡ endedBy R a (atRest due n u)
+      unfolding restedBy atRest endedBy stoppedBy
+      all-there Identifier n u e = never e
+      all-there (Keyword k) n u e = never e
+      all-there Remarks n u e = never e
+      all-there Remark n u e = never e
+      all-there (Record m) n [] e = never e
+      all-there (Record m) n (c ∷ u) e = never e
+      all-there End n [] e = refl
+      all-there End n (c ∷ u) e = never e
+
+      pub close-accepts : isOpen t ≡ true → acceptedBy R t ≡ close R lent s
+      unfolding ended
+      close-accepts c =
+          ap (acceptedBy R) rests
+          ∙ all-there (dueOf a) (lineOf a) (restOf a) (ap isOpen (sym rests) ∙ c)
+          ∙ close-on a is o
 
 -- # The bytes that are taken
 

@@ -23,10 +23,10 @@ use Rattle.rules.proofs.Tests.{and-l, and-r, never, clash}
 use Rattle.judge.specs.declared.Counts.{Counts}
 use Rattle.judge.specs.Narrow.{noCounts, sumsIn}
 use Rattle.judge.specs.Sums.{totalsKept}
-use Rattle.link.specs.declared.Closing.{Closing}
 use Rattle.link.specs.declared.Rated.{Rated}
 use Rattle.link.specs.declared.Link.{Link}
-use Rattle.link.specs.Link.{noRates, noLine, stoppedBy, lineOf, dueAt, isEnd, announced, begun, declaredIn, lentOf, isSound, unended, restOf, acceptedBy, endedBy, ended}
+use Rattle.link.specs.Link.{noRates, noLine, stoppedBy, lineOf, dueAt, dueOf, isEnd, announced, begun, declaredIn, lentOf, isSound, unended, restOf, acceptedBy}
+use Rattle.link.specs.Piece.{restedBy}
 
 -- A refusal, and nothing else.
 abbrev bare : Refusal → Counts → Rated → Link
@@ -216,34 +216,34 @@ unfolding atRest
 rest-over n [] e = never e
 rest-over n (c ∷ t) e = refl
 
-module _ (R : Rules) (s : Link) where
-  abbrev rests : Due → Closing
-  rests due = endedBy R s (atRest due (lineOf s) (restOf s))
+module _ (s : Link) where
+  abbrev rests : Due → Link
+  rests due = restedBy s (atRest due (lineOf s) (restOf s))
 
-  pub ends-early : s .stage < 39 → unended (stoppedBy (refusal 2 (lineOf s) 0)) ≡ ended R s
-  unfolding ended endedBy atRest
-  ends-early h =
-      early-is (λ due. unended (stoppedBy (refusal 2 (lineOf s) 0)) ≡ rests due) refl (λ k. refl) refl refl (s .stage) (s .records - s .done) h
+  pub rests-early : s .stage < 39 → stoppedBy (refusal 2 (lineOf s) 0) ≡ rests (dueOf s)
+  unfolding restedBy atRest
+  rests-early h =
+      early-is (λ due. stoppedBy (refusal 2 (lineOf s) 0) ≡ rests due) refl (λ k. refl) refl refl (s .stage) (s .records - s .done) h
 
   module _ (late : 39 ≤ s .stage) where
-    pub ends-due : s .done < s .records → (b : Bool) → not (eqb (length (restOf s)) 0) ≡ b → unended (stoppedBy (refusal (cond b 2 6) (lineOf s) 0)) ≡ ended R s
-    unfolding ended endedBy
-    ends-due l b e =
-        ap (endedBy R s) (rest-due (s .records - s .done) (lineOf s) (restOf s) b e)
+    pub rests-due : s .done < s .records → (b : Bool) → not (eqb (length (restOf s)) 0) ≡ b → stoppedBy (refusal (cond b 2 6) (lineOf s) 0) ≡ rests (dueOf s)
+    unfolding restedBy
+    rests-due l b e =
+        ap (restedBy s) (rest-due (s .records - s .done) (lineOf s) (restOf s) b e)
         ∙ ap rests (due-record (s .stage) (s .records) (s .done) (omega (arith, late)) l)
 
-    pub ends-more : s .records ≤ s .done → not (eqb (length (restOf s)) 0) ≡ true → unended (stoppedBy (refusal 6 (lineOf s) 0)) ≡ ended R s
-    unfolding ended endedBy
-    ends-more l e =
-        ap (endedBy R s) (rest-over (lineOf s) (restOf s) e)
+    pub rests-more : s .records ≤ s .done → not (eqb (length (restOf s)) 0) ≡ true → stoppedBy (refusal 6 (lineOf s) 0) ≡ rests (dueOf s)
+    unfolding restedBy
+    rests-more l e =
+        ap (restedBy s) (rest-over (lineOf s) (restOf s) e)
         ∙ ap rests (due-end (s .stage) (s .records) (s .done) (omega (arith, late)) l)
 
-    pub ends-whole : s .records ≤ s .done → not (eqb (length (restOf s)) 0) ≡ false → acceptedBy R s ≡ ended R s
-    unfolding ended endedBy atRest
-    ends-whole l e =
+    pub rests-whole : s .records ≤ s .done → not (eqb (length (restOf s)) 0) ≡ false → s ≡ rests (dueOf s)
+    unfolding restedBy atRest
+    rests-whole l e =
         whole (restOf s) e
         ∙ ap rests (due-end (s .stage) (s .records) (s .done) (omega (arith, late)) l)
       where
-        whole : (t : Text) → not (eqb (length t) 0) ≡ false → acceptedBy R s ≡ endedBy R s (atRest End (lineOf s) t)
+        whole : (t : Text) → not (eqb (length t) 0) ≡ false → s ≡ restedBy s (atRest End (lineOf s) t)
         whole [] g = refl
         whole (c ∷ t) g = clash (some c t) g

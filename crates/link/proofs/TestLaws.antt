@@ -2,7 +2,7 @@
 -- Assumes nothing.
 use Prim.Native.Nat.{ℕ, _+_, _-_, _≤_, _<_}
 use native.Mathlib.Omega.{arith}
-use mathlib.Core.Path.{_≡_, refl, _∙_}
+use mathlib.Core.Path.{_≡_, refl, sym, _∙_}
 use mathlib.Core.Bool.{Bool, true, false, cond, not, _&&_, _||_, and-true}
 use mathlib.Core.List.{List}
 use lib.Dec.{eqb, leb, ltb}
@@ -12,13 +12,13 @@ use Rattle.rules.specs.Text.{Text, allowed, span, begins}
 use Rattle.rules.specs.Rules.{Rules, base}
 use Rattle.rules.specs.Log.{conjunction, crlf}
 use Rattle.rules.specs.Reading.{refusal}
-use Rattle.rules.proofs.Tests.{and-l, and-r}
+use Rattle.rules.proofs.Tests.{and-l, and-r, clash}
 use Rattle.reader.specs.Contact.{between}
 use Rattle.writer.specs.Written.{written}
 use Rattle.judge.specs.Bounds.{mostWorth}
 use Rattle.link.specs.declared.Link.{Link}
 use Rattle.link.specs.Link.{stoppedBy, lineOf, dueOf, isEnd, heldAs}
-use Rattle.link.specs.Piece.{runEnd, isEnded, nextPlace, mayCome, heldOn, takesByte}
+use Rattle.link.specs.Piece.{declares, runEnd, isEnded, nextPlace, mayCome, heldOn, takesByte}
 
 -- # The limits
 
@@ -33,6 +33,30 @@ line-long = refl
 pub worth-fits : (worth : ℕ) → worth ≤ mostWorth base → worth < 4_294_967_296
 unfolding base
 worth-fits worth h = omega (arith, h)
+
+-- # What a line declares
+
+module _ (stage : ℕ) where
+  pub declares-squares : stage ≡ 29 → true ≡ declares stage
+  unfolding declares
+  declares-squares e = rw (eq-eqb stage 29 e)
+
+  pub declares-exchanges : (stage ≡ 29 → ⊥) → stage ≡ 31 → true ≡ declares stage
+  unfolding declares
+  declares-exchanges n e = rw (ne-eqb stage 29 n, eq-eqb stage 31 e)
+
+  pub declares-others : (stage ≡ 29 → ⊥) → (stage ≡ 31 → ⊥) → eqb stage 33 ≡ declares stage
+  unfolding declares
+  declares-others n m = rw (ne-eqb stage 29 n, ne-eqb stage 31 m)
+
+  pub declares-not : declares stage ≡ false → (stage ≡ 29 → ⊥) × (stage ≡ 31 → ⊥) × (stage ≡ 33 → ⊥)
+  declares-not e =
+      let squares : stage ≡ 29 → ⊥ = λ g. clash (sym (declares-squares g)) e in
+      let exchanges : stage ≡ 31 → ⊥ = λ g. clash (sym (declares-exchanges squares g)) e in
+      (squares, exchanges, (λ g. clash (eq-eqb stage 33 g) (declares-others squares exchanges ∙ e)))
+
+  pub declares-countries : declares stage ≡ true → (stage ≡ 29 → ⊥) → (stage ≡ 31 → ⊥) → stage ≡ 33
+  declares-countries e n m = eqb-true stage 33 (declares-others n m ∙ e)
 
 -- # Places
 

@@ -1,4 +1,4 @@
--- A piece of a log as the code takes it: run by run of characters, each up to the end of a line or of the piece.
+-- A piece of a log as the code takes it: run by run of characters, each up to the end of a line or of the piece. And the end, as it finds it.
 -- Assumes nothing.
 use Prim.Native.Nat.{ℕ, _+_, _-_}
 use mathlib.Core.Bool.{Bool, cond, not, _&&_, _||_}
@@ -8,11 +8,15 @@ use lib.ListN.{length, drop, getD}
 use Rattle.rules.specs.Text.{Text, allowed, span, begins}
 use Rattle.rules.specs.Rules.{Rules}
 use Rattle.rules.specs.Log.{crlf, conjunction}
-use Rattle.rules.specs.Reading.{refusal}
+use Rattle.rules.specs.Reading.{refusal, Reading, accepted, refused}
 use Rattle.reader.specs.Contact.{between}
 use Rattle.writer.specs.Written.{written}
 use Rattle.link.specs.declared.Link.{Link}
 use Rattle.link.specs.Link.{stoppedBy, lineOf, dueOf, dueAt, isEnd, heldAs}
+
+-- The line of CWWLs, CExcs or CDXCs is due.
+unfoldable pub declares : ℕ → Bool
+declares stage = eqb stage 29 || (eqb stage 31 || eqb stage 33)
 
 -- Where the characters end that come behind those that are held: none do behind a CR.
 unfoldable pub runEnd : ℕ → Text → ℕ → ℕ
@@ -56,3 +60,9 @@ byteTests R s b =
 unfoldable pub takesByte : Rules → Link → ℕ → Bool
 unfolding conjunction dueAt
 takesByte R s b = conjunction (byteTests R s b)
+
+-- The state at the end of the bytes: as it is where all is there, and else with what the reader refuses there.
+unfoldable pub restedBy : Link → Reading → Link
+unfolding stoppedBy
+restedBy s (accepted log) = s
+restedBy s (refused r) = stoppedBy r

@@ -8,13 +8,13 @@ ghost use mathlib.Core.Path.{_≡_};
 ghost use lib.Dec.{eqb};
 ghost use lib.ListN.{drop, length, take};
 ghost use Rattle.rules.specs.Rules.{base};
-ghost use Rattle.rules.specs.Reading.{refusal, step};
+ghost use Rattle.rules.specs.Reading.{atRest, refusal, step};
 ghost use Rattle.rules.specs.Link.{isShort};
 ghost use Rattle.reader.specs.Contact.{between};
 ghost use Rattle.judge.specs.Bounds.{mostWorth};
 ghost use Rattle.judge.specs.Narrow.{low};
-ghost use Rattle.link.specs.Link.{acceptedBy, announced, begun, bytesIn, close, counted, declaredIn, dueOf, ended, feed, finishes, headGoes, headLine, heldAs, holding, ifLong, isEnd, isOpen, isSound, lentOf, lineOf, noRates, overrun, ratedBy, recordLine, restOf, stoppedBy, taken, unended, wentOn, withRecord, withText};
-ghost use Rattle.link.specs.Piece.{heldOn, isEnded, mayCome, nextPlace, runEnd, takesByte};
+ghost use Rattle.link.specs.Link.{acceptedBy, announced, asked, begun, bytesIn, close, counted, declaredIn, dueOf, feed, finishes, headGoes, headLine, heldAs, holding, ifLong, isEnd, isOpen, isSound, lentOf, lineOf, noRates, overrun, ratedBy, recordLine, restOf, stoppedBy, taken, unended, wentOn, withRecord, withText};
+ghost use Rattle.link.specs.Piece.{declares, heldOn, isEnded, mayCome, nextPlace, restedBy, runEnd, takesByte};
 use judge::Counts;
 use places::Declared;
 use rules::Due;
@@ -188,29 +188,42 @@ fn is_sound(s: Link) -> bool
 
 // # A finished line
 
+// The line of CWWLs, CExcs or CDXCs is due.
+fn declares(stage: u16) -> bool
+    ensures { λ r. ⌜ r ≡ declares stage ⌝ }
+{
+    if stage == 29 {
+        return true;
+    }
+    if stage == 31 {
+        return true;
+    }
+    stage == 33
+}
+
 // What is declared behind a line.
 fn rated_by(s: Link, line: &[u8]) -> Rated
     ensures { λ r. ⌜ r ≡ ratedBy base (dueOf s) (now (line .entry)) (s .rated) ⌝ }
 {
     let mut r = s.rated;
+    if !declares(s.stage) {
+        return r;
+    }
+    let rates = places::rates_of(line);
+    let bonus = low(rates.bonus);
+    let multiplier = low(rates.multiplier);
     if s.stage == 29 {
-        let rates = places::rates_of(line);
-        r.squarebonus = low(rates.bonus);
-        r.squaremultiplier = low(rates.multiplier);
+        r.squarebonus = bonus;
+        r.squaremultiplier = multiplier;
         return r;
     }
     if s.stage == 31 {
-        let rates = places::rates_of(line);
-        r.exchangebonus = low(rates.bonus);
-        r.exchangemultiplier = low(rates.multiplier);
+        r.exchangebonus = bonus;
+        r.exchangemultiplier = multiplier;
         return r;
     }
-    if s.stage == 33 {
-        let rates = places::rates_of(line);
-        r.countrybonus = low(rates.bonus);
-        r.countrymultiplier = low(rates.multiplier);
-        return r;
-    }
+    r.countrybonus = bonus;
+    r.countrymultiplier = multiplier;
     r
 }
 
@@ -594,6 +607,22 @@ fn taken(s: Link, bytes: &[u8], verdicts: &mut [u8], worked: &mut [u8]) -> Link
     )
 }
 
+// What a call finds: the state as it is, or what it is refused with before anything else.
+fn asked(s: Link, verdicts: usize, worked: usize) -> Link
+    ensures { λ r. ⌜ r ≡ asked base (lentOf verdicts worked) s ⌝ }
+{
+    if s.refusal.number != 0 {
+        return s;
+    }
+    if !is_sound(s) {
+        return stopped(13, 0, 0);
+    }
+    if !lends_enough(s, verdicts, worked) {
+        return stopped(7, 0, 0);
+    }
+    s
+}
+
 // Bytes come. One that is put behind others of its line is asked for by itself, so that a link which brings each byte alone costs little.
 pub fn fed(s: Link, bytes: &[u8], verdicts: &mut [u8], worked: &mut [u8]) -> Link
     ensures { λ r. ⌜ (r ≡ (feed base (holding s (now (verdicts .entry)) (now (worked .entry))) (now (bytes .entry))) .link)
@@ -662,40 +691,39 @@ fn accepted(s: Link) -> Closing
     }
 }
 
-// What the end of the bytes means here.
-fn ended(s: Link) -> Closing
+// The state at the end of the bytes: as it is where all is there, and else with what that is refused with.
+fn rested(s: Link) -> Link
     requires { ⌜ s .lines < 65536 ⌝ }
-    ensures { λ r. ⌜ r ≡ ended base s ⌝ }
+    ensures { λ r. ⌜ r ≡ restedBy s (atRest (dueOf s) (lineOf s) (restOf s)) ⌝ }
 {
     if s.stage < RECORDS {
-        return unended(stopped_here(s, 2, 0));
+        return stopped_here(s, 2, 0);
     }
     if s.done < s.records {
         if has_rest(s) {
-            return unended(stopped_here(s, 2, 0));
+            return stopped_here(s, 2, 0);
         }
-        return unended(stopped_here(s, 6, 0));
+        return stopped_here(s, 6, 0);
     }
     if has_rest(s) {
-        return unended(stopped_here(s, 6, 0));
+        return stopped_here(s, 6, 0);
     }
-    accepted(s)
+    s
 }
 
 // No byte comes any more.
 pub fn closed(s: Link, verdicts: &[u8], worked: &[u8]) -> Closing
     ensures { λ r. ⌜ r ≡ close base (lentOf (length (now (verdicts .entry))) (length (now (worked .entry)))) s ⌝ }
 {
-    if s.refusal.number != 0 {
-        return unended(s);
+    let a = asked(s, verdicts.len(), worked.len());
+    if a.refusal.number != 0 {
+        return unended(a);
     }
-    if !is_sound(s) {
-        return unended(stopped(13, 0, 0));
+    let t = rested(a);
+    if t.refusal.number != 0 {
+        return unended(t);
     }
-    if !lends_enough(s, verdicts.len(), worked.len()) {
-        return unended(stopped(7, 0, 0));
-    }
-    ended(s)
+    accepted(t)
 }
 
 // The link behind the closing.

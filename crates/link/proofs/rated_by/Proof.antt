@@ -1,23 +1,43 @@
 -- Three keywords bring a bonus and a multiplier, and no other line does.
-use mathlib.Core.Path.{ap, _∙_}
-use Prim.Native.Nat.{_-_}
+use mathlib.Core.Path.{_≡_, sym, ap, _∙_}
+use mathlib.Core.Bool.{true}
+use denote.Ref.{now}
 use borrow.Author.Needs.{needs}
-use Rattle.link.proofs.TakenLaws.{rated-squares, rated-exchanges, rated-countries, rated-not}
+use borrow.Author.Tests.{not-true, not-false}
 use Rattle.rules.specs.Rules.{base}
 use Rattle.judge.specs.Narrow.{low}
+use Rattle.link.specs.Link.{bonusOn, multiplierOn}
+use Rattle.link.specs.Piece.{declares}
+use Rattle.link.proofs.TestLaws.{declares-not, declares-countries}
+use Rattle.link.proofs.TakenLaws.{rated-squares, rated-exchanges, rated-countries, rated-not}
 use Rattle.link.proofs.rated_by.Statement.{statement}
 use Rattle.link.proofs.rated_by.Tie as tie
-use Rattle.link.proofs.rated_by.Reads as reads
-use Rattle.link.proofs.rated_by.Lts as lts
-use Rattle.link.proofs.low.Reads as low-reads
-use Rattle.places.proofs.rates_of.Reads as rates-of-reads
 
--- Where the code begins, from where the first stage is known to be due, or not to be.
-abbrev asked : tie.Then1 → tie.Start
-asked c = c .before .before .before .before
+-- Where the bonus and the multiplier are known.
+abbrev start : tie.Else1 → tie.Start
+start c = c .before .before .before .before
 
-abbrev passed : tie.Else1 → tie.Start
-passed c = c .before .before .before .before
+abbrev begins : tie.After-low2 → tie.Start
+begins k = start (k .before .before .before)
+
+bonus : (k : tie.After-low2) → k .before .low .result ≡ low (bonusOn base (now (begins k .args .line)))
+bonus k = k .before .low .ensures ∙ ap low (k .before .before .rates-of .ensures .0)
+
+multiplier : (k : tie.After-low2) → k .low2 .result ≡ low (multiplierOn base (now (begins k .args .line)))
+multiplier k = k .low2 .ensures ∙ ap low (k .before .before .rates-of .ensures .1)
+
+declared : (c : tie.Else1) → declares (start c .args .s .stage) ≡ true
+declared c = let d = c .before .declares in sym (d .ensures) ∙ not-false (d .result) (c .if1 .left)
+
+declares-requires : tie.Need-declares-requires
+declares-requires c κs = search needs
+
+returns : tie.Need-returns
+returns c =
+    let s = c .before .before .before .before .args .s in
+    let d = c .before .declares in
+    let none = declares-not (s .stage) (sym (d .ensures) ∙ not-true (d .result) (c .if1 .taken)) in
+    rated-not base s _ (none .0) (none .1) (none .2)
 
 rates-of-requires : tie.Need-rates-of-requires
 rates-of-requires c κs = search needs
@@ -28,50 +48,27 @@ low-requires c κs = search needs
 low-requires-2 : tie.Need-low-requires-2
 low-requires-2 c κs = search needs
 
-returns : tie.Need-returns
-returns c = rated-squares base (asked (c .before .before .before) .args .s) _ (c .before .low .ensures ∙ ap low (c .before .before .rates-of .ensures .0)) (c .low2 .ensures ∙ ap low (c .before .before .rates-of .ensures .1)) (c .before .before .before .if1 .taken)
-
-rates-of-requires-2 : tie.Need-rates-of-requires-2
-rates-of-requires-2 c κs = search needs
-
-low-requires-3 : tie.Need-low-requires-3
-low-requires-3 c κs = search needs
-
-low-requires-4 : tie.Need-low-requires-4
-low-requires-4 c κs = search needs
-
 returns-2 : tie.Need-returns-2
-returns-2 c = rated-exchanges base (passed (c .before .before .before .before .before) .args .s) _ (c .before .low3 .ensures ∙ ap low (c .before .before .rates-of2 .ensures .0)) (c .low4 .ensures ∙ ap low (c .before .before .rates-of2 .ensures .1)) (c .before .before .before .if2 .taken)
-
-rates-of-requires-3 : tie.Need-rates-of-requires-3
-rates-of-requires-3 c κs = search needs
-
-low-requires-5 : tie.Need-low-requires-5
-low-requires-5 c κs = search needs
-
-low-requires-6 : tie.Need-low-requires-6
-low-requires-6 c κs = search needs
+returns-2 c = let k = c .before .before in rated-squares base (begins k .args .s) _ (bonus k) (multiplier k) (c .if2 .taken)
 
 returns-3 : tie.Need-returns-3
-returns-3 c = rated-countries base (passed (c .before .before .before .before .before .before .before) .args .s) _ (c .before .low5 .ensures ∙ ap low (c .before .before .rates-of3 .ensures .0)) (c .low6 .ensures ∙ ap low (c .before .before .rates-of3 .ensures .1)) (c .before .before .before .if3 .taken)
+returns-3 c = let k = c .before .before .before .before in rated-exchanges base (begins k .args .s) _ (bonus k) (multiplier k) (c .if3 .taken)
 
 returns-4 : tie.Need-returns-4
-returns-4 c = rated-not base (passed (c .before .before .before .before) .args .s) _ (c .before .before .before .before .if1 .left) (c .before .before .if2 .left) (c .if3 .left)
+returns-4 c =
+    let k = c .before .before .before .before in
+    let s = begins k .args .s in
+    rated-countries base s _ (bonus k) (multiplier k) (declares-countries (s .stage) (declared (k .before .before .before)) (c .before .before .if2 .left) (c .if3 .left))
 
 pub rated-by-spec : {M : Type 1} → statement M
 rated-by-spec =
     tie.close
     (tie.spec
+    declares-requires
+    returns
     rates-of-requires
     low-requires
     low-requires-2
-    returns
-    rates-of-requires-2
-    low-requires-3
-    low-requires-4
     returns-2
-    rates-of-requires-3
-    low-requires-5
-    low-requires-6
     returns-3
     returns-4)
