@@ -63,13 +63,13 @@
  *     sumpquince_write               19,804    18,936
  *     sumpquince_mend                15,419     1,128
  *     sumpquince_session_start          359       232
- *     sumpquince_session_take         7,092       968
+ *     sumpquince_session_take         7,563     1,256
  *     sumpquince_session_give_back    2,071       520
  *     sumpquince_session_totals         858       232
- *     sumpquince_link_open             TODO      TODO
- *     sumpquince_link_feed             TODO      TODO
- *     sumpquince_link_close            TODO      TODO
- *     all twelve                       TODO
+ *     sumpquince_link_open               49         8
+ *     sumpquince_link_feed           19,200     1,800
+ *     sumpquince_link_close           3,265       456
+ *     all twelve                     42,462
  *
  * No bound of the stack is proved. None of the functions calls itself, so what is measured does not grow with the log.
  */

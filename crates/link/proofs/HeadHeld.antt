@@ -5,7 +5,6 @@ use native.Mathlib.Omega.{arith}
 use mathlib.Core.Path.{_≡_, refl, sym, ap, subst, _∙_}
 use mathlib.Core.Bool.{Bool, true, false, cond}
 use mathlib.Core.List.{List, _++_, append-nil}
-use lib.Dec.{eqb}
 use lib.ListN.{length, length-append}
 use Rattle.rules.specs.declared.Due.{Due}
 use Rattle.rules.specs.declared.Due.the-variants.{Identifier, Keyword, Remarks, Remark, Record, End}
@@ -18,8 +17,7 @@ use Rattle.rules.specs.Log.{recordRules}
 use Rattle.rules.specs.Reading.{refusal, step}
 use Rattle.rules.specs.Link.{Lent, isShort, recordsIn}
 use Rattle.rules.specs.Link as Asked
-use Rattle.rules.proofs.Refusals.{of-step}
-use Rattle.rules.proofs.LinkBytes.{none-short}
+use Rattle.rules.proofs.LinkBytes.{none-short, Refuses, refuses-with}
 use Rattle.judge.specs.Narrow.{low}
 use Rattle.session.proofs.ComeLaws.{cameTo}
 use Rattle.link.specs.declared.Link.{Link}
@@ -29,26 +27,6 @@ use Rattle.link.proofs.LogGrows.{argumentsOn, recordsOf, argumentsOf, r
 use Rattle.link.proofs.RatesHeld.{Declares}
 use Rattle.link.proofs.DueLaws.{Staged, Ahead, isHead, head-stage, head-records, head-announces, ahead-few, ahead-next, declares-next}
 use Rattle.link.proofs.HeldLaws.{lent, Open, Kept, count-next, line-none, due-same, keeps-same, kept-stopped, stops-here}
-
--- A line is not refused with number 0.
-abbrev Refuses : Next → Type 0
-Refuses (Goes next) = Unit {0}
-Refuses (Stops number field) = eqb number 0 ≡ false
-
-refuses-with : (R : Rules) (due : Due) (l : Text) → Refuses (step R due l)
-refuses-with R due l =
-    of-step R Refuses
-    (record {
-      keyword = λ k. tt;
-      remarks = tt;
-      remark = tt;
-      records = λ n. tt;
-      three = refl;
-      four = refl;
-      five = λ field h. refl;
-      six = refl;
-    })
-    due l
 
 module _ {R : Rules} (F : FitsLink R) (verdicts worked : List ℕ) (total left : ℕ) (k : Asked.Link) (h : Holding) (keeps : Keeps R k verdicts worked h) (o : Open F verdicts worked total left k (h .link)) (room : length (k .finished) < k .count) (head : isHead (k .due) ≡ true) where
   abbrev lends : Lent

@@ -13,7 +13,7 @@ use Rattle.rules.specs.Text.{value}
 use Rattle.rules.specs.Rules.{Rules}
 use Rattle.rules.specs.Fields.{Qso}
 use Rattle.rules.specs.Log.{recordRules}
-use Rattle.rules.specs.Judging.{verdictOf, verdicts, totals, modesTogether, modeNumbers, zeroModes, zeroTotals}
+use Rattle.rules.specs.Judging.{verdictOf, verdicts, totals, modesTogether, zeroModes, zeroTotals}
 use Rattle.rules.specs.Session.{declaredRule}
 use Rattle.rules.proofs.Tests.{holds}
 use Rattle.rules.proofs.Classes.{length-verdicts}
@@ -23,12 +23,12 @@ use Rattle.judge.specs.declared.Sums.{Sums}
 use Rattle.judge.specs.Bounds.{mostWorth}
 use Rattle.judge.specs.Count.{modeOf, modesIn, addRecord, addRecords, closing, asDeclared}
 use Rattle.judge.specs.Narrow.{noCounts, low, lowFour, tallyIn, modesOf, sumsIn, totalsIn, countsOf}
-use Rattle.judge.specs.Sums.{summed, sumsOf, totalsKept}
+use Rattle.judge.specs.Sums.{sumsOf, totalsKept}
 use Rattle.judge.proofs.CountLaws.{closed-totals}
 use Rattle.judge.proofs.SumLaws.{totals-closed}
 use Rattle.session.specs.Entry.{creditedFrom}
 use Rattle.session.proofs.ComeLaws.{Comes, cameTo, comes-all, sound-came}
-use Rattle.session.proofs.HoldLaws.{came-more}
+use Rattle.session.proofs.HoldLaws.{closing-came, came-more}
 use Rattle.link.specs.Keeping.{FitsLink}
 
 low-small : (n : ℕ) → n < 65_536 → low n ≡ n
@@ -41,11 +41,6 @@ four-small n h = omega arith
 pub sums-none : (R : Rules) → totalsIn 0 noCounts ≡ cameTo R []
 unfolding totalsIn tallyIn modesOf modesIn noCounts cameTo addRecords verdicts zeroTotals zeroModes
 sums-none R = refl
-
--- The totals of sums are those that the sums are of.
-closing-sums : (t : Totals) (d : Declared) → closing (summed (sumsOf t)) d ≡ closing t d
-unfolding closing sumsOf modesIn modeNumbers
-closing-sums t d = refl
 
 module _ {R : Rules} (F : FitsLink R) (points : ℕ) (counts : Counts) where
   -- One record more: each number of the totals fits its bytes.
@@ -115,5 +110,5 @@ module _ {R : Rules} (F : FitsLink R) (points : ℕ) (counts : Counts) where
     sums-close d ruled few declared =
         ap (λ (s : Sums). totalsKept R s d) of-totals
         ∙ sym (totals-closed R (sumsOf (cameTo R qs)) d (sound-came R (length qs) (cameTo R qs) (comes-all R qs ruled) few) declared)
-        ∙ closing-sums (cameTo R qs) d
+        ∙ closing-came (cameTo R qs) d
         ∙ closed-totals R d qs (verdicts R qs) (length-verdicts R qs) (holds ruled)

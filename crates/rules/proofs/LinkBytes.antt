@@ -108,11 +108,11 @@ module _ (R : Rules) where
   announces-next End l next t n e a = let z : _≡_ {A = ℕ} 0 1 = unfold step in cc in absurd (omega arith)
 
 -- A line is not refused with number 0.
-abbrev Refuses : Next → Type 0
+abbrev pub Refuses : Next → Type 0
 Refuses (Goes next) = Unit {0}
 Refuses (Stops number field) = eqb number 0 ≡ false
 
-refuses-with : (R : Rules) (due : Due) (l : Text) → Refuses (step R due l)
+pub refuses-with : (R : Rules) (due : Due) (l : Text) → Refuses (step R due l)
 refuses-with R due l =
     of-step R Refuses
     (record {

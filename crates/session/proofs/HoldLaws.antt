@@ -33,7 +33,7 @@ use Rattle.session.proofs.MoreLaws.{verdicts-more, sums-more}
 use Rattle.session.proofs.ComeLaws.{Comes, cameTo, comes-all, sound-came}
 
 -- The totals of sums are those that the sums are of.
-closing-came : (t : Totals) (d : Declared) → closing (summed (sumsOf t)) d ≡ closing t d
+pub closing-came : (t : Totals) (d : Declared) → closing (summed (sumsOf t)) d ≡ closing t d
 unfolding closing sumsOf modesIn modeNumbers
 closing-came t d = refl
 
