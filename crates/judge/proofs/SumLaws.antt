@@ -4,7 +4,7 @@ use Prim.Native.Nat.{ℕ, zero, suc, _+_, _-_, _*_, _/_, _%_, _≤_, _<_}
 use native.Mathlib.Omega.{arith}
 use native.Mathlib.Nat.{mul-le-mul-right, add-zero, zero-add}
 use mathlib.Core.Path.{_≡_, refl, sym, ap, _∙_}
-use mathlib.Core.Bool.{Bool, true, false, _&&_, _||_}
+use mathlib.Core.Bool.{Bool, true, false, cond, _&&_, _||_}
 use mathlib.Core.List.{List}
 use lib.Dec.{eqb, leb, ltb}
 use lib.ListN.{getD, List·getD-eq-default}
@@ -13,7 +13,8 @@ use Rattle.rules.specs.declared.Class.{Class}
 use Rattle.rules.specs.declared.Class.the-variants.{Credited}
 use Rattle.rules.specs.Rules.{Rules}
 use Rattle.rules.specs.declared.Modes.{Modes}
-use Rattle.rules.specs.Judging.{is, modeNumbers, modesTogether, zeroTotals}
+use Rattle.rules.specs.Judging.{is, modeNumbers, modesTogether, zeroModes, zeroTotals}
+use Rattle.rules.specs.Demands.{AddUp}
 use Rattle.rules.specs.Log.{conjunction}
 use Rattle.rules.specs.Session.{rateRule, declaredRule}
 use Rattle.rules.proofs.Tests.{fails}
@@ -288,3 +289,13 @@ module _ (R : Rules) (s : Sums) (d : Declared) where
   pub totals-closed : soundSums R s ≡ true → declaredRule R (asDeclared d) ≡ true → closing (summed s) d ≡ totalsKept R s d
   unfolding totalsKept
   totals-closed e f = rw (e, f)
+
+  -- W4: whatever the sums are, sound ones have as many modes as credited records, and all others come to nothing.
+  pub kept-add-up : AddUp (totalsKept R s d)
+  unfolding totalsKept closing modesIn modeNumbers zeroTotals zeroModes modesTogether
+  kept-add-up = by (soundSums R s) (declaredRule R (asDeclared d)) refl
+    where
+      by : (a b : Bool) → soundSums R s ≡ a → AddUp (cond (a && b) (closing (summed s) d) zeroTotals)
+      by true true e = (sound-facts R s e) .modesAll
+      by true false e = refl
+      by false b e = refl

@@ -13,22 +13,24 @@ use Rattle.rules.specs.declared.Refusal.{Refusal}
 use Rattle.rules.specs.Text.{Text}
 use Rattle.rules.specs.Rules.{Rules, base}
 use Rattle.rules.specs.Log.{recordRules}
-use Rattle.rules.specs.Judging.{Declared, verdictsOfLog, totals, totalsOfLog, zeroTotals}
+use Rattle.rules.specs.Judging.{Declared, verdictsOfLog, totals, totalsOfLog, modesTogether, zeroModes, zeroTotals}
 use Rattle.rules.specs.Judging.{verdicts as judged}
 use Rattle.rules.specs.Reading.{refusal, Reading, accepted, refused, atRest}
 use Rattle.rules.specs.Answers.{noRefusal}
 use Rattle.rules.specs.Link.{Lent, isShort, linkVerdicts, logOf}
 use Rattle.rules.specs.Link as Asked
 use Rattle.rules.proofs.Tests.{clash}
+use Rattle.rules.proofs.Refusals.{on-test}
 use Rattle.rules.proofs.LinkBytes.{refused-bytes, bytes-joined, none-short}
 use Rattle.judge.specs.Narrow.{sumsIn}
 use Rattle.judge.specs.Sums.{totalsKept}
+use Rattle.judge.proofs.SumLaws.{kept-add-up}
 use Rattle.session.specs.Entry.{bytesOf}
 use Rattle.session.proofs.FilledLaws.{base-fits-bytes}
 use Rattle.link.specs.declared.Link.{Link}
 use Rattle.link.specs.declared.Closing.{Closing}
 use Rattle.link.specs.Link.{Holding, holding, stoppedBy, stopped, isOpen, lineOf, dueOf, announced, declaredIn, lentBy, ifLong, onLink, byteIn, bytesIn, isSound, asked, counted, overrun, taken, feed, unended, restOf, acceptedBy, endedBy, ended, close, placed}
-use Rattle.link.specs.Keeping.{opened, heldAfter, workedOf, FitsLink, KeptAsFed, RefusedLeaves, TheLinkKeeps}
+use Rattle.link.specs.Keeping.{opened, heldAfter, workedOf, FitsLink, KeptAsFed, RefusedLeaves, ClosesRightly, TheLinkKeeps}
 use Rattle.link.proofs.StateLaws.{sound-held}
 use Rattle.link.proofs.LogGrows.{recordsOf, argumentsOf}
 use Rattle.link.proofs.SliceLaid.{over-nothing}
@@ -48,6 +50,25 @@ module _ (R : Rules) (h : Holding) (closed : isOpen (h .link) ≡ false) where
         feeding = λ t. sym (feed-by R h t (h .link) (asked-refused R (lentBy h) (h .link) closed) closed);
         closing = λ l. sym (close-by R l (h .link) (h .link) (asked-refused R l (h .link) closed) closed);
       }
+
+-- # What a closing tells, whatever the state is
+
+module _ (R : Rules) where
+  zeros-told : (s : Link) → ClosesRightly (unended s)
+  unfolding unended zeroTotals zeroModes modesTogether
+  zeros-told s = record { refused = λ n. record { totals = refl; kept = refl }; modes = refl }
+
+  ended-rightly : (s : Link) (a : Reading) → ClosesRightly (endedBy R s a)
+  unfolding endedBy acceptedBy noRefusal
+  ended-rightly s (accepted log) =
+      record { refused = λ n. absurd (n refl); modes = kept-add-up R (sumsIn (s .points) (s .counts)) (declaredIn (s .rated)) }
+  ended-rightly s (refused r) = zeros-told (stoppedBy r)
+
+  closes-rightly : (l : Lent) (s : Link) → ClosesRightly (close R l s)
+  unfolding close ended
+  closes-rightly l s =
+      let a = asked R l s in
+      on-test ClosesRightly (isOpen a) (ended-rightly a (atRest (dueOf a) (lineOf a) (restOf a))) (zeros-told a)
 
 module _ {R : Rules} (F : FitsLink R) (verdicts worked : List ℕ) where
   abbrev lends : Lent
@@ -344,7 +365,7 @@ module _ {R : Rules} (F : FitsLink R) (verdicts worked : List ℕ) where
       record { held = after .1 .keeps; closes = (closes .refusalIs, closes .totalsAre, closes .linkIs) }
 
 pub the-link-keeps : (R : Rules) → FitsLink R → TheLinkKeeps R
-the-link-keeps R F = record { keptAsFed = kept-as-fed F; refusedLeaves = refused-leaves R }
+the-link-keeps R F = record { keptAsFed = kept-as-fed F; refusedLeaves = refused-leaves R; closesRightly = closes-rightly R }
 
 -- The rules of document 01 keep to it.
 pub base-fits : FitsLink base

@@ -8,13 +8,15 @@ use mathlib.Core.List.{List, [], _∷_}
 use lib.ListN.{length}
 use Rattle.rules.specs.Text.{Text}
 use Rattle.rules.specs.Rules.{Rules}
-use Rattle.rules.specs.Judging.{verdictsOfLog}
+use Rattle.rules.specs.Judging.{verdictsOfLog, zeroTotals}
 use Rattle.rules.specs.Reading.{refusal}
 use Rattle.rules.specs.Answers.{over}
+use Rattle.rules.specs.Demands.{AddUp}
 use Rattle.rules.specs.Link.{Lent, workedBytes, fedAll, logOf, linkVerdicts}
 use Rattle.rules.specs.Link as Asked
 use Rattle.judge.specs.Bounds.{mostWorth}
 use Rattle.session.specs.Entry.{FitsBytes, bytesOf}
+use Rattle.link.specs.declared.Closing.{Closing}
 use Rattle.link.specs.declared.Link.{Link}
 use Rattle.link.specs.Link.{Holding, holding, stoppedBy, isOpen, lentOf, lentBy, feed, close, unended}
 
@@ -58,6 +60,16 @@ pub record RefusedLeaves (R : Rules) (h : Holding) : Type 0 where
   pub feeding : (s : Text) → feed R h s ≡ h
   pub closing : (lent : Lent) → close R lent (h .link) ≡ unended (h .link)
 
+-- Demand 1: "the totals are then zero"; and "the state keeps the refusal".
+pub record RefusedAtLast (c : Closing) : Type 0 where
+  pub totals : c .totals ≡ zeroTotals
+  pub kept : c .link .refusal ≡ c .refusal
+
+-- What a closing tells of any state, whatever is lent. W4: the modes "add up to the credited count wherever totals are made or kept".
+pub record ClosesRightly (c : Closing) : Type 0 where
+  pub refused : (c .refusal .number ≡ 0 → ⊥) → RefusedAtLast c
+  pub modes : AddUp (c .totals)
+
 -- What the rules have to keep to for a state to hold all of it: what is worked fits its bytes, and each number of the state its two or four bytes.
 pub record FitsLink (R : Rules) : Type 0 where
   pub bytes : FitsBytes R
@@ -70,3 +82,4 @@ pub record FitsLink (R : Rules) : Type 0 where
 pub record TheLinkKeeps (R : Rules) : Type 0 where
   pub keptAsFed : (verdicts worked : List ℕ) (ps : List Text) → KeptAsFed R verdicts worked ps
   pub refusedLeaves : (h : Holding) → isOpen (h .link) ≡ false → RefusedLeaves R h
+  pub closesRightly : (lent : Lent) (s : Link) → ClosesRightly (close R lent s)

@@ -4,7 +4,7 @@ use Prim.Native.Nat.{ℕ, _≤_, _<_}
 use native.Mathlib.Omega.{arith}
 use mathlib.Core.Bool.{Bool, true, false, cond}
 use mathlib.Core.Logic.{_⊎_, _↔_, inl, inr, ⊎-elim}
-use mathlib.Core.Path.{_≡_, refl, sym, ap, _∙_}
+use mathlib.Core.Path.{_≡_, refl, sym, ap, subst, _∙_}
 use mathlib.Core.List.{List, [], map}
 use lib.Dec.{leb}
 use lib.ListN.{length, getD, length-map}
@@ -22,6 +22,7 @@ use Rattle.rules.proofs.Refusals.{refused-reading}
 use Rattle.rules.proofs.ModeLaws.{modes-add-up}
 use Rattle.rules.proofs.Respelt.{spellings-counted}
 use Rattle.rules.proofs.GivenCalls.{zero-when-accepted, line-and-field-told}
+use Rattle.rules.specs.Given.{LineAndField}
 use Rattle.rules.specs.Mending.{Mending, mended, unmended, mendedText, changes, mend, bytesOfMending, kindsOfMending, linesOfMending}
 use Rattle.rules.specs.MendingDemands.{ListIsTooLong}
 use Rattle.rules.proofs.MendingGiven.{given-by-mending, mend-all}
@@ -42,12 +43,13 @@ use Rattle.session.specs.Session.{totalsNow, started, refusedBy}
 use Rattle.session.specs.Keeping.{Holding, roomOf, Calling, starting, callOf, repliedTo, holdingAfter, holdingAfterAll}
 use Rattle.session.proofs.KeepingLaws.{started-not, started-anew, the-base-session-keeps}
 use Rattle.link.specs.declared.Closing.{Closing}
+use Rattle.link.specs.declared.Link.{Link}
 use Rattle.link.specs.Link as Over
 use Rattle.link.specs.Keeping.{KeptAsFed}
 use Rattle.link.proofs.FedLaws.{the-link-keeps, base-fits}
 use Rattle.pad.specs.declared.SumpquinceDeclared.{SumpquinceDeclared}
 use Rattle.pad.specs.Face.{refusalFace, oneIf, readingFace, viewFace, totalsFace, judgementFace, writtenFace, mendedFace, declaredFace, sessionFace, closingFace}
-use Rattle.pad.specs.Caller.{refusalIn, Accepts, cameOver, closedOver, AsJoinedUp, ToldByRead, ToldByView, ToldByJudge, ToldByWrite, ListFits, ToldByMend, ToldBySession, ToldByStart, ToldByTotals, AsTheLog, ForTheCaller}
+use Rattle.pad.specs.Caller.{refusalIn, Accepts, cameOver, closedOver, AsJoinedUp, ToldByRead, ToldByView, ToldByJudge, ToldByWrite, ListFits, ToldByMend, ToldBySession, ToldByStart, ToldByTotals, AsTheLog, ToldByClosing, ForTheCaller}
 
 -- # What a refused call leaves
 
@@ -279,6 +281,11 @@ module _ (ps : List Text) (verdicts worked : List ℕ) where
         keeps .held .verdictsAre
         ∙ ap (λ (l : List ℕ). over l verdicts) (ap (linkVerdicts base) cut ∙ sym (verdicts-same lends (fed base lends joined)) ∙ said .classes number)
 
+  placed : LineAndField ((closing base lends joined) .refusal)
+  placed =
+      let told = the-base-link .placedRightly in
+      told .closing lends (fed base lends joined) (told .feeding lends Asked.opened joined (told .opening))
+
   as-joined-up : AsJoinedUp ps verdicts worked
   as-joined-up =
       record {
@@ -290,7 +297,18 @@ module _ (ps : List Text) (verdicts worked : List ℕ) where
             let said = (the-base-link .asJoined) lends joined .tooLong long suffice in
             ((λ r s. refusal-told ∙ said .0 r s), (λ none. refusal-told ∙ said .1 none));
         tooShort = λ short. refusal-told ∙ (the-base-link .asJoined) lends joined .tooShort short;
+        place = subst LineAndField (sym refusal-told) placed;
       }
+
+told-by-closing : (verdicts worked : List ℕ) (s : Link) → let c = Over.close base (Over.lentOf (length verdicts) (length worked)) s in ToldByClosing (closingFace c) (c .link)
+unfolding closingFace totalsFace refusalFace
+told-by-closing verdicts worked s =
+    let c = Over.close base (Over.lentOf (length verdicts) (length worked)) s in
+    let told = (the-link-keeps base base-fits) .closesRightly (Over.lentOf (length verdicts) (length worked)) s in
+    record {
+      refused = λ n. let r = told .refused n in (ap (totalsFace (refusalFace (c .refusal))) (r .totals), ap refusalFace (r .kept));
+      modes = modes-told (c .totals) (told .modes);
+    }
 
 pub for-the-caller : ForTheCaller
 for-the-caller =
@@ -306,4 +324,5 @@ for-the-caller =
       onTheScreen = on-the-screen;
       overTheLink = as-joined-up;
       refusedLink = (the-link-keeps base base-fits) .refusedLeaves;
+      closingLink = told-by-closing;
     }

@@ -28,6 +28,7 @@ use Rattle.judge.specs.Count.{asDeclared}
 use Rattle.session.specs.declared.Session.{Session}
 use Rattle.session.specs.Session.{started}
 use Rattle.session.specs.Keeping.{Holding, roomOf, Calling, starting as begins, callOf, repliedTo, holdingAfter, holdingAfterAll, ToldFor}
+use Rattle.link.specs.declared.Link.{Link}
 use Rattle.link.specs.Link as Over
 use Rattle.link.specs.Keeping.{opened, heldAfter, RefusedLeaves}
 use Rattle.pad.specs.declared.SumpquinceRefusal.{SumpquinceRefusal}
@@ -168,6 +169,14 @@ pub record AsJoinedUp (ps : List Text) (verdicts worked : List ℕ) : Type 0 whe
       let front = take (base .longestLog) (joinedAll ps) in
       isShort (Over.lentOf (length verdicts) (length worked)) (announcedIn base front) ≡ true →
       refusalIn ((closedOver ps verdicts worked) .refusal) ≡ refusal 7 0 0
+  pub place : LineAndField (refusalIn ((closedOver ps verdicts worked) .refusal))
+
+-- sumpquince_link_close, of any link: "the totals are then zero", and "the state keeps the refusal". Accepted or not, the eleven counts of modes add
+-- up to the credited ones.
+pub record ToldByClosing (j : SumpquinceJudgement) (afterwards : Link) : Type 0 where
+  pub refused :
+      (Accepts (j .refusal) → ⊥) → (j ≡ totalsFace (j .refusal) zeroTotals) × (refusalFace (afterwards .refusal) ≡ j .refusal)
+  pub modes : (length (j .modes) ≡ 11) × (sumOver 11 (λ k. getD (j .modes) k 0) ≡ j .credited)
 
 -- The answers and the slices are those of the contracts of src/lib.rt.
 pub record ForTheCaller : Type 0 where
@@ -205,3 +214,7 @@ pub record ForTheCaller : Type 0 where
       (sessionAfter base (roomOf h) (session (asDeclared (declaredFace d)) []) (map callOf cs))
   pub overTheLink : (ps : List Text) (verdicts worked : List ℕ) → AsJoinedUp ps verdicts worked
   pub refusedLink : (h : Over.Holding) → Over.isOpen (h .link) ≡ false → RefusedLeaves base h
+  pub closingLink :
+      (verdicts worked : List ℕ) (s : Link) →
+      let c = Over.close base (Over.lentOf (length verdicts) (length worked)) s in
+      ToldByClosing (closingFace c) (c .link)

@@ -1,5 +1,5 @@
--- The theorems about the definitions alone: laws of texts, lines and logs, then the three demands, what is asked of the mender and of a session,
--- and all of them joined.
+-- The theorems about the definitions alone: laws of texts, lines and logs, then the three demands, what is asked of the mender, of a session and of
+-- the link, and all of them joined.
 pub mod Tests
 pub mod TextLaws
 pub mod NumberLaws
@@ -49,5 +49,6 @@ pub mod SessionLaws
 pub mod SessionKept
 pub mod LinkLines
 pub mod LinkBytes
+pub mod LinkPlaced
 pub mod LinkKept
 pub mod AllProved

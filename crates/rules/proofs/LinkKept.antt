@@ -27,6 +27,7 @@ use Rattle.rules.proofs.Refusals.{Placed, rest-placed, of-step}
 use Rattle.rules.proofs.WalkLaws.{no-log}
 use Rattle.rules.proofs.LinkLines.{readOn, putAll, put-refused, readFrom, announcedFrom, IsLine, IsFront, from-none, from-end, announced-end, from-taken, from-refused, found-line, no-feed, no-such-byte, rest-return, from-held}
 use Rattle.rules.proofs.LinkBytes.{recordLines, takenOf, Announces, Sound, Fit, none-short, refused-bytes, bytes-joined, After, reads, settled, lacked, after}
+use Rattle.rules.proofs.LinkPlaced.{placed-rightly, refused-at-last}
 
 -- # Wherever they were cut
 
@@ -551,4 +552,6 @@ the-link R =
       refusedStays = refused-stays R;
       thirteenAfter = λ lent k z. thirteen-of R (close R lent k) (thirteen-kept R lent k z);
       sevenBefore = seven-before R;
+      placedRightly = placed-rightly R;
+      refusedAtLast = refused-at-last R;
     }

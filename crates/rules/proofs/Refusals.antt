@@ -57,7 +57,7 @@ pub record OfStep (P : Next → Type 0) : Type 0 where
   pub five : (field : ℕ) → field ≤ 15 → P (Stops 5 field)
   pub six : P (Stops 6 0)
 
-on-test : (P : Next → Type 0) (b : Bool) {x y : Next} → P x → P y → P (cond b x y)
+pub on-test : {A : Type 0} (P : A → Type 0) (b : Bool) {x y : A} → P x → P y → P (cond b x y)
 on-test P true p q = p
 on-test P false p q = q
 
@@ -108,7 +108,7 @@ module _ (R : Rules) where
 
 -- # The numbers
 
-abbrev StopsNumbered : Next → Type 0
+abbrev pub StopsNumbered : Next → Type 0
 StopsNumbered (Goes due) = Unit {0}
 StopsNumbered (Stops number field) = Numbered number field
 
@@ -128,7 +128,7 @@ four = no-field 4 (omega arith) (omega arith)
 six : Numbered 6 0
 six = no-field 6 (omega arith) (omega arith)
 
-step-numbered : (R : Rules) (due : Due) (l : Text) → StopsNumbered (step R due l)
+pub step-numbered : (R : Rules) (due : Due) (l : Text) → StopsNumbered (step R due l)
 step-numbered R due l =
     of-step R StopsNumbered
     (record {

@@ -16,6 +16,7 @@ use Rattle.rules.specs.Rules.{Rules}
 use Rattle.rules.specs.Judging.{zeroTotals}
 use Rattle.rules.specs.Reading.{refusal, step, Reading, refused, lines, walk}
 use Rattle.rules.specs.Answers.{Judgement, judge, refusalOfJudgement, totalsOfJudgement, numbersOfJudgement}
+use Rattle.rules.specs.Given.{LineAndField}
 use Rattle.rules.specs.Link.{Link, opened, isOpen, Lent, isShort, announcedBy, feed, fedAll, Closed, close, linkVerdicts}
 
 -- # Wherever they were cut
@@ -118,6 +119,20 @@ pub record SevenBefore (R : Rules) (lent : Lent) (k : Link) : Type 0 where
   pub feeding : (s : Text) → (feed R lent k s) .refusal ≡ refusal 7 0 0
   pub closing : (close R lent k) .refusal ≡ refusal 7 0 0
 
+-- # Demand 1
+
+-- "refused with a number, a line and a field": an opening keeps none, and each further call keeps and tells what document 01 says of them.
+pub record PlacedRightly (R : Rules) : Type 0 where
+  pub opening : LineAndField (opened .refusal)
+  pub feeding : (lent : Lent) (k : Link) (s : Text) → LineAndField (k .refusal) → LineAndField ((feed R lent k s) .refusal)
+  pub closing : (lent : Lent) (k : Link) → LineAndField (k .refusal) → LineAndField ((close R lent k) .refusal)
+  pub closed : (lent : Lent) (k : Link) → LineAndField (k .refusal) → LineAndField ((close R lent k) .link .refusal)
+
+-- "the totals are then zero", and "the state keeps the refusal": where a closing refuses, whatever the state was.
+pub record RefusedAtLast (c : Closed) : Type 0 where
+  pub totals : c .totals ≡ zeroTotals
+  pub kept : c .link .refusal ≡ c .refusal
+
 -- # All of it
 
 pub record TheLink (R : Rules) : Type 0 where
@@ -129,3 +144,6 @@ pub record TheLink (R : Rules) : Type 0 where
       (lent : Lent) (k : Link) → (close R lent k) .refusal .number ≡ 0 → ThirteenAfter R (close R lent k)
   pub sevenBefore :
       (lent : Lent) (k : Link) → isOpen k ≡ true → isShort lent (k .announced) ≡ true → SevenBefore R lent k
+  pub placedRightly : PlacedRightly R
+  pub refusedAtLast :
+      (lent : Lent) (k : Link) → ((close R lent k) .refusal .number ≡ 0 → ⊥) → RefusedAtLast (close R lent k)

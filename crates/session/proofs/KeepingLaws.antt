@@ -14,20 +14,19 @@ use Rattle.rules.specs.Text.{Text}
 use Rattle.rules.specs.Rules.{Rules, base}
 use Rattle.rules.specs.Fields.{Qso}
 use Rattle.rules.specs.Log.{conjunction, recordRules}
-use Rattle.rules.specs.Judging.{verdictNumber, verdictsAfter as judgedAfter, modeNumbers, modesTogether, zeroModes, zeroTotals}
+use Rattle.rules.specs.Judging.{verdictNumber, verdictsAfter as judgedAfter, zeroModes, zeroTotals}
 use Rattle.rules.specs.Judging.{verdicts as judged}
 use Rattle.rules.specs.Reading.{refusal, RecordRule, keeps, breaks, recordRule}
 use Rattle.rules.specs.Answers.{noRefusal}
-use Rattle.rules.specs.Demands.{AddUp}
 use Rattle.rules.proofs.Refusals.{FieldIsOne, rule-field}
 use Rattle.rules.proofs.SessionLaws.{last-split}
 use Rattle.rules.specs.Session.{Reply, session, declaredRule, startSession, hasPlace, takeBy, takeRecord, giveBack, replyTo, sessionAfter, repliesTo}
 use Rattle.rules.specs.Session.{Session as Records}
 use Rattle.places.specs.declared.Declared.{Declared}
 use Rattle.judge.specs.declared.Tally.{Tally}
-use Rattle.judge.specs.Count.{noTally, addRecords, asDeclared, closing, modesIn}
-use Rattle.judge.proofs.SumLaws.{sound-facts}
-use Rattle.judge.specs.Sums.{noSums, sumsOf, summed, soundSums, totalsKept}
+use Rattle.judge.specs.Count.{noTally, addRecords, asDeclared}
+use Rattle.judge.proofs.SumLaws.{kept-add-up}
+use Rattle.judge.specs.Sums.{noSums, sumsOf}
 use Rattle.session.specs.declared.Session.{Session}
 use Rattle.session.specs.declared.Replied.{Replied}
 use Rattle.session.specs.Entry.{saidOf, bytesOf, withBytes, FitsBytes, keepsRules}
@@ -339,15 +338,9 @@ module _ (R : Rules) where
   unfolding repliedTo
   starting-forgets h g d e = started-anew R (h .numbers) d e ∙ sym (started-anew R (g .numbers) d e)
 
--- Whatever the numbers are: sums that are sound have as many modes as credited records, and all others come to nothing.
 modes-kept : (R : Rules) → KeptModesAddUp R
-unfolding totalsNow totalsKept closing modesIn modeNumbers zeroTotals zeroModes modesTogether
-modes-kept R s = by (soundSums R (s .sums)) (declaredRule R (asDeclared (s .declared))) refl
-  where
-    by : (a b : Bool) → soundSums R (s .sums) ≡ a → AddUp (cond (a && b) (closing (summed (s .sums)) (s .declared)) zeroTotals)
-    by true true e = (sound-facts R (s .sums) e) .modesAll
-    by true false e = refl
-    by false b e = refl
+unfolding totalsNow
+modes-kept R s = kept-add-up R (s .sums) (s .declared)
 
 pub the-session-keeps : (R : Rules) → FitsBytes R → TheSessionKeeps R
 the-session-keeps R B = record { keptAsJudged = kept-as-judged R B; refusedLeaves = refused-leaves R; refusedByNumber = refused-by-number R; startingForgets = starting-forgets R; keptModesAddUp = modes-kept R }
