@@ -22,9 +22,10 @@ use Rattle.link.specs.Piece.{declares, runEnd, isEnded, nextPlace, mayCo
 
 -- # The limits
 
-pub log-long : base .longestLog ≡ 65535
+-- Two logs of any length that the rules allow have fewer bytes than a number of four bytes counts.
+pub log-fits : base .longestLog < 2_147_483_648
 unfolding base
-log-long = refl
+log-fits = omega arith
 
 pub line-long : base .longestLine ≡ 75
 unfolding base

@@ -99,7 +99,7 @@ pub fn opened() -> Link
 
 // A refusal at the line that is coming.
 fn stopped_here(s: Link, number: u32, field: u32) -> Link
-    requires { ⌜ s .lines < 65536 ⌝ }
+    requires { ⌜ s .lines ≤ base .longestLog ⌝ }
     ensures { λ r. ⌜ r ≡ stoppedBy (refusal number (lineOf s) field) ⌝ }
 {
     stopped(number, s.lines + 1, field)
@@ -229,7 +229,7 @@ fn rated_by(s: Link, line: &[u8]) -> Rated
 
 // A line in front of the records is taken, and this is the next stage; N and how many records are taken, too.
 fn went_on(s: Link, line: &[u8], stage: u16, records: u16, done: u16) -> Link
-    requires { ⌜ s .lines < 65536 ⌝ }
+    requires { ⌜ s .lines ≤ base .longestLog ⌝ }
     ensures { λ r. ⌜ r ≡ wentOn base s (now (line .entry)) stage records done ⌝ }
 {
     let counts = s.counts;
@@ -252,7 +252,7 @@ fn went_on(s: Link, line: &[u8], stage: u16, records: u16, done: u16) -> Link
 
 // The count line is read.
 fn announced(s: Link, line: &[u8], n: usize, verdicts: usize, worked: usize) -> Link
-    requires { ⌜ s .lines < 65536 ⌝ }
+    requires { ⌜ s .lines ≤ base .longestLog ⌝ }
     ensures { λ r. ⌜ r ≡ ifLong (lentOf verdicts worked) (wentOn base s (now (line .entry)) 39 (low n) 0) ⌝ }
 {
     let t = went_on(s, line, RECORDS, low(n as u64), 0);
@@ -263,7 +263,7 @@ fn announced(s: Link, line: &[u8], n: usize, verdicts: usize, worked: usize) -> 
 }
 
 fn head_goes(s: Link, line: &[u8], next: Due, verdicts: usize, worked: usize) -> Link
-    requires { ⌜ s .lines < 65536 ⌝ }
+    requires { ⌜ s .lines ≤ base .longestLog ⌝ }
     ensures { λ r. ⌜ r ≡ headGoes base (lentOf verdicts worked) s (now (line .entry)) next ⌝ }
 {
     match next {
@@ -278,7 +278,7 @@ fn head_goes(s: Link, line: &[u8], next: Due, verdicts: usize, worked: usize) ->
 
 // A line in front of the records.
 fn head_line(s: Link, line: &[u8], verdicts: usize, worked: usize) -> Link
-    requires { ⌜ s .lines < 65536 ⌝ }
+    requires { ⌜ s .lines ≤ base .longestLog ⌝ }
     ensures { λ r. ⌜ r ≡ headLine base (lentOf verdicts worked) s (now (line .entry)) ⌝ }
 {
     let stepped = reader::step(due_of(s), line);
@@ -291,7 +291,7 @@ fn head_line(s: Link, line: &[u8], verdicts: usize, worked: usize) -> Link
 
 // The state with one record more.
 fn with_record(s: Link, worth: u64, mode: u8, number: u8) -> Link
-    requires { ⌜ (s .lines < 65536) × (s .done < s .records) × (worth ≤ mostWorth base) ⌝ }
+    requires { ⌜ (s .lines ≤ base .longestLog) × (s .done < s .records) × (worth ≤ mostWorth base) ⌝ }
     ensures { λ r. ⌜ r ≡ withRecord s worth mode number ⌝ }
 {
     let after = judge::counted_more(s.points, s.counts, worth as u32, mode, number);
@@ -316,7 +316,7 @@ fn with_record(s: Link, worth: u64, mode: u8, number: u8) -> Link
 
 // A record's line: its verdict and what is worked are written behind those of the records before it.
 fn record_line(s: Link, line: &[u8], verdicts: &mut [u8], worked: &mut [u8]) -> Link
-    requires { ⌜ (s .lines < 65536) × (s .done < s .records) ⌝ }
+    requires { ⌜ (s .lines ≤ base .longestLog) × (s .done < s .records) ⌝ }
     ensures answer { λ r. ⌜ r ≡ (recordLine base (holding s (now (verdicts .entry)) (now (worked .entry))) (now (line .entry))) .link ⌝ }
     ensures verdicts { λ r. ⌜ now (verdicts .exit) ≡ (recordLine base (holding s (now (verdicts .entry)) (now (worked .entry))) (now (line .entry))) .verdicts ⌝ }
     ensures worked { λ r. ⌜ now (worked .exit) ≡ (recordLine base (holding s (now (verdicts .entry)) (now (worked .entry))) (now (line .entry))) .worked ⌝ }
@@ -337,7 +337,7 @@ fn record_line(s: Link, line: &[u8], verdicts: &mut [u8], worked: &mut [u8]) -> 
 
 // A line is finished: its LF came.
 fn finished(s: Link, line: &[u8], verdicts: &mut [u8], worked: &mut [u8]) -> Link
-    requires { ⌜ (s .lines < 65536) × (isEnd (dueOf s) ≡ false) ⌝ }
+    requires { ⌜ (s .lines ≤ base .longestLog) × (isEnd (dueOf s) ≡ false) ⌝ }
     ensures answer { λ r. ⌜ r ≡ (finishes base (holding s (now (verdicts .entry)) (now (worked .entry))) (now (line .entry))) .link ⌝ }
     ensures verdicts { λ r. ⌜ now (verdicts .exit) ≡ (finishes base (holding s (now (verdicts .entry)) (now (worked .entry))) (now (line .entry))) .verdicts ⌝ }
     ensures worked { λ r. ⌜ now (worked .exit) ≡ (finishes base (holding s (now (verdicts .entry)) (now (worked .entry))) (now (line .entry))) .worked ⌝ }
@@ -357,7 +357,7 @@ fn joined(
     verdicts: &mut [u8],
     worked: &mut [u8],
 ) -> Link
-    requires { ⌜ (s .lines < 65536) × (isEnd (dueOf s) ≡ false) × (at ≤ end) × (end ≤ length (now bytes)) × (s .held + (end - at) ≤ 75) ⌝ }
+    requires { ⌜ (s .lines ≤ base .longestLog) × (isEnd (dueOf s) ≡ false) × (at ≤ end) × (end ≤ length (now bytes)) × (s .held + (end - at) ≤ 75) ⌝ }
     ensures answer { λ r. ⌜ r ≡ (finishes base (holding s (now (verdicts .entry)) (now (worked .entry))) (begun s ++ between (now (bytes .entry)) at end)) .link ⌝ }
     ensures verdicts { λ r. ⌜ now (verdicts .exit) ≡ (finishes base (holding s (now (verdicts .entry)) (now (worked .entry))) (begun s ++ between (now (bytes .entry)) at end)) .verdicts ⌝ }
     ensures worked { λ r. ⌜ now (worked .exit) ≡ (finishes base (holding s (now (verdicts .entry)) (now (worked .entry))) (begun s ++ between (now (bytes .entry)) at end)) .worked ⌝ }
@@ -400,7 +400,7 @@ fn is_ended(held: usize, returned: u8, bytes: &[u8], at: usize, end: usize) -> b
 
 // Where the next line begins.
 fn behind(returned: u8, end: usize) -> usize
-    requires { ⌜ end ≤ 65536 ⌝ }
+    requires { ⌜ end ≤ base .longestLog ⌝ }
     ensures { λ r. ⌜ r ≡ nextPlace returned end ⌝ }
 {
     if returned != 0 {
@@ -461,7 +461,7 @@ fn held_as(s: Link, held: u16, returned: u8, line: [u8; rules::LONGEST_LINE]) ->
 
 // What is left of a piece is held, or it is refused. Bytes that are too many for the log may be behind it.
 fn held_on(s: Link, bytes: &[u8], at: usize, end: usize, over: bool) -> Link
-    requires { ⌜ (s .lines < 65536) × (at ≤ end) × (end ≤ length (now bytes)) × (s .held ≤ 75) ⌝ }
+    requires { ⌜ (s .lines ≤ base .longestLog) × (at ≤ end) × (end ≤ length (now bytes)) × (s .held ≤ 75) ⌝ }
     ensures { λ r. ⌜ r ≡ heldOn base s (now (bytes .entry)) at end over ⌝ }
 {
     if s.returned != 0 {
@@ -481,7 +481,7 @@ fn held_on(s: Link, bytes: &[u8], at: usize, end: usize, over: bool) -> Link
 
 // So many bytes more came.
 fn counted(s: Link, n: usize) -> Link
-    requires { ⌜ (s .count ≤ 65535) × (n ≤ 65535) ⌝ }
+    requires { ⌜ (s .count ≤ base .longestLog) × (n ≤ base .longestLog) ⌝ }
     ensures { λ r. ⌜ r ≡ counted n s ⌝ }
 {
     let refusal = s.refusal;
@@ -506,8 +506,8 @@ fn counted(s: Link, n: usize) -> Link
 
 // How many of so many bytes a log has room for that has so many.
 fn room_for(count: u32, bytes: usize) -> usize
-    requires { ⌜ count ≤ 65535 ⌝ }
-    ensures { λ r. ⌜ r ≡ min bytes (65535 - count) ⌝ }
+    requires { ⌜ count ≤ base .longestLog ⌝ }
+    ensures { λ r. ⌜ r ≡ min bytes (base .longestLog - count) ⌝ }
 {
     let room = rules::longest_log() - count as usize;
     if room < bytes {
@@ -562,7 +562,7 @@ fn with_byte(s: Link, b: u8) -> Link
 
 // All bytes of a piece, which are counted already: from line to line, and what is left is held.
 fn went(s: Link, bytes: &[u8], over: bool, verdicts: &mut [u8], worked: &mut [u8]) -> Link
-    requires { ⌜ (isOpen s ≡ true) × (s .held ≤ 75) × (s .lines + length (now bytes) ≤ 65535) ⌝ }
+    requires { ⌜ (isOpen s ≡ true) × (s .held ≤ 75) × (s .lines + length (now bytes) ≤ base .longestLog) ⌝ }
     ensures answer { λ r. ⌜ r ≡ (overrun over (bytesIn base (holding s (now (verdicts .entry)) (now (worked .entry))) (now (bytes .entry)))) .link ⌝ }
     ensures verdicts { λ r. ⌜ now (verdicts .exit) ≡ (overrun over (bytesIn base (holding s (now (verdicts .entry)) (now (worked .entry))) (now (bytes .entry)))) .verdicts ⌝ }
     ensures worked { λ r. ⌜ now (worked .exit) ≡ (overrun over (bytesIn base (holding s (now (verdicts .entry)) (now (worked .entry))) (now (bytes .entry)))) .worked ⌝ }
@@ -693,7 +693,7 @@ fn accepted(s: Link) -> Closing
 
 // The state at the end of the bytes: as it is where all is there, and else with what that is refused with.
 fn rested(s: Link) -> Link
-    requires { ⌜ s .lines < 65536 ⌝ }
+    requires { ⌜ s .lines ≤ base .longestLog ⌝ }
     ensures { λ r. ⌜ r ≡ restedBy s (atRest (dueOf s) (lineOf s) (restOf s)) ⌝ }
 {
     if s.stage < RECORDS {

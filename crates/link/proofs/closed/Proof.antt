@@ -12,7 +12,6 @@ use Rattle.link.specs.declared.Link.{Link}
 use Rattle.rules.specs.Link.{Lent}
 use Rattle.link.specs.Link.{isOpen, lentOf, asked, unended}
 use Rattle.link.proofs.StateLaws.{sound-is}
-use Rattle.link.proofs.TestLaws.{log-long}
 use Rattle.link.proofs.CallLaws.{asked-on, close-by, close-unended, close-accepts}
 use Rattle.link.proofs.closed.Statement.{statement}
 use Rattle.link.proofs.closed.Tie as tie
@@ -50,7 +49,7 @@ rested-requires c κs =
     let on = asked-on base (lends s) (s .args .s) (ap (λ (t : Link). isOpen t) (is k) ∙ unrefused c) in
     let good = sound-is base (s .args .s) (on .1) in
     let same : k .asked .result .lines ≡ s .args .s .lines = ap (λ (t : Link). t .lines) (sym (is k) ∙ on .0) in
-    omega (arith, log-long, good .lines, good .count, same)
+    omega (arith, good .lines, good .count, same)
 
 unended-requires-2 : tie.Need-unended-requires-2
 unended-requires-2 c κs = search needs

@@ -1,6 +1,8 @@
 -- The refusal is told at the line that is coming.
+use native.Mathlib.Omega.{arith}
 use borrow.Author.Needs.{needs}
 use Prim.Native.Nat.{_-_}
+use Rattle.link.proofs.TestLaws.{log-fits}
 use Rattle.link.proofs.stopped_here.Statement.{statement}
 use Rattle.link.proofs.stopped_here.Tie as tie
 use Rattle.link.proofs.stopped_here.Reads as reads
@@ -8,7 +10,7 @@ use Rattle.link.proofs.stopped_here.Lts as lts
 use Rattle.link.proofs.stopped.Reads as stopped-reads
 
 add-stopped : tie.Need-add-stopped
-add-stopped c = search needs
+add-stopped c = omega (arith, log-fits)
 
 stopped-requires : tie.Need-stopped-requires
 stopped-requires c κs = search needs

@@ -1,5 +1,5 @@
 -- As many bytes as there is room for, and number 1 where there are more.
-use Prim.Native.Nat.{ℕ, _-_, min}
+use Prim.Native.Nat.{_-_}
 use native.Mathlib.Omega.{arith}
 use mathlib.Core.Path.{_≡_, sym, ap, _∙_}
 use lib.ListN.{length, take}
@@ -10,7 +10,6 @@ use Rattle.link.specs.declared.Link.{Link}
 use Rattle.link.specs.Link.{Holding, holding, isOpen, counted}
 use lib.Seq.{length-take-le}
 use Rattle.link.proofs.StateLaws.{IsSound, sound-is}
-use Rattle.link.proofs.TestLaws.{log-long}
 use Rattle.link.proofs.CallLaws.{taken-by}
 use Rattle.link.proofs.taken.Statement.{statement}
 use Rattle.link.proofs.taken.Tie as tie
@@ -23,10 +22,10 @@ abbrev start : tie.After-room-for → tie.Start
 start r = r .before .before .before .before
 
 room-for-requires : tie.Need-room-for-requires
-room-for-requires c κs = omega (arith, log-long, sound (c .before .before .before) .count)
+room-for-requires c κs = sound (c .before .before .before) .count
 
 counted-requires : tie.Need-counted-requires
-counted-requires c κs = (omega (arith, log-long, sound (c .before .before .before .before) .count), omega (arith, c .room-for .ensures))
+counted-requires c κs = (sound (c .before .before .before .before) .count, omega (arith, c .room-for .ensures))
 
 slice-aggregate-went : tie.Need-slice-aggregate-went
 slice-aggregate-went c = sym (length-take-le _ _ (omega (arith, c .before .before .room-for .ensures)))
@@ -40,7 +39,7 @@ went-requires c κs =
     let lines : c .before .before .before .counted .result .lines ≡ s .args .s .lines = ap (λ (t : Link). t .lines) e in
     let n = c .before .before .before .before .room-for in
     let long : length (take (n .result) (now (s .args .bytes))) ≡ n .result = length-take-le _ _ (omega (arith, n .ensures)) in
-    (ap (λ (t : Link). isOpen t) e ∙ s .pre .0, omega (arith, held, sound s .held), omega (arith, log-long, lines, long, n .ensures, sound s .lines, sound s .count))
+    (ap (λ (t : Link). isOpen t) e ∙ s .pre .0, omega (arith, held, sound s .held), omega (arith, lines, long, n .ensures, sound s .lines, sound s .count))
 
 same-length : tie.Need-same-length
 same-length c = search needs
@@ -53,7 +52,7 @@ returns c =
     let w = c .before .before .before .before in
     let a = start (w .before .before .before .before .before) .args in
     let h = holding (a .s) (now (a .verdicts)) (now (a .worked)) in
-    let room = w .before .before .before .before .before .room-for .ensures ∙ ap (λ (most : ℕ). min (length (now (a .bytes))) (most - a .s .count)) (sym log-long) in
+    let room = w .before .before .before .before .before .room-for .ensures in
     let same = taken-by base h (now (a .bytes)) room (w .before .before .before .before .counted .ensures) in
     (w .went .ensures .0 ∙ ap (λ (g : Holding). g .link) same, (w .went .ensures .1 .0 ∙ ap (λ (g : Holding). g .verdicts) same, w .went .ensures .1 .1 ∙ ap (λ (g : Holding). g .worked) same))
 

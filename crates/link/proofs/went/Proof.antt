@@ -14,7 +14,7 @@ use Rattle.reader.specs.Contact.{between}
 use Rattle.link.specs.Link.{Holding, holding, begun, dueOf, isEnd, finishes, bytesIn, overrun}
 use Rattle.link.specs.Piece.{isEnded}
 use Rattle.link.proofs.PieceLaws.{run-inside, ends-there}
-use Rattle.link.proofs.TestLaws.{log-long, line-long}
+use Rattle.link.proofs.TestLaws.{line-long}
 use Rattle.link.proofs.WalkLaws.{Walks, walks-from, walks-over, walks-end, walks-beyond, walks-held, walks-refused, walks-on}
 use Rattle.link.proofs.went.Statement.{statement}
 use Rattle.link.proofs.went.Tie as tie
@@ -102,13 +102,13 @@ same-worked j = j .joined .kept .1 .1 .1 .1 .1 .0 ∙ lineAt j .loop .inv .2
 loop-holds : tie.Need-loop-holds Inv-loop μ-loop
 loop-holds c =
     let s = c .before .before .before in
-    (walks-from base (s .args .over) (now (s .args .bytes)) (holding (s .args .s) (now (s .args .verdicts)) (now (s .args .worked))) (s .pre .0) (omega (arith, line-long, s .pre .1)) (omega (arith, line-long, long s)) (omega (arith, log-long, s .pre .2)), refl, refl)
+    (walks-from base (s .args .over) (now (s .args .bytes)) (holding (s .args .s) (now (s .args .verdicts)) (now (s .args .worked))) (s .pre .0) (omega (arith, line-long, s .pre .1)) (omega (arith, line-long, long s)) (omega (arith, s .pre .2)), refl, refl)
 
 is-complete-requires : tie.Need-is-complete-requires Inv-loop μ-loop
 is-complete-requires c κs = search needs
 
 stopped-here-requires : tie.Need-stopped-here-requires Inv-loop μ-loop
-stopped-here-requires c κs = let w = walks (c .before .before .before) in omega (arith, log-long, w .lines)
+stopped-here-requires c κs = let w = walks (c .before .before .before) in omega (arith, w .lines)
 
 same-length : tie.Need-same-length Inv-loop μ-loop
 same-length c = search needs
@@ -136,7 +136,7 @@ is-ended-requires c κs =
 held-on-requires : tie.Need-held-on-requires Inv-loop μ-loop
 held-on-requires c κs =
     let p = c .before .before .before in
-    (omega (arith, log-long, walks (looped p) .lines), spans p .0, spans p .1, omega (arith, line-long, walks (looped p) .few))
+    (omega (arith, walks (looped p) .lines), spans p .0, spans p .1, omega (arith, line-long, walks (looped p) .few))
 
 same-length-3 : tie.Need-same-length-3 Inv-loop μ-loop
 same-length-3 c = search needs
@@ -155,7 +155,7 @@ returns-2 c =
 behind-requires : tie.Need-behind-requires Inv-loop μ-loop
 behind-requires c κs =
     let p = ran c in
-    omega (arith, log-long, spans p .1, walks (looped p) .lines, walks (looped p) .within)
+    omega (arith, spans p .1, walks (looped p) .lines, walks (looped p) .within)
 
 joined-requires : tie.Need-joined-requires Inv-loop μ-loop
 joined-requires c κs =
@@ -163,7 +163,7 @@ joined-requires c κs =
     let p = ran b in
     let l = looped p in
     let k = ends-there base (l .loop .t) (text l) (l .loop .at) (end p) (walks l .few) (inside p) (p .run-end .ensures) (ends b) in
-    (omega (arith, log-long, walks l .lines), line p, spans p .0, spans p .1, omega (arith, line-long, k .room))
+    (omega (arith, walks l .lines), line p, spans p .0, spans p .1, omega (arith, line-long, k .room))
 
 same-length-5 : tie.Need-same-length-5 Inv-loop μ-loop
 same-length-5 c = same-verdicts (c .before .before .before .before .before .before)

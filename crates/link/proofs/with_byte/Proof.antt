@@ -6,7 +6,7 @@ use lib.ListN.{length}
 use borrow.Author.Needs.{needs}
 use Rattle.rules.specs.Rules.{base}
 use Rattle.link.proofs.TakenLaws.{byte-by}
-use Rattle.link.proofs.TestLaws.{log-long, line-long, takes-byte}
+use Rattle.link.proofs.TestLaws.{log-fits, line-long, takes-byte}
 use Rattle.link.proofs.with_byte.Statement.{statement}
 use Rattle.link.proofs.with_byte.Tie as tie
 
@@ -24,8 +24,7 @@ add-t10 : tie.Need-add-t10
 add-t10 c =
     let s = c .before .before .before .before .before .before in
     let t = takes-byte base (s .args .s) (s .args .b) (s .pre) in
-    let small : s .args .s .count < 65535 = omega (arith, log-long, t .room) in
-    search needs
+    omega (arith, log-fits, t .room)
 
 add-t11 : tie.Need-add-t11
 add-t11 c =

@@ -1,8 +1,9 @@
 -- The counts have one record more.
+use native.Mathlib.Omega.{arith}
 use Prim.Native.Nat.{_-_}
 use borrow.Author.Needs.{needs}
 use Rattle.link.proofs.TakenLaws.{record-by}
-use Rattle.link.proofs.TestLaws.{worth-fits}
+use Rattle.link.proofs.TestLaws.{log-fits, worth-fits}
 use Rattle.link.proofs.with_record.Statement.{statement}
 use Rattle.link.proofs.with_record.Tie as tie
 use Rattle.link.proofs.with_record.Reads as reads
@@ -16,7 +17,7 @@ counted-more-requires : tie.Need-counted-more-requires
 counted-more-requires c κs = search needs
 
 add-t9 : tie.Need-add-t9
-add-t9 c = search needs
+add-t9 c = omega (arith, log-fits)
 
 add-t10 : tie.Need-add-t10
 add-t10 c = search needs
