@@ -23,24 +23,6 @@ unfoldable pub argumentsOn : Due → Text → List Text
 unfolding withLine
 argumentsOn due l = (withLine due l noLog) .arguments
 
-line-records : (due : Due) (l : Text) (log : Log) → (withLine due l log) .records ≡ recordsOn due l ++ log .records
-unfolding withLine recordsOn
-line-records Identifier l log = refl
-line-records (Keyword k) l log = refl
-line-records Remarks l log = refl
-line-records Remark l log = refl
-line-records (Record n) l log = refl
-line-records End l log = refl
-
-line-arguments : (due : Due) (l : Text) (log : Log) → (withLine due l log) .arguments ≡ argumentsOn due l ++ log .arguments
-unfolding withLine argumentsOn
-line-arguments Identifier l log = refl
-line-arguments (Keyword k) l log = refl
-line-arguments Remarks l log = refl
-line-arguments Remark l log = refl
-line-arguments (Record n) l log = refl
-line-arguments End l log = refl
-
 -- A record's line brings its record alone.
 pub record-on : (n : ℕ) (l : Text) → recordsOn (Record n) l ≡ qsoOf (parts l) ∷ []
 unfolding recordsOn withLine
@@ -50,26 +32,41 @@ pub no-argument-on : (n : ℕ) (l : Text) → argumentsOn (Record n) l ≡ []
 unfolding argumentsOn withLine
 no-argument-on n l = refl
 
--- What lines bring stands in front of what those behind them do.
-from-records : (fs : List Finished) (log : Log) → (logFrom fs log) .records ≡ (logFrom fs noLog) .records ++ log .records
-unfolding logFrom recordsOn
-from-records [] log = refl
-from-records (f ∷ fs) log =
-    let before = (logFrom fs noLog) .records in
-    from-records fs (withLine (f .due) (f .line) log)
-    ∙ ap (λ (qs : List Qso). before ++ qs) (line-records (f .due) (f .line) log)
-    ∙ sym (append-assoc before (recordsOn (f .due) (f .line)) (log .records))
-    ∙ ap (λ (qs : List Qso). qs ++ log .records) (sym (from-records fs (withLine (f .due) (f .line) noLog)))
+-- # One line more
 
-from-arguments : (fs : List Finished) (log : Log) → (logFrom fs log) .arguments ≡ (logFrom fs noLog) .arguments ++ log .arguments
-unfolding logFrom argumentsOn
-from-arguments [] log = refl
-from-arguments (f ∷ fs) log =
-    let before = (logFrom fs noLog) .arguments in
-    from-arguments fs (withLine (f .due) (f .line) log)
-    ∙ ap (λ (ts : List Text). before ++ ts) (line-arguments (f .due) (f .line) log)
-    ∙ sym (append-assoc before (argumentsOn (f .due) (f .line)) (log .arguments))
-    ∙ ap (λ (ts : List Text). ts ++ log .arguments) (sym (from-arguments fs (withLine (f .due) (f .line) noLog)))
+-- A part of a log that is a list: each line puts what it brings in front of what those behind it do.
+module _ {A : Type 0} (part : Log → List A) (of-nothing : part noLog ≡ []) (brings : (due : Due) (l : Text) (log : Log) → part (withLine due l log) ≡ part (withLine due l noLog) ++ part log) where
+  part-from : (fs : List Finished) (log : Log) → part (logFrom fs log) ≡ part (logFrom fs noLog) ++ part log
+  unfolding logFrom
+  part-from [] log = ap (λ (xs : List A). xs ++ part log) (sym of-nothing)
+  part-from (f ∷ fs) log =
+      let before = part (logFrom fs noLog) in
+      part-from fs (withLine (f .due) (f .line) log)
+      ∙ ap (λ (xs : List A). before ++ xs) (brings (f .due) (f .line) log)
+      ∙ sym (append-assoc before (part (withLine (f .due) (f .line) noLog)) (part log))
+      ∙ ap (λ (xs : List A). xs ++ part log) (sym (part-from fs (withLine (f .due) (f .line) noLog)))
+
+  part-grows : (k : Link) (l : Text) (next : Due) → part (logOf (goesOn k l next)) ≡ part (logOf k) ++ part (withLine (k .due) l noLog)
+  unfolding logOf logFrom goesOn
+  part-grows k l next = part-from (k .finished) (withLine (k .due) l noLog)
+
+line-records : (due : Due) (l : Text) (log : Log) → (withLine due l log) .records ≡ (withLine due l noLog) .records ++ log .records
+unfolding withLine
+line-records Identifier l log = refl
+line-records (Keyword k) l log = refl
+line-records Remarks l log = refl
+line-records Remark l log = refl
+line-records (Record n) l log = refl
+line-records End l log = refl
+
+line-arguments : (due : Due) (l : Text) (log : Log) → (withLine due l log) .arguments ≡ (withLine due l noLog) .arguments ++ log .arguments
+unfolding withLine
+line-arguments Identifier l log = refl
+line-arguments (Keyword k) l log = refl
+line-arguments Remarks l log = refl
+line-arguments Remark l log = refl
+line-arguments (Record n) l log = refl
+line-arguments End l log = refl
 
 -- The records of the lines that were taken, and the arguments.
 abbrev pub recordsOf : Link → List Qso
@@ -78,12 +75,11 @@ recordsOf k = (logOf k) .records
 abbrev pub argumentsOf : Link → List Text
 argumentsOf k = (logOf k) .arguments
 
--- One line more brings what it brings behind them.
 module _ (k : Link) (l : Text) (next : Due) where
   pub records-grow : recordsOf (goesOn k l next) ≡ recordsOf k ++ recordsOn (k .due) l
-  unfolding logOf logFrom goesOn recordsOn
-  records-grow = from-records (k .finished) (withLine (k .due) l noLog)
+  unfolding recordsOn
+  records-grow = part-grows (λ (log : Log). log .records) refl line-records k l next
 
   pub arguments-grow : argumentsOf (goesOn k l next) ≡ argumentsOf k ++ argumentsOn (k .due) l
-  unfolding logOf logFrom goesOn argumentsOn
-  arguments-grow = from-arguments (k .finished) (withLine (k .due) l noLog)
+  unfolding argumentsOn
+  arguments-grow = part-grows (λ (log : Log). log .arguments) refl line-arguments k l next

@@ -35,6 +35,10 @@ begins c = c .before .before .before .before .before
 abbrev start : tie.After-put-text → tie.Start
 start p = begins (p .before .before .before .before)
 
+-- The same from the end of the code, where the line is read from the copy.
+abbrev put : tie.After-slice-known6 → tie.After-put-text
+put c = c .before .before .before .before .before .before .before .before .before
+
 fits : (c : tie.Start) → c .args .s .held + length (part c) ≤ length (c .args .s .line)
 fits c = omega (arith, part-long c, long c, c .pre .4)
 
@@ -114,10 +118,11 @@ same-length-4 c = search needs
 
 returns-2 : tie.Need-returns-2
 returns-2 c =
-    let a = start (c .before .before .before .before .before .before .before .before .before) .args in
+    let p = put c in
+    let a = start p .args in
     let h = holding (a .s) (now (a .verdicts)) (now (a .worked)) in
     let f = c .before .before .before .before .finished2 .ensures in
-    let line = line-is (c .before .before .before .before .before .before .before .before .before) in
+    let line = line-is p in
     (f .0 ∙ ap (λ (l : Text). (finishes base h l) .link) line, (f .1 .0 ∙ ap (λ (l : Text). (finishes base h l) .verdicts) line, f .1 .1 ∙ ap (λ (l : Text). (finishes base h l) .worked) line))
 
 pub joined-spec : {M : Type 1} → statement M

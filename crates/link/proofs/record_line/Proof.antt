@@ -10,6 +10,16 @@ use Rattle.link.proofs.record_line.Tie as tie
 abbrev start : tie.After-keep-line → tie.Start
 start k = k .before .before .before .before .before .before .before
 
+-- Where that is looked back to: something is wrong with the line, nothing is, and the state has it.
+abbrev wrong : tie.After-stopped-here → tie.After-keep-line
+wrong c = c .before .before .before .before .before .before .before .before
+
+abbrev right : tie.Else1 → tie.After-keep-line
+right c = c .before .before .before .before .before .before .before
+
+abbrev counted : tie.After-with-record → tie.After-keep-line
+counted c = right (c .before)
+
 cast-keep-line : tie.Need-cast-keep-line
 cast-keep-line c = search needs
 
@@ -27,13 +37,13 @@ same-length-2 c = search needs
 
 returns : tie.Need-returns
 returns c =
-    let k = c .before .before .before .before .before .before .before .before in
+    let k = wrong c in
     let a = start k .args in
     (record-refused base (a .s) (now (a .line)) (now (a .verdicts)) (now (a .worked)) (k .keep-line .ensures .0) (c .before .if1 .taken) (c .stopped-here .ensures), (record-verdicts base (a .s) (now (a .line)) (now (a .verdicts)) (now (a .worked)) (k .keep-line .ensures .1 .0), record-worked base (a .s) (now (a .line)) (now (a .verdicts)) (now (a .worked)) (k .keep-line .ensures .1 .1)))
 
 with-record-requires : tie.Need-with-record-requires
 with-record-requires c κs =
-    let k = c .before .before .before .before .before .before .before in
+    let k = right c in
     let a = start k .args in
     let worth = kept-worth base (a .s) (now (a .line)) (now (a .verdicts)) (now (a .worked)) (k .keep-line .ensures .0) in
     (start k .pre .0, start k .pre .1, worth)
@@ -46,7 +56,7 @@ same-length-4 c = search needs
 
 returns-2 : tie.Need-returns-2
 returns-2 c =
-    let k = c .before .before .before .before .before .before .before .before in
+    let k = counted c in
     let a = start k .args in
     (record-kept base (a .s) (now (a .line)) (now (a .verdicts)) (now (a .worked)) (k .keep-line .ensures .0) (c .before .if1 .left) (c .with-record .ensures), (record-verdicts base (a .s) (now (a .line)) (now (a .verdicts)) (now (a .worked)) (k .keep-line .ensures .1 .0), record-worked base (a .s) (now (a .line)) (now (a .verdicts)) (now (a .worked)) (k .keep-line .ensures .1 .1)))
 
