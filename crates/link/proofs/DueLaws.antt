@@ -5,9 +5,9 @@ use native.Mathlib.Omega.{arith}
 use mathlib.Core.Path.{_≡_, refl, sym, ap, subst, _∙_}
 use mathlib.Core.Bool.{Bool, true, false, cond, _&&_}
 use mathlib.Core.List.{List, [], _∷_, _++_, append-nil}
-use lib.Dec.{leb, ltb}
+use lib.Dec.{eqb, leb, ltb}
 use lib.ListN.{length, take, drop, length-drop}
-use borrow.Author.Tests.{leb-true, lt-ltb}
+use borrow.Author.Tests.{leb-true, leb-false, lt-ltb, eqb-false}
 use Rattle.rules.specs.declared.Refusal.{Refusal}
 use Rattle.rules.specs.declared.Due.{Due}
 use Rattle.rules.specs.declared.Due.the-variants.{Identifier, Keyword, Remarks, Remark, Record, End}
@@ -92,6 +92,19 @@ head-stage Remarks stage records done n announced h s = (omega (arith, s .0), s 
 head-stage Remark stage records done n announced h s = (omega (arith, s .0), s .1, s .2)
 head-stage (Record m) stage records done n announced h s = never h
 head-stage End stage records done n announced h s = never h
+
+-- So it is by the stage.
+pub head-due : (stage left : ℕ) → stage < 39 → isHead (dueAt stage left) ≡ true
+unfolding dueAt
+head-due stage left early =
+    by (eqb stage 0) (leb stage 36) (eqb stage 37) (eqb stage 38) (λ a b c d. omega (arith, early, leb-false stage 36 b, eqb-false stage 37 c, eqb-false stage 38 d))
+  where
+    by : (a b c d : Bool) → (a ≡ false → b ≡ false → c ≡ false → d ≡ false → ⊥) → isHead (cond a Identifier (cond b (Keyword (stage - 1)) (cond c Remarks (cond d Remark (recordsDue left))))) ≡ true
+    by true b c d n = refl
+    by false true c d n = refl
+    by false false true d n = refl
+    by false false false true n = refl
+    by false false false false n = absurd (n refl refl refl refl)
 
 -- # A line in front of the records
 
@@ -197,6 +210,15 @@ module _ (R : Rules) where
           subst (λ (due : Due). Ahead due (arguments + 0)) then (omega (arith, a))
   ahead-next (Record m) l next arguments h a e = never h
   ahead-next End l next arguments h a e = never h
+
+  -- A keyword that is due next is one of the 36.
+  pub keyword-next : (due : Due) (l : Text) (k : ℕ) → isHead due ≡ true → step R due l ≡ Goes (Keyword k) → k < 36
+  keyword-next Identifier l k h e = ahead-next Identifier l (Keyword k) 0 h refl e .0
+  keyword-next (Keyword j) l k h e = keyword-goes j l (Keyword k) e .0
+  keyword-next Remarks l k h e = ahead-next Remarks l (Keyword k) 36 h refl e .0
+  keyword-next Remark l k h e = ahead-next Remark l (Keyword k) 36 h refl e .0
+  keyword-next (Record m) l k h e = never h
+  keyword-next End l k h e = never h
 
   -- What is declared behind it.
   pub declares-next : FitsLink R → (due : Due) (l : Text) (next : Due) (ts : List Text) (r : Rated) → isHead due ≡ true → Ahead due (length ts) → step R due l ≡ Goes next → Declares R ts r → Declares R (ts ++ argumentsOn due l) (ratedBy R due l r)

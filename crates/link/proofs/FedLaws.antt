@@ -40,6 +40,7 @@ use Rattle.link.proofs.DueLaws.{ahead-end}
 use Rattle.link.proofs.HeldLaws.{CountHeld, lent, Open, Kept, line-none, due-same, announced-same, records-few, keeps-same, kept-stopped, lent-same}
 use Rattle.link.proofs.ByteHeld.{byte-placed}
 use Rattle.link.proofs.CallLaws.{asked-refused, feed-by, close-by}
+use Rattle.link.proofs.PlacedLaws.{placed-rightly}
 
 -- # A refusal stays
 
@@ -365,7 +366,7 @@ module _ {R : Rules} (F : FitsLink R) (verdicts worked : List ℕ) where
       record { held = after .1 .keeps; closes = (closes .refusalIs, closes .totalsAre, closes .linkIs) }
 
 pub the-link-keeps : (R : Rules) → FitsLink R → TheLinkKeeps R
-the-link-keeps R F = record { keptAsFed = kept-as-fed F; refusedLeaves = refused-leaves R; closesRightly = closes-rightly R }
+the-link-keeps R F = record { keptAsFed = kept-as-fed F; refusedLeaves = refused-leaves R; closesRightly = closes-rightly R; placedRightly = placed-rightly R F }
 
 -- The rules of document 01 keep to it.
 pub base-fits : FitsLink base

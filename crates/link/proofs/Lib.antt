@@ -15,4 +15,5 @@ pub mod HeldLaws
 pub mod HeadHeld
 pub mod RecordHeld
 pub mod ByteHeld
+pub mod PlacedLaws
 pub mod FedLaws

@@ -28,9 +28,9 @@ use Rattle.judge.specs.Count.{modePlace}
 use Rattle.judge.specs.Narrow.{totalsIn}
 use Rattle.judge.specs.Sums.{verdictIn}
 use Rattle.writer.specs.Written.{written}
-use Rattle.session.specs.Entry.{keptOf, bytesOf, creditedFrom, recordOf, hasPlaceFor, saidOf, toldLine, refusedLine, withBytes}
+use Rattle.session.specs.Entry.{keptOf, bytesOf, creditedFrom, recordOf, hasPlaceFor, saidOf, toldLine, withBytes}
 use Rattle.session.proofs.ComeLaws.{cameTo}
-use Rattle.session.proofs.StepLaws.{place-asked, keeps-broken, keeps-one}
+use Rattle.session.proofs.StepLaws.{place-asked}
 use Rattle.session.proofs.LineLaws.{Stores, line-said}
 use Rattle.session.proofs.MoreLaws.{verdicts-more, bytes-more}
 use Rattle.session.proofs.EntryLaws.{length-front}
@@ -38,6 +38,7 @@ use Rattle.session.proofs.BackLaws.{said-back, mode-told}
 use Rattle.link.specs.declared.Link.{Link}
 use Rattle.link.specs.Link.{Holding, holding, stopped, lineOf, withRecord, recordTold, recordLine, lentBy}
 use Rattle.link.specs.Keeping.{FitsLink, Keeps, workedOf}
+use Rattle.link.proofs.TakenLaws.{record-broken, record-added}
 use Rattle.link.proofs.LogGrows.{recordsOn, argumentsOn, record-on, no-argument-on, recordsOf, argumentsOf, records-grow, arguments-grow}
 use Rattle.link.proofs.SliceLaid.{over-front, over-more, over-byte}
 use Rattle.link.proofs.SumsHeld.{sums-grow}
@@ -75,13 +76,6 @@ module _ {R : Rules} (F : FitsLink R) (verdicts worked : List ℕ) (total left :
 
   done-is : s .done ≡ n
   done-is = staged-here .2
-
-  -- The line breaks a rule.
-  record-broken : (field : ℕ) → recordRule R l ≡ breaks field → recordLine R h l ≡ stopped h (refusal 5 (lineOf s) field)
-  unfolding recordLine recordTold refusedLine stopped
-  record-broken field e =
-      let told = keeps-broken R l (s .done) workedBytes (h .verdicts) (h .worked) e refl in
-      λ i. holding (recordTold s (sym (told .0) i)) (sym (told .1 .0) i) (sym (told .1 .1) i)
 
   -- It keeps them: there is a place for it.
   module _ (rule : recordRule R l ≡ keepsAll) where
@@ -182,10 +176,9 @@ module _ {R : Rules} (F : FitsLink R) (verdicts worked : List ℕ) (total left :
     taken = holding with (set (h .verdicts) n number) (withBytes R l n workedBytes (h .worked))
 
     line-taken : recordLine R h l ≡ taken
-    unfolding recordLine recordTold toldLine noRefusal recordOf
+    unfolding recordTold toldLine noRefusal recordOf
     line-taken =
-        let told = keeps-one R l (s .done) workedBytes (h .verdicts) (h .worked) rule place (refl, (refl, refl)) in
-        (λ i. holding (recordTold s (sym (told .0) i)) (sym (told .1 .0) i) (sym (told .1 .1) i))
+        record-added R h l rule place
         ∙ (λ i. holding (recordTold s (toldLine R l (done-is i) workedBytes (h .worked))) (set (h .verdicts) (done-is i) (verdictNumber (saidOf R l (done-is i) workedBytes (h .worked)))) (withBytes R l (done-is i) workedBytes (h .worked)))
 
     verdicts-written : set (h .verdicts) n number ≡ over (linkVerdicts R next) verdicts
@@ -278,4 +271,4 @@ module _ {R : Rules} (F : FitsLink R) (verdicts worked : List ℕ) (total left :
       by : (r : RecordRule) → recordRule R l ≡ r → Holds (Asked.afterLine lends k l (afterRecord m r)) (recordLine R h l)
       by keepsAll e = record-taken e
       by (breaks field) e =
-          subst (Holds (Asked.stopped k (refusal 5 (Asked.lineOf k) field))) (sym (record-broken field e)) (stops-here F verdicts worked total left k h keeps o 5 field refl)
+          subst (Holds (Asked.stopped k (refusal 5 (Asked.lineOf k) field))) (sym (record-broken R h l field e)) (stops-here F verdicts worked total left k h keeps o 5 field refl)

@@ -13,6 +13,7 @@ use Rattle.rules.specs.declared.Due.the-variants.{Identifier, Keyword, Remarks,
 use Rattle.rules.specs.declared.Next.the-variants.{Goes, Stops}
 use Rattle.rules.specs.Text.{Text}
 use Rattle.rules.specs.Rules.{Rules}
+use Rattle.rules.specs.Judging.{verdictNumber}
 use Rattle.rules.specs.Reading.{refusal, RecordRule, keeps, breaks, recordRule, recordsDue, step}
 use Rattle.rules.specs.Link.{Lent, isShort, workedBytes}
 use Rattle.rules.proofs.FieldLaws.{record-is}
@@ -23,11 +24,12 @@ use Rattle.judge.specs.declared.Counts.{Counts}
 use Rattle.judge.specs.Narrow.{low, countedMore}
 use Rattle.writer.proofs.WrittenLaws.{written-byte}
 use Rattle.session.specs.declared.LineKept.{LineKept}
-use Rattle.session.specs.Entry.{recordOf, keepsRules, hasPlaceFor, isKept, toldLine, refusedLine, notTaken, lineKept, verdictsKept, bytesKept}
+use Rattle.session.specs.Entry.{recordOf, keepsRules, hasPlaceFor, isKept, saidOf, toldLine, refusedLine, notTaken, lineKept, verdictsKept, withBytes, bytesKept}
+use Rattle.session.proofs.StepLaws.{keeps-broken, keeps-one}
 use Rattle.session.proofs.ComeLaws.{worth-within}
 use Rattle.link.specs.declared.Link.{Link}
 use Rattle.link.specs.declared.Rated.{Rated}
-use Rattle.link.specs.Link.{Holding, holding, noLine, stoppedBy, lineOf, dueAt, dueOf, isEnd, announced, bonusOn, multiplierOn, ratedAt, ratedBy, wentOn, ifLong, headGoes, headNext, headLine, withRecord, recordTold, recordLine, lentBy, finishes, withText, counted}
+use Rattle.link.specs.Link.{Holding, holding, noLine, stoppedBy, stopped, lineOf, dueAt, dueOf, isEnd, announced, bonusOn, multiplierOn, ratedAt, ratedBy, wentOn, ifLong, headGoes, headNext, headLine, withRecord, recordTold, recordLine, lentBy, finishes, withText, counted}
 use Rattle.link.proofs.StateLaws.{due-keyword, end-late}
 
 -- # What is declared
@@ -207,6 +209,23 @@ module _ (R : Rules) (s : Link) (l : Text) (verdicts worked : List ℕ) where
   pub finished-record : 39 ≤ s .stage → recordLine R h l ≡ finishes R h l
   unfolding finishes
   finished-record e = rw (le-ltb (s .stage) 39 e)
+
+-- A record's line, by whether it breaks a rule; where it does not, there is a place for it.
+module _ (R : Rules) (h : Holding) (l : Text) where
+  abbrev record-place : ℕ
+  record-place = h .link .done
+
+  pub record-broken : (field : ℕ) → recordRule R l ≡ breaks field → recordLine R h l ≡ stopped h (refusal 5 (lineOf (h .link)) field)
+  unfolding recordLine recordTold refusedLine stopped
+  record-broken field e =
+      let told = keeps-broken R l record-place workedBytes (h .verdicts) (h .worked) e refl in
+      λ i. holding (recordTold (h .link) (sym (told .0) i)) (sym (told .1 .0) i) (sym (told .1 .1) i)
+
+  pub record-added : recordRule R l ≡ keeps → hasPlaceFor record-place workedBytes (length (h .verdicts)) (length (h .worked)) ≡ true → recordLine R h l ≡ holding (recordTold (h .link) (toldLine R l record-place workedBytes (h .worked))) (set (h .verdicts) record-place (verdictNumber (saidOf R l record-place workedBytes (h .worked)))) (withBytes R l record-place workedBytes (h .worked))
+  unfolding recordLine
+  record-added e place =
+      let told = keeps-one R l record-place workedBytes (h .verdicts) (h .worked) e place (refl, (refl, refl)) in
+      λ i. holding (recordTold (h .link) (sym (told .0) i)) (sym (told .1 .0) i) (sym (told .1 .1) i)
 
 -- A record is due where something is, behind the count line.
 pub some-left : (s : Link) → 39 ≤ s .stage → isEnd (dueOf s) ≡ false → s .done < s .records

@@ -12,6 +12,7 @@ use Rattle.rules.specs.Judging.{verdictsOfLog, zeroTotals}
 use Rattle.rules.specs.Reading.{refusal}
 use Rattle.rules.specs.Answers.{over}
 use Rattle.rules.specs.Demands.{AddUp}
+use Rattle.rules.specs.Given.{LineAndField}
 use Rattle.rules.specs.Link.{Lent, workedBytes, fedAll, logOf, linkVerdicts}
 use Rattle.rules.specs.Link as Asked
 use Rattle.judge.specs.Bounds.{mostWorth}
@@ -70,6 +71,12 @@ pub record ClosesRightly (c : Closing) : Type 0 where
   pub refused : (c .refusal .number ≡ 0 → ⊥) → RefusedAtLast c
   pub modes : AddUp (c .totals)
 
+-- Demand 1: "refused with a number, a line and a field", which are told as document 01 has them by each call on any state that keeps no other refusal,
+-- whatever is lent and whatever comes.
+pub record PlacedRightly (R : Rules) (h : Holding) : Type 0 where
+  pub feeding : (s : Text) → LineAndField ((feed R h s) .link .refusal)
+  pub closing : (lent : Lent) → LineAndField ((close R lent (h .link)) .refusal)
+
 -- What the rules have to keep to for a state to hold all of it: what is worked fits its bytes, and each number of the state its two or four bytes.
 pub record FitsLink (R : Rules) : Type 0 where
   pub bytes : FitsBytes R
@@ -83,3 +90,4 @@ pub record TheLinkKeeps (R : Rules) : Type 0 where
   pub keptAsFed : (verdicts worked : List ℕ) (ps : List Text) → KeptAsFed R verdicts worked ps
   pub refusedLeaves : (h : Holding) → isOpen (h .link) ≡ false → RefusedLeaves R h
   pub closesRightly : (lent : Lent) (s : Link) → ClosesRightly (close R lent s)
+  pub placedRightly : (h : Holding) → LineAndField (h .link .refusal) → PlacedRightly R h

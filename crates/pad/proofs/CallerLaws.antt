@@ -49,7 +49,7 @@ use Rattle.link.specs.Keeping.{KeptAsFed}
 use Rattle.link.proofs.FedLaws.{the-link-keeps, base-fits}
 use Rattle.pad.specs.declared.SumpquinceDeclared.{SumpquinceDeclared}
 use Rattle.pad.specs.Face.{refusalFace, oneIf, readingFace, viewFace, totalsFace, judgementFace, writtenFace, mendedFace, declaredFace, sessionFace, closingFace}
-use Rattle.pad.specs.Caller.{refusalIn, Accepts, cameOver, closedOver, AsJoinedUp, ToldByRead, ToldByView, ToldByJudge, ToldByWrite, ListFits, ToldByMend, ToldBySession, ToldByStart, ToldByTotals, AsTheLog, ToldByClosing, ForTheCaller}
+use Rattle.pad.specs.Caller.{refusalIn, Accepts, cameOver, closedOver, AsJoinedUp, ToldByRead, ToldByView, ToldByJudge, ToldByWrite, ListFits, ToldByMend, ToldBySession, ToldByStart, ToldByTotals, AsTheLog, ToldByClosing, PlacedOver, ForTheCaller}
 
 -- # What a refused call leaves
 
@@ -310,6 +310,12 @@ told-by-closing verdicts worked s =
       modes = modes-told (c .totals) (told .modes);
     }
 
+placed-over : (h : Over.Holding) → LineAndField (h .link .refusal) → PlacedOver h
+unfolding closingFace totalsFace refusalFace
+placed-over h p =
+    let told = (the-link-keeps base base-fits) .placedRightly h p in
+    record { feeding = told .feeding; closing = told .closing }
+
 pub for-the-caller : ForTheCaller
 for-the-caller =
     record {
@@ -325,4 +331,5 @@ for-the-caller =
       overTheLink = as-joined-up;
       refusedLink = (the-link-keeps base base-fits) .refusedLeaves;
       closingLink = told-by-closing;
+      placedLink = placed-over;
     }

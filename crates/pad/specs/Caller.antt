@@ -21,7 +21,7 @@ use Rattle.rules.specs.Given.{LineAndField}
 use Rattle.rules.specs.Session.{session, sessionAfter}
 use Rattle.rules.specs.Session.{Session as Records}
 use Rattle.rules.specs.SessionDemands.{InRange}
-use Rattle.rules.specs.Link.{isShort}
+use Rattle.rules.specs.Link.{Lent, isShort}
 use Rattle.rules.specs.LinkDemands.{joinedAll, Settled, announcedIn, Suffice}
 use Rattle.mender.specs.Answer.{roomsOf}
 use Rattle.judge.specs.Count.{asDeclared}
@@ -178,6 +178,11 @@ pub record ToldByClosing (j : SumpquinceJudgement) (afterwards : Link) : Type 0 
       (Accepts (j .refusal) → ⊥) → (j ≡ totalsFace (j .refusal) zeroTotals) × (refusalFace (afterwards .refusal) ≡ j .refusal)
   pub modes : (length (j .modes) ≡ 11) × (sumOver 11 (λ k. getD (j .modes) k 0) ≡ j .credited)
 
+-- sumpquince_link_feed and _close, of any link that keeps no refusal told otherwise: "refused with a number, a line and a field".
+pub record PlacedOver (h : Over.Holding) : Type 0 where
+  pub feeding : (s : Text) → LineAndField (refusalIn (refusalFace ((Over.feed base h s) .link .refusal)))
+  pub closing : (lent : Lent) → LineAndField (refusalIn ((closingFace (Over.close base lent (h .link))) .refusal))
+
 -- The answers and the slices are those of the contracts of src/lib.rt.
 pub record ForTheCaller : Type 0 where
   pub reading : (s : Text) → ToldByRead s (readingFace (read base s))
@@ -218,3 +223,4 @@ pub record ForTheCaller : Type 0 where
       (verdicts worked : List ℕ) (s : Link) →
       let c = Over.close base (Over.lentOf (length verdicts) (length worked)) s in
       ToldByClosing (closingFace c) (c .link)
+  pub placedLink : (h : Over.Holding) → LineAndField (h .link .refusal) → PlacedOver h

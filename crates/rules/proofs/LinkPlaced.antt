@@ -1,11 +1,11 @@
 -- A call on a link refuses with a number, a line and a field as document 01 has them, and a closing that refuses tells zero totals.
 -- Assumes nothing.
-use Prim.Native.Nat.{ℕ, _+_, _≤_}
+use Prim.Native.Nat.{ℕ, _≤_}
 use native.Mathlib.Omega.{arith}
 use mathlib.Core.Path.{_≡_, refl}
 use mathlib.Core.Logic.{_⊎_, inl, inr}
-use mathlib.Core.Bool.{Bool, true, false, cond, _&&_}
-use mathlib.Core.List.{List, [], _∷_, _++_}
+use mathlib.Core.Bool.{_&&_}
+use mathlib.Core.List.{[], _∷_}
 use lib.Dec.{ltb, eqb}
 use lib.ListN.{length}
 use Rattle.rules.specs.declared.Refusal.{Refusal}
@@ -20,27 +20,30 @@ use Rattle.rules.specs.Answers.{noRefusal}
 use Rattle.rules.specs.Given.{LineAndField}
 use Rattle.rules.specs.Link.{Link, opened, isOpen, lineOf, restOf, stopped, Lent, isShort, goesOn, ifLong, afterLine, finishes, holding, noLineHere, behindReturn, inLine, ofLine, placed, counted, taken, byteIn, asked, bytesIn, feed, Closed, closedBy, closedIf, close}
 use Rattle.rules.specs.LinkDemands.{PlacedRightly, RefusedAtLast}
-use Rattle.rules.proofs.Refusals.{Numbered, on-test, StopsNumbered, step-numbered, Placed, rest-placed}
+use Rattle.rules.proofs.Refusals.{Numbered, two, six, on-test, StopsNumbered, step-numbered, Placed, rest-placed}
 use Rattle.rules.proofs.GivenRefusals.{no-place}
 
 -- # What is told of a line
 
 -- A refusal of a line has its number, and a field in 5 alone.
-at-line : (r : Refusal) → 1 ≤ r .line → Numbered (r .number) (r .field) → LineAndField r
-at-line r h (two, six, few, alone) = record { noLine = λ k. no-line k; aLine = λ k. h; noField = alone; aField = few }
+pub at-line : (r : Refusal) → 1 ≤ r .line → Numbered (r .number) (r .field) → LineAndField r
+at-line r h (least, most, few, alone) = record { noLine = λ k. no-line k; aLine = λ k. h; noField = alone; aField = few }
   where
     no-line : (r .number ≤ 1) ⊎ (7 ≤ r .number) → r .line ≡ 0
     no-line (inl k) = absurd (omega arith)
     no-line (inr k) = absurd (omega arith)
 
--- 1, 7 and 13 have neither line nor field.
-one-told : LineAndField (refusal 1 0 0)
+-- 1, 7 and 13 have neither line nor field, and no refusal has none.
+pub none-told : LineAndField (refusal 0 0 0)
+none-told = no-place 0 (inl (omega arith))
+
+pub one-told : LineAndField (refusal 1 0 0)
 one-told = no-place 1 (inl (omega arith))
 
-seven-told : LineAndField (refusal 7 0 0)
+pub seven-told : LineAndField (refusal 7 0 0)
 seven-told = no-place 7 (inr (omega arith))
 
-thirteen-told : LineAndField (refusal 13 0 0)
+pub thirteen-told : LineAndField (refusal 13 0 0)
 thirteen-told = no-place 13 (inr (omega arith))
 
 -- # One byte
@@ -55,7 +58,7 @@ told-here k number field h = at-line (refusal number (lineOf k) field) (omega ar
 
 told-two : (k : Link) → Told (noLineHere k)
 unfolding noLineHere
-told-two k = told-here k 2 0 (omega arith, omega arith, omega arith, λ n. refl)
+told-two k = told-here k 2 0 two
 
 module _ (R : Rules) (lent : Lent) where
   told-long : (k : Link) → Told k → Told (ifLong lent k)
@@ -85,7 +88,7 @@ module _ (R : Rules) (lent : Lent) where
   told-placed Remarks k b p = told-line k b p
   told-placed Remark k b p = told-line k b p
   told-placed (Record n) k b p = told-line k b p
-  told-placed End k b p = told-here k 6 0 (omega arith, omega arith, omega arith, λ n. refl)
+  told-placed End k b p = told-here k 6 0 six
 
   told-byte : (k : Link) (b : ℕ) → Told k → Told (byteIn R lent k b)
   unfolding byteIn taken counted stopped
@@ -117,7 +120,7 @@ module _ (R : Rules) (lent : Lent) where
 
   told-rest : (k : Link) (a : Reading) → Placed (lineOf k) a → ToldAtLast (closedBy R k a)
   unfolding closedBy stopped noRefusal
-  told-rest k (accepted log) h = (no-place 0 (inl (omega arith)), thirteen-told)
+  told-rest k (accepted log) h = (none-told, thirteen-told)
   told-rest k (refused r) h = let told = at-line r (h .0) (h .2) in (told, told)
 
   told-closed : (k : Link) → Told k → ToldAtLast (close R lent k)
@@ -147,7 +150,7 @@ pub placed-rightly : (R : Rules) → PlacedRightly R
 unfolding opened noRefusal
 placed-rightly R =
     record {
-      opening = no-place 0 (inl (omega arith));
+      opening = none-told;
       feeding = told-fed R;
       closing = λ lent k p. told-closed R lent k p .0;
       closed = λ lent k p. told-closed R lent k p .1;

@@ -116,7 +116,7 @@ StopsNumbered (Stops number field) = Numbered number field
 no-field : (number : ℕ) → 2 ≤ number → number ≤ 6 → Numbered number 0
 no-field number h k = (h, k, omega arith, λ n. refl)
 
-two : Numbered 2 0
+pub two : Numbered 2 0
 two = no-field 2 (omega arith) (omega arith)
 
 three : Numbered 3 0
@@ -125,7 +125,7 @@ three = no-field 3 (omega arith) (omega arith)
 four : Numbered 4 0
 four = no-field 4 (omega arith) (omega arith)
 
-six : Numbered 6 0
+pub six : Numbered 6 0
 six = no-field 6 (omega arith) (omega arith)
 
 pub step-numbered : (R : Rules) (due : Due) (l : Text) → StopsNumbered (step R due l)
