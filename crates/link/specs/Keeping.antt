@@ -71,8 +71,8 @@ pub record ClosesRightly (c : Closing) : Type 0 where
   pub refused : (c .refusal .number ≡ 0 → ⊥) → RefusedAtLast c
   pub modes : AddUp (c .totals)
 
--- Demand 1: "refused with a number, a line and a field", which are told as document 01 has them by each call on any state that keeps no other refusal,
--- whatever is lent and whatever comes.
+-- Demand 1: "refused with a number, a line and a field". Where a state keeps a refusal with line and field as document 01 has them, or none, each call
+-- tells one so, whatever else the state is, whatever is lent and whatever comes.
 pub record PlacedRightly (R : Rules) (h : Holding) : Type 0 where
   pub feeding : (s : Text) → LineAndField ((feed R h s) .link .refusal)
   pub closing : (lent : Lent) → LineAndField ((close R lent (h .link)) .refusal)

@@ -178,7 +178,7 @@ pub record ToldByClosing (j : SumpquinceJudgement) (afterwards : Link) : Type 0 
       (Accepts (j .refusal) → ⊥) → (j ≡ totalsFace (j .refusal) zeroTotals) × (refusalFace (afterwards .refusal) ≡ j .refusal)
   pub modes : (length (j .modes) ≡ 11) × (sumOver 11 (λ k. getD (j .modes) k 0) ≡ j .credited)
 
--- sumpquince_link_feed and _close, of any link that keeps no refusal told otherwise: "refused with a number, a line and a field".
+-- sumpquince_link_feed and _close, of any link whose own refusal has line and field as document 01 has them: so has the one that they tell.
 pub record PlacedOver (h : Over.Holding) : Type 0 where
   pub feeding : (s : Text) → LineAndField (refusalIn (refusalFace ((Over.feed base h s) .link .refusal)))
   pub closing : (lent : Lent) → LineAndField (refusalIn ((closingFace (Over.close base lent (h .link))) .refusal))

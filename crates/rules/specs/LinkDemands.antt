@@ -121,7 +121,8 @@ pub record SevenBefore (R : Rules) (lent : Lent) (k : Link) : Type 0 where
 
 -- # Demand 1
 
--- "refused with a number, a line and a field": an opening keeps none, and each further call keeps and tells what document 01 says of them.
+-- "refused with a number, a line and a field": an opening keeps no refusal, and from there on each call keeps and tells one with line and field as
+-- document 01 has them, or none.
 pub record PlacedRightly (R : Rules) : Type 0 where
   pub opening : LineAndField (opened .refusal)
   pub feeding : (lent : Lent) (k : Link) (s : Text) → LineAndField (k .refusal) → LineAndField ((feed R lent k s) .refusal)
