@@ -1,10 +1,12 @@
 -- The three demands, all of them: what `specs/Demands.antt` states is proved, of any rules under which the claims that are recomputed have room
--- in their places, and so of the base rules; and with them what is asked of the mender, of a session and of the link.
+-- in their places, and so of the base rules; and with them what is asked of the mender, of striking, of a session and of the
+-- link.
 -- Assumes nothing.
 use Rattle.rules.specs.Rules.{Rules, base}
 use Rattle.rules.specs.Demands.{TheThreeDemands, TheBaseKeepsThem}
 use Rattle.rules.specs.SessionDemands.{TheSession}
 use Rattle.rules.specs.LinkDemands.{TheLink}
+use Rattle.rules.specs.StrikingDemands.{TheStriker}
 use Rattle.rules.proofs.Bounds.{total-is-bounded, the-most-total}
 use Rattle.rules.proofs.Classes.{four-counts, calls-byte-for-byte, classes-as-defined}
 use Rattle.rules.proofs.Falls.{striking-rule}
@@ -17,6 +19,7 @@ use Rattle.rules.proofs.PremiseNeeded.{premise-is-needed}
 use Rattle.rules.proofs.Refusals.{every-input, refused-with, refused-reading, refused-judging, refused-writing, refused-view}
 use Rattle.rules.proofs.Respelt.{either-case, spellings-counted}
 use Rattle.rules.proofs.SessionKept.{the-session}
+use Rattle.rules.proofs.StrikingBytes.{the-striker}
 use Rattle.rules.proofs.Struck.{struck-is-accepted}
 use Rattle.rules.proofs.TotalLaws.{totals-as-defined}
 use Rattle.rules.proofs.WritingLaws.{writing-changes}
@@ -64,7 +67,10 @@ the-three-demands =
       theMender = the-mender base;
     }
 
--- `SessionDemands` rests on `Demands`, so that it is joined here and not there.
+-- `StrikingDemands` and `SessionDemands` rest on `Demands`, so that they are joined here and not there.
+pub the-base-striker : TheStriker base
+the-base-striker = the-striker base
+
 pub the-base-session : TheSession base
 the-base-session = the-session base
 

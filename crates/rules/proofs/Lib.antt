@@ -1,5 +1,5 @@
--- The theorems about the definitions alone: laws of texts, lines and logs, then the three demands, what is asked of the mender, of a session and of
--- the link, and all of them joined.
+-- The theorems about the definitions alone: laws of texts, lines and logs, then the three demands, what is asked of the mender, of striking, of a
+-- session and of the link, and all of them joined.
 pub mod Tests
 pub mod TextLaws
 pub mod NumberLaws
@@ -45,6 +45,8 @@ pub mod MendingPlaces
 pub mod MendingDone
 pub mod MendingTold
 pub mod MenderKept
+pub mod StrikingGiven
+pub mod StrikingBytes
 pub mod SessionLaws
 pub mod SessionKept
 pub mod LinkLines

@@ -72,6 +72,15 @@ module _ (R : Rules) where
   unfolding strike front
   front-struck log struck = refl
 
+  -- What is left is no longer than the log.
+  pub struck-no-longer : (log : Log) (struck : Places) → length (render (strike struck log)) ≤ length (render log)
+  unfolding strike
+  struck-no-longer log struck =
+      let qs = log .records in
+      let ps = kept struck qs in
+      let k = kept-less struck qs in
+      omega (arith, length-render log, length-render (strike struck log), ap (λ (f : List Text). length (ended f)) (front-struck log struck), length-count (length ps), length-count (length qs), digits-shorter (length qs) (length ps) (k .fewer), k .shorter)
+
   struck-rightly : (log : Log) (struck : Places) → Rightly R log → Rightly R (strike struck log)
   unfolding strike
   struck-rightly log struck r =
@@ -86,7 +95,7 @@ module _ (R : Rules) where
       (fewer-counted R (length ps) (length qs) (k .fewer) (every-first (lineRule R) (countLine (length qs)) (map recordLine qs) back))
       (k .lineRules (every-others (lineRule R) (countLine (length qs)) (map recordLine qs) back)) in
       record {
-        short = omega (arith, r .short, length-render log, length-render (strike struck log), ap (λ (f : List Text). length (ended f)) (front-struck log struck), length-count (length ps), length-count (length qs), digits-shorter (length qs) (length ps) (k .fewer), k .shorter);
+        short = omega (arith, r .short, struck-no-longer log struck);
         lineRules = rw (lines-split (strike struck log)) (every-append (lineRule R) (front (strike struck log)) (countLine (length ps) ∷ map recordLine ps) before behind);
         spellings = r .spellings;
         rulesOfArguments = r .rulesOfArguments;

@@ -8,7 +8,7 @@ use mathlib.Core.List.{List, _∷_, _++_, map, List·Memᴰ, List·Memᴰ·head,
 use Rattle.rules.specs.Cases.{Case, answer}
 use Rattle.rules.specs.TableArguments.{lineCases, argumentCases, argumentCharacterCases, bandCases, keywordCases, dueCases, spellingCases}
 use Rattle.rules.specs.TableFields.{fieldCases, fieldCharacterCases, calendarCases}
-use Rattle.rules.specs.TableLogs.{case12Cases, readingCases, lendingCases, oldSpellingCases, squareCases, wrongTurnCases, secondTryCases, modeCases, wideCases, samenessCases, valueCases, limitCases}
+use Rattle.rules.specs.TableLogs.{case12Cases, readingCases, lendingCases, oldSpellingCases, squareCases, wrongTurnCases, secondTryCases, modeCases, wideCases, strikingCases, samenessCases, valueCases, limitCases}
 use Rattle.rules.specs.TableMending.{lineEndCases, spaceCases, countCases, placeCases, mendedCases, mendingRefusedCases, mendingRoomCases, mendingLimitCases}
 use Rattle.rules.specs.TableSession.{takingCases, givingCases, sessionRefusedCases}
 use Rattle.rules.specs.TableLink.{cutCases, linkRefusedCases, linkLentCases}
@@ -110,6 +110,10 @@ wideCases-hold : answers wideCases ≡ says wideCases
 unfolding answer wideCases
 wideCases-hold = refl
 
+strikingCases-hold : answers strikingCases ≡ says strikingCases
+unfolding answer strikingCases
+strikingCases-hold = refl
+
 samenessCases-hold : answers samenessCases ≡ says samenessCases
 unfolding answer samenessCases
 samenessCases-hold = refl
@@ -200,6 +204,7 @@ table-holds =
     also computed secondTryCases secondTryCases-hold
     also computed modeCases modeCases-hold
     also computed wideCases wideCases-hold
+    also computed strikingCases strikingCases-hold
     also computed samenessCases samenessCases-hold
     also computed valueCases valueCases-hold
     also computed limitCases limitCases-hold

@@ -22,7 +22,7 @@ use Rattle.rules.specs.Answers.{view, refusalOfView, startOfView, viewed
 use Rattle.rules.specs.Mending.{mendedText, Change, changes, Rooms, mend, refusalOfMending, bytesOfMending, kindsOfMending, linesOfMending}
 use Rattle.rules.specs.Session.{Session, session, Call, Reply, sessionVerdicts, sessionTotals, hasPlace, sessionAfter, repliesTo}
 use Rattle.rules.specs.Link.{Link, opened, Lent, feed, Closed, close, linkVerdicts}
-use Rattle.rules.specs.Striking.{Places, strike, placeAfter, struckWorth}
+use Rattle.rules.specs.Striking.{Places, strike, placeAfter, struckWorth, strikeOut}
 use Rattle.rules.specs.Desk.{desk}
 
 -- A call of the link, with slices of so many verdicts and so many bytes.
@@ -76,6 +76,9 @@ pub data Question : Type 0 where
   isWorth : Places → Text → Question
   -- of struck places and a place: the place that the record there has afterwards
   comesToStand : Places → ℕ → Question
+  -- of a log, marks and a slice of so many bytes: number, line, field, and the bytes written; of a slice that holds this: what it holds afterwards
+  strikesOut : ℕ → List ℕ → Text → Question
+  leavesStriking : List ℕ → List ℕ → Text → Question
   -- of a text: what it is mended to, whatever the reader says of it; the kind and the line of each thing that was changed
   mendsTo : Text → Question
   mendsIn : Text → Question
@@ -202,7 +205,7 @@ unfolding read base render strike totalsOfLog verdictsOfLog verdictNumber
 afterStrike struck log = ofLog judgedIn (read base (render (strike struck log)))
 
 unfoldable pub answer : Question → List ℕ
-unfolding firstLine step dayExists fullYear sameButCase meets recordRule read refusalOfReading recordsOfReading respeltOfReading valid render judge refusalOfJudgement numbersOfJudgement totalsOfJudgement modeNumbers modesTogether desk write refusalOfWriting bytesOfWriting over unclaimed view refusalOfView startOfView viewed listedOfView afterStrike writtenBack strike struckWorth declared verdictsOfLog placeAfter mendedText changes mend refusalOfMending bytesOfMending kindsOfMending linesOfMending paired sessionTotals sessionVerdicts repliesTo sessionAfter hasPlace linkAnswers openedAfter flatMap base
+unfolding firstLine step dayExists fullYear sameButCase meets recordRule read refusalOfReading recordsOfReading respeltOfReading valid render judge refusalOfJudgement numbersOfJudgement totalsOfJudgement modeNumbers modesTogether desk write refusalOfWriting bytesOfWriting over unclaimed view refusalOfView startOfView viewed listedOfView afterStrike writtenBack strike struckWorth declared verdictsOfLog placeAfter strikeOut mendedText changes mend refusalOfMending bytesOfMending kindsOfMending linesOfMending paired sessionTotals sessionVerdicts repliesTo sessionAfter hasPlace linkAnswers openedAfter flatMap base
 answer (hasLine s) = lineIn (firstLine base s)
 answer (leads due l) = nextIn (step base due l)
 answer (isYear yy) = fullYear yy ∷ []
@@ -231,6 +234,9 @@ answer (isStruckTo struck s) = ofLog (λ log. render (strike struck log)) (read 
 answer (isWorth struck s) =
     ofLog (λ log. struckWorth (declared log) struck (log .records) (verdictsOfLog base log) ∷ []) (read base s)
 answer (comesToStand struck n) = placeAfter struck n ∷ []
+answer (strikesOut room marks s) =
+    let w = strikeOut base room marks s in paper (refusalOfWriting w) ++ bytesOfWriting w
+answer (leavesStriking slice marks s) = over (bytesOfWriting (strikeOut base (length slice) marks s)) slice
 answer (mendsTo s) = mendedText s
 answer (mendsIn s) = changesInNumbers (changes s)
 answer (isMended out kinds lines s) =

@@ -18,6 +18,7 @@ pub mod MendingDemands
 pub mod Demands
 pub mod SessionDemands
 pub mod LinkDemands
+pub mod StrikingDemands
 pub mod Cases
 pub mod TableArguments
 pub mod TableFields

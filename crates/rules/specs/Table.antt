@@ -4,7 +4,7 @@ use mathlib.Core.List.{List, _++_}
 use Rattle.rules.specs.Cases.{Case}
 use Rattle.rules.specs.TableArguments.{lineCases, argumentCases, argumentCharacterCases, bandCases, keywordCases, dueCases, spellingCases}
 use Rattle.rules.specs.TableFields.{fieldCases, fieldCharacterCases, calendarCases}
-use Rattle.rules.specs.TableLogs.{case12Cases, readingCases, lendingCases, oldSpellingCases, squareCases, wrongTurnCases, secondTryCases, modeCases, wideCases, samenessCases, valueCases, limitCases}
+use Rattle.rules.specs.TableLogs.{case12Cases, readingCases, lendingCases, oldSpellingCases, squareCases, wrongTurnCases, secondTryCases, modeCases, wideCases, strikingCases, samenessCases, valueCases, limitCases}
 use Rattle.rules.specs.TableMending.{lineEndCases, spaceCases, countCases, placeCases, mendedCases, mendingRefusedCases, mendingRoomCases, mendingLimitCases}
 use Rattle.rules.specs.TableLink.{cutCases, linkRefusedCases, linkLentCases}
 use Rattle.rules.specs.TableSession.{takingCases, givingCases, sessionRefusedCases}
@@ -30,6 +30,7 @@ table =
     ++ secondTryCases
     ++ modeCases
     ++ wideCases
+    ++ strikingCases
     ++ samenessCases
     ++ valueCases
     ++ limitCases

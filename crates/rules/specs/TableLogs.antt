@@ -11,7 +11,7 @@ use Rattle.rules.specs.Fields.{Qso, qsoOf}
 use Rattle.rules.specs.Log.{Log}
 use Rattle.rules.specs.Striking.{Places}
 use Rattle.rules.specs.TableArguments.{turned}
-use Rattle.rules.specs.Cases.{Case, case, texts, isRead, respells, spellsAsListed, isLog, isValidWith, isJudged, comesTo, comesBy, isShown, isWritten, leavesJudging, leavesWriting, isUnclaimed, isViewed, isStruck, isWrittenAndStruck, isStruckTo, isWorth, comesToStand}
+use Rattle.rules.specs.Cases.{Case, case, texts, isRead, respells, spellsAsListed, isLog, isValidWith, isJudged, comesTo, comesBy, isShown, isWritten, leavesJudging, leavesWriting, isUnclaimed, isViewed, isStruck, isWrittenAndStruck, isStruckTo, isWorth, comesToStand, strikesOut, leavesStriking}
 
 -- The text of these lines. The table puts its lines together itself, and rests on no definition that it asks about.
 unfoldable pub lined : List Text → Text
@@ -847,6 +847,41 @@ wideCases =
     ∷ case (comesToStand four 7) (4 ∷ [])
     ∷ case (comesToStand four 9) (5 ∷ [])
     ∷ case (comesToStand four 12) (8 ∷ [])
+    ∷ []
+
+-- Striking by marks: case 12 without its first record, by which case 13 comes to 700; with none; with all; and each refusal on both sides of what is
+-- needed, reading's in front of 7, 7 in front of 8.
+unfoldable pub case12Struck : Text
+unfolding textOf plain case12Records
+case12Struck = textOf plain ("[QSORecords;4]" ∷ drop 2 case12Records)
+
+unfoldable pub strikingCases : List Case
+unfolding case12 case12Struck oldCase12 oldStruck emptyLog wideLog wideStruck threeBad
+strikingCases =
+    case (strikesOut 65535 (1 ∷ 0 ∷ 0 ∷ 0 ∷ 0 ∷ []) case12) (0 ∷ 0 ∷ 0 ∷ case12Struck)
+    ∷ case (isJudged 4 case12Struck) (0 ∷ 0 ∷ 0 ∷ 96 ∷ 3 ∷ 0 ∷ 1 ∷ [])
+    ∷ case (comesTo case12Struck) (2 ∷ 1 ∷ 0 ∷ 1 ∷ 200 ∷ 1 ∷ 0 ∷ 1 ∷ 500 ∷ 0 ∷ 0 ∷ 700 ∷ [])
+    -- any byte but 0 strikes, and none past the records
+    ∷ case (strikesOut 65535 (255 ∷ 0 ∷ 0 ∷ 0 ∷ 0 ∷ 1 ∷ 255 ∷ []) case12) (0 ∷ 0 ∷ 0 ∷ case12Struck)
+    ∷ case (strikesOut 65535 (replicate 5 0) case12) (0 ∷ 0 ∷ 0 ∷ case12)
+    ∷ case (strikesOut 65535 (1 ∷ 2 ∷ 3 ∷ 64 ∷ 128 ∷ []) case12) (0 ∷ 0 ∷ 0 ∷ emptyLog)
+    ∷ case (strikesOut 65535 [] emptyLog) (0 ∷ 0 ∷ 0 ∷ emptyLog)
+    ∷ case (strikesOut 65535 (0 ∷ 0 ∷ 0 ∷ 0 ∷ 7 ∷ []) case12) (0 ∷ 0 ∷ 0 ∷ textOf plain ("[QSORecords;4]" ∷ take 4 (drop 1 case12Records)))
+    -- fewer digits in the count line; a strike leaves the spelling, the claims and the marks
+    ∷ case (strikesOut 65535 (1 ∷ 1 ∷ 1 ∷ 0 ∷ 0 ∷ 0 ∷ 0 ∷ 0 ∷ 1 ∷ 0 ∷ 0 ∷ 0 ∷ 0 ∷ []) wideLog) (0 ∷ 0 ∷ 0 ∷ wideStruck)
+    ∷ case (strikesOut 65535 (1 ∷ 0 ∷ 0 ∷ 0 ∷ 0 ∷ []) oldCase12) (0 ∷ 0 ∷ 0 ∷ oldStruck)
+    -- 7, 8, and what comes in front of them
+    ∷ case (strikesOut 0 (replicate 4 1) case12) (7 ∷ 0 ∷ 0 ∷ [])
+    ∷ case (strikesOut (length case12Struck) (1 ∷ 0 ∷ 0 ∷ 0 ∷ 0 ∷ []) case12) (0 ∷ 0 ∷ 0 ∷ case12Struck)
+    ∷ case (strikesOut (length case12Struck - 1) (1 ∷ 0 ∷ 0 ∷ 0 ∷ 0 ∷ []) case12) (8 ∷ 0 ∷ 0 ∷ [])
+    ∷ case (strikesOut 0 [] (bytes "x")) (2 ∷ 1 ∷ 0 ∷ [])
+    ∷ case (strikesOut 0 [] threeBad) (5 ∷ 41 ∷ 3 ∷ [])
+    ∷ case (strikesOut 0 [] (replicate 65536 65)) (1 ∷ 0 ∷ 0 ∷ [])
+    -- what the slice holds afterwards
+    ∷ case (leavesStriking (replicate (length case12Struck) 200 ++ 201 ∷ 202 ∷ []) (1 ∷ 0 ∷ 0 ∷ 0 ∷ 0 ∷ []) case12) (case12Struck ++ 201 ∷ 202 ∷ [])
+    ∷ case (leavesStriking (201 ∷ 202 ∷ []) (1 ∷ 0 ∷ 0 ∷ 0 ∷ 0 ∷ []) case12) (201 ∷ 202 ∷ [])
+    ∷ case (leavesStriking (replicate 600 200) (1 ∷ 1 ∷ 1 ∷ 1 ∷ []) case12) (replicate 600 200)
+    ∷ case (leavesStriking (201 ∷ 202 ∷ []) [] (bytes "x")) (201 ∷ 202 ∷ [])
     ∷ []
 
 -- "the same call, byte for byte": calls that differ in one character, in length, in what stands behind a `/`; squares that differ in one of
