@@ -17,26 +17,6 @@ use Rattle.rules.proofs.TextLaws.{span-short}
 use Rattle.writer.proofs.WrittenLaws.{count-most}
 use Rattle.mender.specs.Lines.{countKind}
 
--- It fits its slice.
-pub count-short : (n : ℕ) → n < 2 ^ 64 → length (countLine n) ≤ 33
-unfolding countLine countStart
-count-short n h = rw (length-append (countStart ++ digits n) (93 ∷ []), length-append countStart (digits n)) (omega (arith, count-most n h))
-
--- It stands at the front of it.
-pub word-is : (n : ℕ) (d : List ℕ) {r : ℕ} {w : List ℕ} → r ≡ length (countLine n) → w ≡ over (countLine n) d → take r w ≡ countLine n
-unfolding over
-word-is n d {r} {w} p q =
-    ap (λ (k : ℕ). take k w) p
-    ∙ ap (take (length (countLine n))) q
-    ∙ take-append-seam (countLine n) (drop (length (countLine n)) d)
-
-pub word-fits : (n : ℕ) (d : List ℕ) {r : ℕ} {w : List ℕ} → r ≡ length (countLine n) → w ≡ over (countLine n) d → r ≤ length w
-unfolding over
-word-fits n d {r} {w} p q =
-    let l : length w ≡ length (countLine n) + length (drop (length (countLine n)) d) =
-    ap length q ∙ length-append (countLine n) (drop (length (countLine n)) d) in
-    omega arith
-
 -- What stands behind `[QSORecords;`: digits, and then `]`.
 module _ (t : Text) {n : ℕ} (run : n ≡ 0 + span digit (drop 0 t)) where
   digits-by : digitsThenEnd t ≡ (leb 1 n && same (drop n t) (93 ∷ []))

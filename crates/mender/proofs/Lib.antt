@@ -4,7 +4,6 @@ pub mod CountLaws
 pub mod CutLaws
 pub mod LayLaws
 pub mod NextLaws
-pub mod PutLaws
 pub mod TurnLaws
 pub mod ReadLaws
 pub mod AnswerLaws

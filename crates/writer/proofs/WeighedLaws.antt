@@ -36,7 +36,7 @@ unfolding over
 front-over new slice n e = take-at new (drop (length new) slice) n (sym e)
 
 -- So are the places that are noted in a list with room for all.
-front-listed : (place : Contact → ℕ) (cs : List Contact) (slice : List ℕ) → length cs ≤ length slice → take (length cs) (listed place cs slice) ≡ map place cs
+pub front-listed : (place : Contact → ℕ) (cs : List Contact) (slice : List ℕ) → length cs ≤ length slice → take (length cs) (listed place cs slice) ≡ map place cs
 front-listed place cs slice h =
     let m : length (map place cs) ≡ length cs = length-map cs place in
     ap (λ (l : List ℕ). take (length cs) (over l slice)) (take-all (length slice) (map place cs) (omega arith))

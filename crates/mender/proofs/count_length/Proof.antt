@@ -2,7 +2,7 @@
 -- Assumes nothing.
 use borrow.Author.Needs.{needs}
 use native.Mathlib.Omega.{arith}
-use Rattle.mender.proofs.CountLaws.{count-short}
+use Rattle.writer.proofs.TextLaid.{count-short}
 use Rattle.mender.proofs.count_length.Statement.{statement}
 use Rattle.mender.proofs.count_length.Tie as tie
 

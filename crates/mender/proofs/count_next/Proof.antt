@@ -5,7 +5,7 @@ use mathlib.Core.Path.{sym}
 use lib.ListN.{replicate}
 use lib.Seq.{length-take-le}
 use Rattle.rules.specs.Rules.{base}
-use Rattle.mender.proofs.CountLaws.{word-fits, word-is}
+use Rattle.writer.proofs.TextLaid.{word-fits, word-is}
 use Rattle.mender.proofs.NextLaws.{count-ruled, next-of-step}
 use Rattle.mender.proofs.count_next.Statement.{statement}
 use Rattle.mender.proofs.count_next.Tie as tie

@@ -8,7 +8,7 @@ use lib.ListN.{replicate}
 use lib.Seq.{length-take-le}
 use denote.Ref.{now}
 use Rattle.rules.specs.Text.{Text, same}
-use Rattle.mender.proofs.CountLaws.{word-fits, word-is}
+use Rattle.writer.proofs.TextLaid.{word-fits, word-is}
 use Rattle.mender.proofs.is_count.Statement.{statement}
 use Rattle.mender.proofs.is_count.Tie as tie
 

@@ -4,8 +4,8 @@ use borrow.Author.Needs.{needs}
 use native.Mathlib.Omega.{arith}
 use mathlib.Core.Path.{refl}
 use denote.Ref.{now}
+use Rattle.writer.proofs.TextLaid.{laid-text}
 use Rattle.mender.proofs.AnswerLaws.{keep-none, keep-laid}
-use Rattle.mender.proofs.PutLaws.{laid-text}
 use Rattle.mender.proofs.keep.Statement.{statement}
 use Rattle.mender.proofs.keep.Tie as tie
 

@@ -4,8 +4,7 @@ use borrow.Author.Needs.{needs}
 use mathlib.Core.Path.{sym}
 use lib.ListN.{replicate}
 use lib.Seq.{length-take-le}
-use Rattle.mender.proofs.CountLaws.{word-fits, word-is}
-use Rattle.mender.proofs.PutLaws.{laid-text}
+use Rattle.writer.proofs.TextLaid.{laid-text, word-fits, word-is}
 use Rattle.mender.proofs.put_count.Statement.{statement}
 use Rattle.mender.proofs.put_count.Tie as tie
 

@@ -7,8 +7,8 @@ use lib.ListN.{length}
 use denote.Ref.{now}
 use Rattle.rules.specs.Text.{Text}
 use Rattle.writer.proofs.WrittenLaws.{puts-as}
+use Rattle.writer.proofs.TextLaid.{laid-text}
 use Rattle.mender.proofs.NextLaws.{text-count, text-part}
-use Rattle.mender.proofs.PutLaws.{laid-text}
 use Rattle.mender.proofs.put_laid.Statement.{statement}
 use Rattle.mender.proofs.put_laid.Tie as tie
 

@@ -8,8 +8,8 @@ use denote.Ref.{now}
 use Rattle.rules.specs.Log.{crlf}
 use Rattle.rules.specs.Text.{Text}
 use Rattle.writer.proofs.WrittenLaws.{puts-then, puts-room}
+use Rattle.writer.proofs.TextLaid.{laid-text}
 use Rattle.mender.specs.Lines.{textLaid}
-use Rattle.mender.proofs.PutLaws.{laid-text}
 use Rattle.mender.proofs.put_line.Statement.{statement}
 use Rattle.mender.proofs.put_line.Tie as tie
 

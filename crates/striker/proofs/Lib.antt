@@ -1,0 +1,4 @@
+-- Laws of striking by places.
+pub mod LineLoops
+pub mod KeptLaws
+pub mod StruckLaws
