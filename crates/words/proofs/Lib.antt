@@ -1,0 +1,6 @@
+-- Laws of words at the desk.
+pub mod NumberLaws
+pub mod MarkLaws
+pub mod MarkedExactly
+pub mod KeywordLaws
+pub mod CasesHold
