@@ -1,11 +1,14 @@
 /* Calls one function of sumpquince.h on one log, again and again, so that its cost can be counted from outside.
  *
  *     drive read|view|judge|write|mend LOG TIMES
+ *     drive strike-none|strike-one|strike-half LOG TIMES
  *     drive take|give-back|totals LOG TIMES
  *     drive feed-1|feed-64|feed-4096 LOG TIMES
  *
- * The second three are called on a session with the log's records: `take` takes the last of them behind all others, `give-back` gives it back. Since
- * a call changes the session, each works on a copy of it, and all copies are made before the first call, as many for one as for several.
+ * The three strikes are of no record, of the thirteenth alone, and of every second one, from the first on.
+ *
+ * The three behind them are called on a session with the log's records: `take` takes the last of them behind all others, `give-back` gives it back.
+ * Since a call changes the session, each works on a copy of it, and all copies are made before the first call, as many for one as for several.
  *
  * The last three open a link, feed it the whole log in pieces of so many bytes, the last of which may be shorter, and close it: that is once.
  *
@@ -25,6 +28,7 @@ static uint8_t kinds[MOST_CHANGES];
 static uint32_t lines[MOST_CHANGES];
 static SumpquinceSession copies[COPIES];
 static uint8_t worked[MOST_RECORDS * SUMPQUINCE_WORKED_BYTES];
+static uint8_t struck[MOST_RECORDS];
 
 static _Noreturn void stop(const char *why) {
     fprintf(stderr, "drive: %s\n", why);
@@ -33,6 +37,13 @@ static _Noreturn void stop(const char *why) {
 
 static void show(SumpquinceRefusal refusal, const char *what, uint64_t value) {
     printf("refusal %u %u %u, %s %llu\n", refusal.number, refusal.line, refusal.field, what, (unsigned long long)value);
+}
+
+/* A sum that tells one run of bytes from most others. */
+static uint64_t sum_of(const uint8_t *bytes, size_t length) {
+    uint64_t sum = 0;
+    for (size_t i = 0; i < length; i++) sum = sum * 31 + bytes[i];
+    return sum;
 }
 
 static void drive_read(size_t length, unsigned long long times) {
@@ -59,6 +70,23 @@ static void drive_write(size_t length, unsigned long long times) {
     SumpquinceWritten answer = {{0, 0, 0}, 0};
     for (; times > 0; times--) answer = sumpquince_write(log_bytes, length, written, sizeof written);
     show(answer.refusal, "length", answer.length);
+}
+
+static void drive_strike(size_t length, unsigned long long times) {
+    SumpquinceWritten answer = {{0, 0, 0}, 0};
+    for (; times > 0; times--) answer = sumpquince_strike(log_bytes, length, struck, sizeof struck, written, sizeof written);
+    show(answer.refusal, "length", answer.length);
+    show(answer.refusal, "bytes", sum_of(written, (size_t)answer.length));
+}
+
+static void drive_strike_one(size_t length, unsigned long long times) {
+    struck[12] = 1;
+    drive_strike(length, times);
+}
+
+static void drive_strike_half(size_t length, unsigned long long times) {
+    for (size_t i = 0; i < sizeof struck; i += 2) struck[i] = 1;
+    drive_strike(length, times);
 }
 
 static void drive_mend(size_t length, unsigned long long times) {
@@ -124,13 +152,6 @@ static SumpquinceJudgement fed(size_t length, size_t piece) {
     return sumpquince_link_close(&link, verdicts, sizeof verdicts, worked, sizeof worked);
 }
 
-/* A sum that tells one run of bytes from most others. */
-static uint64_t sum_of(const uint8_t *bytes, size_t length) {
-    uint64_t sum = 0;
-    for (size_t i = 0; i < length; i++) sum = sum * 31 + bytes[i];
-    return sum;
-}
-
 static void drive_feed(size_t length, size_t piece, unsigned long long times) {
     SumpquinceJudgement answer = {{0, 0, 0}, 0, 0, 0, 0, 0, 0, 0, 0, 0, 0, 0, 0, {0}};
     for (; times > 0; times--) answer = fed(length, piece);
@@ -152,7 +173,8 @@ int main(int count, char **words) {
         void (*drive)(size_t, unsigned long long);
     } functions[] = {{"read", drive_read},     {"view", drive_view},       {"judge", drive_judge},        {"write", drive_write},
                      {"mend", drive_mend},     {"take", drive_take},       {"give-back", drive_give_back}, {"totals", drive_totals},
-                     {"feed-1", drive_feed_1}, {"feed-64", drive_feed_64}, {"feed-4096", drive_feed_4096}};
+                     {"feed-1", drive_feed_1}, {"feed-64", drive_feed_64}, {"feed-4096", drive_feed_4096}, {"strike-none", drive_strike},
+                     {"strike-one", drive_strike_one}, {"strike-half", drive_strike_half}};
     if (count == 4) {
         for (size_t i = 0; i < sizeof functions / sizeof functions[0]; i++) {
             if (strcmp(words[1], functions[i].name) != 0) continue;
@@ -160,6 +182,7 @@ int main(int count, char **words) {
             return 0;
         }
     }
-    fputs("usage: drive read|view|judge|write|mend|take|give-back|totals|feed-1|feed-64|feed-4096 LOG TIMES\n", stderr);
+    fputs("usage: drive read|view|judge|write|mend|strike-none|strike-one|strike-half|take|give-back|totals|feed-1|feed-64|feed-4096 LOG TIMES\n",
+          stderr);
     return 2;
 }

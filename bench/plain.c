@@ -654,6 +654,54 @@ static void write_log(const uint8_t *bytes, size_t length, const Log *log, const
     put_bytes(to, bytes + copied, length - copied);
 }
 
+/* ---- Striking ---- */
+
+/* What is left once the records are struck: how many of them, and how long a log. */
+typedef struct {
+    size_t records, length;
+} Rest;
+
+/* Where the line with this position begins, behind the LF of the one before. */
+static size_t line_start(const uint8_t *bytes, size_t at) {
+    while (bytes[at - 1] != '\n') at--;
+    return at;
+}
+
+/* Where a record's line begins, which is behind the CR LF of the one before. The first one's call stands near its start. */
+static size_t record_start(const uint8_t *bytes, const Log *log, size_t i) {
+    return i == 0 ? line_start(bytes, log->records[0].call) : log->records[i - 1].end + 2u;
+}
+
+static size_t record_end(const Log *log, size_t i) { return log->records[i].end + 2u; }
+
+static Rest measure_rest(const uint8_t *bytes, size_t length, const Log *log, const uint8_t *struck) {
+    Rest rest = {log->count, length};
+    for (size_t i = 0; i < log->count; i++) {
+        if (struck[i] == 0) continue;
+        rest.records--;
+        rest.length -= record_end(log, i) - record_start(bytes, log, i);
+    }
+    rest.length -= digits_of(log->count) - digits_of(rest.records);
+    return rest;
+}
+
+/* Copies the log up to the number of its count line, writes that number, and copies the rest in as few pieces as it lies in. */
+static void write_rest(const uint8_t *bytes, size_t length, const Log *log, const uint8_t *struck, size_t records, uint8_t *to) {
+    size_t copied = 0; /* up to here the log has been dealt with */
+    if (log->count != 0) {
+        size_t behind = record_start(bytes, log, 0) - 3; /* in front of the count line's `]`, CR and LF */
+        copied = behind - digits_of(log->count);
+        to = put_number(put_bytes(to, bytes, copied), records);
+        copied = behind;
+    }
+    for (size_t i = 0; i < log->count; i++) {
+        if (struck[i] == 0) continue;
+        to = put_bytes(to, bytes + copied, record_start(bytes, log, i) - copied);
+        copied = record_end(log, i);
+    }
+    put_bytes(to, bytes + copied, length - copied);
+}
+
 /* ---- Mending ---- */
 
 /* Where a line lies: in front of the remarks, their mark included; among them, the count line included; or behind that. */
@@ -1303,6 +1351,22 @@ SumpquinceWritten sumpquince_write(const uint8_t *log, size_t log_len, uint8_t *
     }
     write_log(log, log_len, &parts, verdicts, claims, out);
     answer.length = length;
+    return answer;
+}
+
+SumpquinceWritten sumpquince_strike(const uint8_t *log, size_t log_len, const uint8_t *struck, size_t struck_len, uint8_t *out, size_t out_len) {
+    SumpquinceWritten answer = {ACCEPTED, 0};
+    Log parts;
+    answer.refusal = read_log(log, log_len, &parts);
+    if (answer.refusal.number == 0 && struck_len < parts.count) answer.refusal = refuse(7, 0, 0);
+    if (answer.refusal.number != 0) return answer;
+    Rest rest = measure_rest(log, log_len, &parts, struck);
+    if (rest.length > out_len) {
+        answer.refusal = refuse(8, 0, 0);
+        return answer;
+    }
+    write_rest(log, log_len, &parts, struck, rest.records, out);
+    answer.length = rest.length;
     return answer;
 }
 

@@ -18,6 +18,7 @@ static uint8_t written[LONGEST_LOG];
 static uint8_t kinds[MOST_CHANGES];
 static uint32_t lines[MOST_CHANGES];
 static uint8_t worked[MOST_RECORDS * SUMPQUINCE_WORKED_BYTES];
+static uint8_t struck[MOST_RECORDS];
 static SumpquinceLink lent; /* the one that a function is lent */
 
 /* The parameters of a function: what is in registers, and what is on the stack, as the 25 numbers of a session. By the calling convention of x86-64
@@ -64,16 +65,20 @@ static void show(const char *name, const void *function, Parameters parameters) 
     printf("%s %llu\n", name, (unsigned long long)(one < other ? other : one));
 }
 
+/* Every second record is struck. */
 static void show_log(size_t length) {
     const size_t to = (size_t)answer, log = (size_t)log_bytes;
     const Parameters none = {{to, log, length}, {0}}, keyword = {{to, log, length, CTOSC}, {0}};
     const Parameters verdict_slice = {{to, log, length, (size_t)verdicts, sizeof verdicts}, {0}};
     const Parameters output_slice = {{to, log, length, (size_t)written, sizeof written}, {0}};
+    const Parameters two_slices = {{to, log, length, (size_t)struck, sizeof struck, (size_t)written}, {sizeof written}};
     const Parameters three_slices = {{to, log, length, (size_t)written, sizeof written, (size_t)kinds}, {MOST_CHANGES, (size_t)lines, MOST_CHANGES}};
     show("read", (const void *)sumpquince_read, none);
     show("view", (const void *)sumpquince_view, keyword);
     show("judge", (const void *)sumpquince_judge, verdict_slice);
     show("write", (const void *)sumpquince_write, output_slice);
+    for (size_t i = 0; i < sizeof struck; i += 2) struck[i] = 1;
+    show("strike", (const void *)sumpquince_strike, two_slices);
     show("mend", (const void *)sumpquince_mend, three_slices);
 }
 

@@ -1,13 +1,14 @@
-/* Sumpquince: a reader, judge, writer and mender of REG1TEST version 1 contest logs, a session that judges records as they come, and a link that
- * judges a log whose bytes come in pieces.
+/* Sumpquince: a reader, judge, writer, striker and mender of REG1TEST version 1 contest logs, a session that judges records as they come, and a link
+ * that judges a log whose bytes come in pieces.
  *
  * A log is a run of bytes: the line "[REG1TEST;1]", 36 keyword lines, "[Remarks]", any remark lines, "[QSORecords;N]" and N records, each line
- * ended by CR LF. Five functions take such a log where it lies in memory:
+ * ended by CR LF. Six functions take such a log where it lies in memory:
  *
  *     sumpquince_read    does it follow the format, and how many records has it?
  *     sumpquince_view    where in the log does the argument of one keyword lie?
  *     sumpquince_judge   a verdict for each record, and the totals
  *     sumpquince_write   the log again, with the right claims and marks in it, and each keyword in the listed spelling
+ *     sumpquince_strike  the log without the records that are struck, and with the right count
  *     sumpquince_mend    a log that was spoilt on its way, with its line ends and its count put right, and a list of what was done
  *
  * Four others keep the classes and the totals of records that come one by one, with no log around them:
@@ -31,15 +32,15 @@
  * Keywords: a keyword is read with each of its letters in either case, so that "SAnth" and "santh" are both SAntH. Its listed spelling is the one in
  * the list at sumpquince_view. All else stands as it is given here, letter for letter.
  *
- * Sizes: a log has at most 65,535 bytes and at most 999 records, and a log that is written or mended has at most 65,535 bytes. A longer log may be
- * handed over; it is refused with number 1, over a link by its 65,536th byte, unless a byte before that is refused. A session has at most 999
- * records: the 1,000th is refused with number 11.
+ * Sizes: a log has at most 65,535 bytes and at most 999 records, and a log that is written, struck from or mended has at most 65,535 bytes. A longer
+ * log may be handed over; it is refused with number 1, over a link by its 65,536th byte, unless a byte before that is refused. A session has at most
+ * 999 records: the 1,000th is refused with number 11.
  *
  * Pointers: a pointer must be valid for its length. Where the length is 0 it may be NULL, since nothing is then read or written through it. Bytes
  * need no alignment; `lines` of sumpquince_mend and a link are aligned as uint32_t is, and a session as uint64_t is. The log, a piece of one, a
  * record's line, a session, a link and the slices that are lent must not overlap. The functions read the `log_len` bytes at `log` and no others, or
- * the `line_len` bytes at `line`, or the `bytes_len` bytes at `bytes`, never write to them, and write nowhere but in the session, the link and the
- * lent slices. `session` and `link` are never NULL.
+ * the `line_len` bytes at `line`, or the `bytes_len` bytes at `bytes`, and of the `struck_len` bytes at `struck` one for each record, never write
+ * to any of them, and write nowhere but in the session, the link and the lent slices. `session` and `link` are never NULL.
  *
  * State: the functions allocate nothing, keep nothing between calls, and have no variables outside the stack. So they may be called from several
  * threads at once and from a signal handler, as long as no slice, no session and no link that one of them writes is used by another call or thread at
@@ -61,6 +62,7 @@
  *     sumpquince_view                11,764       856
  *     sumpquince_judge               15,723    17,496
  *     sumpquince_write               19,804    18,936
+ *     sumpquince_strike              12,507     2,904
  *     sumpquince_mend                15,419     1,128
  *     sumpquince_session_start          359       232
  *     sumpquince_session_take         7,563     1,256
@@ -69,7 +71,7 @@
  *     sumpquince_link_open               49         8
  *     sumpquince_link_feed           19,200     1,800
  *     sumpquince_link_close           3,265       456
- *     all twelve                     42,462
+ *     all thirteen                   44,044
  *
  * No bound of the stack is proved. None of the functions calls itself, so what is measured does not grow with the log.
  */
@@ -96,9 +98,10 @@ extern "C" {
  *     5        the record breaks a rule                                                      the record's line             0 to 15
  *     6        the log ends where a record is due                                            the line that is missing      0
  *     6        the log goes on after the last record                                         the first line too many       0
- *     7        judging: the verdict slice is shorter than the number of records              0                             0
+ *     7        judging: the verdict slice is shorter than the number of records
+ *              striking: the slice of what is struck is shorter than that                    0                             0
  *     8        writing: the result exceeds 65,535 bytes, or the output slice
- *              mending: the result exceeds the output slice                                  0                             0
+ *              striking, mending: the result exceeds the output slice                        0                             0
  *     9        viewing: the keyword number is not 1 to 36                                    0                             0
  *     10       mending: one of the two list slices is shorter than the list                  0                             0
  *     4        starting a session: a bonus is not 0 to 9,999, or a multiplier not 1 to 99     0                             0
@@ -115,8 +118,8 @@ extern "C" {
  * 14 new country, 15 duplicate; or 0 where the record has not exactly 14 semicolons. README.md has the rule of each field in words.
  *
  * The first thing wrong is the one reported: 9, then 1, then the lines from the first to the last, and 7, 10 or 8 only of a log that follows the
- * format, 10 before 8. Of an empty log that is number 2 in line 1. In mending, 2 to 6 are about the mended log, whose lines are those of the log that
- * was handed over, and 1 is about either of the two. A session knows no lines, and tells 5 before 11.
+ * format, 7 and 10 before 8. Of an empty log that is number 2 in line 1. In mending, 2 to 6 are about the mended log, whose lines are those of the
+ * log that was handed over, and 1 is about either of the two. A session knows no lines, and tells 5 before 11.
  *
  * Over a link lines are counted from the first byte that comes. A call tells the refusal that the link keeps, if there is one; then 13, where no
  * opening made it; then 7, where N was announced before; and only then are its bytes taken, one after the other, up to the first that is refused. So
@@ -180,7 +183,7 @@ typedef struct {
     uint64_t modes[SUMPQUINCE_MODES];
 } SumpquinceJudgement; /* 200 bytes */
 
-/* The answer of sumpquince_write. */
+/* The answer of sumpquince_write and of sumpquince_strike. */
 typedef struct {
     SumpquinceRefusal refusal;
     /* How many bytes were written, from out[0] on. 0 on refusal. */
@@ -311,6 +314,22 @@ SumpquinceJudgement sumpquince_judge(const uint8_t *log, size_t log_len, uint8_t
  * `out_len` is the length of the slice at `out`: 65,535 is enough for every log that can be written. The bytes of the slice behind the result are
  * as they were. Refusals: 1 to 6, then 8; no byte of the slice is then changed. */
 SumpquinceWritten sumpquince_write(const uint8_t *log, size_t log_len, uint8_t *out, size_t out_len);
+
+/* Strikes records from the log: writes it without them, and with the number of those that are left in the line "[QSORecords;N]". Record i, counted
+ * from 0, is struck where struck[i] is not 0, and kept where it is 0. Every other byte is copied: the claims, points and marks stay as they are
+ * claimed, and the keywords as they are spelt. sumpquince_write puts the claims right, before striking or after it. Which comes first matters:
+ * writing takes the points from the duplicates, and without points none of them becomes credited.
+ *
+ * The result is a log that is accepted, and no longer than the one that was handed over. Judged, a credited record that was kept is credited still,
+ * and a duplicate that was kept is credited exactly when it claims points and each earlier record of its call that claims points was struck. So the
+ * total can rise, as a duplicate may have a square of its own. Where no duplicate of the log claims points, as in one that was written back, nothing
+ * becomes credited, the total does not rise, and it falls by no more than the points of the struck credited records and one bonus of each of the
+ * three kinds for each of them, times the declared multipliers.
+ *
+ * `struck_len` is the length of the slice at `struck`: what it has behind the last record's byte is not looked at, and 999 bytes are enough for every
+ * log. `out_len` is the length of the slice at `out`: `log_len` is always enough. The bytes of the slice behind the result are as they were.
+ * Refusals: 1 to 6, then 7, then 8; no byte of the slice is then changed. */
+SumpquinceWritten sumpquince_strike(const uint8_t *log, size_t log_len, const uint8_t *struck, size_t struck_len, uint8_t *out, size_t out_len);
 
 /* Mends a log whose line ends, spaces or count of records were spoilt on its way, as by a mail program, and lists what it did. A line here goes up to
  * its LF, and the last one up to the end of the log. These things are done, in this order, and nothing else:

@@ -1,6 +1,7 @@
 /* Compares the functions of sumpquince.h that take a log with the reference: reads the reference's stream of trials (tests/reference/src/main.rs says
- * how it is laid out) from standard input, calls the five functions on each log, and holds every answer, every byte written, and every byte that must
- * stay as it was to what the reference says. Besides, a mended log is mended once more, which must change nothing.
+ * how it is laid out) from standard input, calls the six functions on each log, and holds every answer, every byte written, and every byte that must
+ * stay as it was to what the reference says. Besides, a mended log is mended once more, which must change nothing; and what is left of a log after
+ * striking is judged, and the duplicates that are credited in it are counted.
  *
  *     compare [FOLDER] < TRIALS
  *
@@ -9,7 +10,23 @@
 #define PROGRAM "compare"
 #include "stream.h"
 
-enum { KEYWORDS = 36 };
+enum { KEYWORDS = 36, MOST_RECORDS = 999 };
+
+/* The numbers of a judgement behind its refusal. */
+typedef struct {
+    uint64_t totals[TOTALS], modes[SUMPQUINCE_MODES];
+} Sums;
+
+/* A strike and the reference's answers to it: of striking, and of judging what is left. */
+typedef struct {
+    Bytes name, struck;
+    uint32_t output_len;
+    SumpquinceRefusal refusal;
+    Bytes result;
+    Sums sums;
+    Bytes verdicts;
+    uint32_t promoted; /* how many duplicates of the log are credited in what is left */
+} Strike;
 
 /* A trial and the reference's answers to it. */
 typedef struct {
@@ -20,9 +37,11 @@ typedef struct {
     SumpquinceRefusal read, view, judge, write, mend;
     uint32_t records, respelt, view_start, view_length, view_listed;
     uint64_t listed; /* a bit for each keyword, the first as bit 0 */
-    uint64_t totals[TOTALS], modes[SUMPQUINCE_MODES];
+    Sums sums;
     Bytes verdicts, result, mended, kinds;
     Bytes lines; /* as the numbers lie in memory, 4 bytes each */
+    uint32_t strike_count;
+    Strike *strikes;
 } Trial;
 
 /* A slice to lend, with fences around it that no function may touch. */
@@ -33,7 +52,7 @@ typedef struct {
 
 static struct {
     const char *folder;
-    unsigned long long logs, differences;
+    unsigned long long logs, strikes, promoting, differences;
 } run;
 
 /* ---- The stream ---- */
@@ -47,6 +66,29 @@ static Bytes take_numbers(uint32_t count) {
         memcpy(bytes.at + i * sizeof number, &number, sizeof number);
     }
     return bytes;
+}
+
+static void take_sums(Sums *sums) {
+    for (int i = 0; i < TOTALS; i++) sums->totals[i] = take_u64();
+    for (int i = 0; i < SUMPQUINCE_MODES; i++) sums->modes[i] = take_u64();
+}
+
+static void take_strike(Strike *strike) {
+    strike->name = take_bytes();
+    strike->struck = take_bytes();
+    strike->output_len = take_u32();
+    strike->refusal = take_answer();
+    strike->result = take_bytes();
+    take_sums(&strike->sums);
+    strike->verdicts = take_bytes();
+    strike->promoted = take_u32();
+}
+
+static void take_strikes(Trial *trial) {
+    trial->strike_count = take_u32();
+    if (trial->strike_count > LONGEST_PART / sizeof(Strike)) stop("the stream is broken");
+    trial->strikes = allocate(trial->strike_count * sizeof(Strike));
+    for (uint32_t i = 0; i < trial->strike_count; i++) take_strike(&trial->strikes[i]);
 }
 
 static void take_trial(Trial *trial) {
@@ -68,8 +110,7 @@ static void take_trial(Trial *trial) {
     trial->view_listed = take_u32();
     trial->listed = take_u64();
     trial->judge = take_answer();
-    for (int i = 0; i < TOTALS; i++) trial->totals[i] = take_u64();
-    for (int i = 0; i < SUMPQUINCE_MODES; i++) trial->modes[i] = take_u64();
+    take_sums(&trial->sums);
     trial->verdicts = take_bytes();
     trial->write = take_answer();
     trial->result = take_bytes();
@@ -77,6 +118,14 @@ static void take_trial(Trial *trial) {
     trial->mended = take_bytes();
     trial->kinds = take_bytes();
     trial->lines = take_numbers(trial->kinds.length);
+    take_strikes(trial);
+}
+
+static void free_strike(Strike *strike) {
+    free(strike->name.at);
+    free(strike->struck.at);
+    free(strike->result.at);
+    free(strike->verdicts.at);
 }
 
 static void free_trial(Trial *trial) {
@@ -87,6 +136,8 @@ static void free_trial(Trial *trial) {
     free(trial->mended.at);
     free(trial->kinds.at);
     free(trial->lines.at);
+    for (uint32_t i = 0; i < trial->strike_count; i++) free_strike(&trial->strikes[i]);
+    free(trial->strikes);
 }
 
 /* ---- Differences ---- */
@@ -148,7 +199,7 @@ static void hold_slice(const Trial *trial, const char *function, Lent lent, Byte
     }
 }
 
-/* ---- The five functions ---- */
+/* ---- The six functions ---- */
 
 static void try_read(const Trial *trial) {
     SumpquinceReading got = sumpquince_read(trial->log.at, trial->log.length);
@@ -174,14 +225,14 @@ static void try_spellings(const Trial *trial) {
     }
 }
 
-static void hold_totals(const Trial *trial, const SumpquinceJudgement *got) {
+static void hold_sums(const Trial *trial, const char *function, const SumpquinceJudgement *got, const Sums *wanted) {
     uint64_t totals[TOTALS];
     list_totals(got, totals);
-    for (int i = 0; i < TOTALS; i++) hold(trial, "judge", total_names[i], totals[i], trial->totals[i]);
+    for (int i = 0; i < TOTALS; i++) hold(trial, function, total_names[i], totals[i], wanted->totals[i]);
     for (int i = 0; i < SUMPQUINCE_MODES; i++) {
         char what[32];
         snprintf(what, sizeof what, "modes[%d]", i);
-        hold(trial, "judge", what, got->modes[i], trial->modes[i]);
+        hold(trial, function, what, got->modes[i], wanted->modes[i]);
     }
 }
 
@@ -189,7 +240,7 @@ static void try_judge(const Trial *trial) {
     Lent lent = lend(trial->verdicts_len);
     SumpquinceJudgement got = sumpquince_judge(trial->log.at, trial->log.length, slice_of(lent), lent.length);
     hold_refusal(trial, "judge", got.refusal, trial->judge);
-    hold_totals(trial, &got);
+    hold_sums(trial, "judge", &got, &trial->sums);
     hold_slice(trial, "judge", lent, trial->verdicts);
     free(lent.block);
 }
@@ -201,6 +252,61 @@ static void try_write(const Trial *trial) {
     hold(trial, "write", "length", got.length, trial->result.length);
     hold_slice(trial, "write", lent, trial->result);
     free(lent.block);
+}
+
+static bool is_of(uint8_t verdict, uint8_t class) { return (verdict & SUMPQUINCE_CLASS) == class; }
+
+/* How many duplicates that were not struck are credited in what is left. */
+static uint64_t count_promoted(const uint8_t *before, const uint8_t *after, const uint8_t *struck, uint32_t records) {
+    uint64_t promoted = 0;
+    for (uint32_t i = 0; i < records; i++) {
+        if (struck[i] != 0) continue;
+        promoted += is_of(before[i], SUMPQUINCE_DUPLICATE) && is_of(*after, SUMPQUINCE_CREDITED);
+        after++;
+    }
+    return promoted;
+}
+
+/* What the library itself made of the log is judged, into a slice with a byte for each record. `before` has the verdicts of the log as it was. */
+static void try_judge_rest(const Trial *trial, const Strike *strike, const char *what, const uint8_t *rest, size_t length, const uint8_t *before) {
+    char function[80];
+    snprintf(function, sizeof function, "%s, judged", what);
+    const SumpquinceRefusal none = {0, 0, 0};
+    Lent lent = lend(strike->verdicts.length);
+    SumpquinceJudgement got = sumpquince_judge(rest, length, slice_of(lent), lent.length);
+    hold_refusal(trial, function, got.refusal, none);
+    hold_sums(trial, function, &got, &strike->sums);
+    hold_slice(trial, function, lent, strike->verdicts);
+    if (got.refusal.number == 0) {
+        uint64_t promoted = count_promoted(before, slice_of(lent), strike->struck.at, trial->records);
+        hold(trial, function, "the number of duplicates that became credited", promoted, strike->promoted);
+        run.promoting += promoted > 0;
+    }
+    free(lent.block);
+}
+
+static void try_strike(const Trial *trial, const Strike *strike, const uint8_t *before) {
+    char function[64];
+    snprintf(function, sizeof function, "strike %.*s", (int)strike->name.length, (const char *)strike->name.at);
+    Lent out = lend(strike->output_len);
+    uint8_t *copy = allocate(strike->struck.length);
+    memcpy(copy, strike->struck.at, strike->struck.length);
+    SumpquinceWritten got = sumpquince_strike(trial->log.at, trial->log.length, strike->struck.at, strike->struck.length, slice_of(out), out.length);
+    hold_refusal(trial, function, got.refusal, strike->refusal);
+    hold(trial, function, "length", got.length, strike->result.length);
+    hold_slice(trial, function, out, strike->result);
+    hold(trial, function, "whether the slice of what is struck was changed", memcmp(copy, strike->struck.at, strike->struck.length) != 0, 0);
+    bool both = got.refusal.number == 0 && strike->refusal.number == 0 && got.length <= out.length;
+    if (both) try_judge_rest(trial, strike, function, slice_of(out), (size_t)got.length, before);
+    free(copy);
+    free(out.block);
+    run.strikes++;
+}
+
+static void try_strikes(const Trial *trial) {
+    static uint8_t before[MOST_RECORDS];
+    sumpquince_judge(trial->log.at, trial->log.length, before, sizeof before);
+    for (uint32_t i = 0; i < trial->strike_count; i++) try_strike(trial, &trial->strikes[i], before);
 }
 
 static void try_mend(const Trial *trial) {
@@ -239,6 +345,7 @@ static void try_trial(const Trial *trial) {
     try_spellings(trial);
     try_judge(trial);
     try_write(trial);
+    try_strikes(trial);
     try_mend(trial);
     try_mend_again(trial);
     hold(trial, "all", "whether the log itself was changed", memcmp(copy, trial->log.at, trial->log.length) != 0, 0);
@@ -248,7 +355,7 @@ static void try_trial(const Trial *trial) {
 
 int main(int count, char **words) {
     run.folder = count > 1 ? words[1] : NULL;
-    take_name("SQTRIAL4");
+    take_name("SQTRIAL5");
     for (uint32_t left = take_u32(); left > 0; left--) {
         Trial trial;
         take_trial(&trial);
@@ -257,6 +364,7 @@ int main(int count, char **words) {
         run.logs++;
     }
     take_end();
-    printf("%llu logs, %llu differences\n", run.logs, run.differences);
+    printf("%llu logs, %llu strikes, %llu of them with a duplicate that became credited, %llu differences\n", run.logs, run.strikes, run.promoting,
+           run.differences);
     return run.differences == 0 ? 0 : 1;
 }

@@ -1,6 +1,7 @@
 /* Tries what include/sumpquince.h says of its shapes and of empty slices: that the structs have the sizes that it gives, that the modes of a
  * judgement and the numbers of a session and of a link lie where it says and add up, that a slice of length 0 may have a null pointer, for each
- * function and each of its slices, and that a session or a link that no run of calls can have made is answered.
+ * function and each of its slices, that striking changes no slice where it refuses, and that a session or a link that no run of calls can have made
+ * is answered.
  *
  *     face < LOG
  *
@@ -24,7 +25,7 @@ _Static_assert(sizeof(SumpquinceLink) == 156 && _Alignof(SumpquinceLink) == 4, "
 
 enum { LONGEST_LOG = 65535, MOST_RECORDS = 999, MOST_CHANGES = 32767 };
 
-static uint8_t log[LONGEST_LOG], none[LONGEST_LOG], verdicts[MOST_RECORDS], out[LONGEST_LOG], kinds[MOST_CHANGES];
+static uint8_t log[LONGEST_LOG], none[LONGEST_LOG], verdicts[MOST_RECORDS], struck[MOST_RECORDS], out[LONGEST_LOG], kinds[MOST_CHANGES];
 static uint8_t kept[MOST_RECORDS * SUMPQUINCE_KEPT_BYTES], worked[MOST_RECORDS * SUMPQUINCE_WORKED_BYTES + 1];
 static uint32_t lines[MOST_CHANGES];
 static int tries, differences;
@@ -107,6 +108,8 @@ static void try_empty_log(void) {
     hold("the refusal of judging no log into nothing", digits(sumpquince_judge(NULL, 0, NULL, 0).refusal), 210);
     hold("the refusal of writing no log", digits(sumpquince_write(NULL, 0, out, sizeof out).refusal), 210);
     hold("the refusal of writing no log into nothing", digits(sumpquince_write(NULL, 0, NULL, 0).refusal), 210);
+    hold("the refusal of striking from no log", digits(sumpquince_strike(NULL, 0, struck, sizeof struck, out, sizeof out).refusal), 210);
+    hold("the refusal of striking nothing from no log into nothing", digits(sumpquince_strike(NULL, 0, NULL, 0, NULL, 0).refusal), 210);
     hold("the refusal of mending no log",
          digits(sumpquince_mend(NULL, 0, out, sizeof out, kinds, MOST_CHANGES, lines, MOST_CHANGES).refusal), 210);
     hold("the refusal of mending no log into nothing", digits(sumpquince_mend(NULL, 0, NULL, 0, NULL, 0, NULL, 0).refusal), 210);
@@ -147,6 +150,41 @@ static void try_empty_lists(size_t length) {
     hold("the refusal of a chewed log", digits(mended.refusal), 0);
     hold("the length of a chewed log once it is mended", mended.length, length);
     hold("whether a chewed log becomes another", memcmp(out, log, length) != 0, 0);
+}
+
+/* Strikes into a slice that has another colour than any character of a log, and holds the refusal and the length, and every byte behind the result,
+ * of which there is none on a refusal. */
+static void try_strike(const char *what, size_t length, size_t struck_length, size_t out_length, uint64_t refusal, size_t result) {
+    memset(out, 0xA5, sizeof out);
+    SumpquinceWritten written = sumpquince_strike(log, length, struck_length == 0 ? NULL : struck, struck_length, out_length == 0 ? NULL : out,
+                                                  out_length);
+    hold(what, digits(written.refusal), refusal);
+    hold("its length", written.length, result);
+    size_t changed = sizeof out;
+    while (changed > 0 && out[changed - 1] == 0xA5) changed--;
+    hold("how far its slice is changed", changed, result);
+}
+
+/* The slice that says what is struck may be missing where there are no records, and the one for the result never is. */
+static void try_strikes(size_t length) {
+    const size_t records = (size_t)sumpquince_read(log, length).records, shorter = without_records(length);
+    memset(struck, 0, sizeof struck);
+    try_strike("the refusal of striking by nothing", length, 0, sizeof out, 700, 0);
+    try_strike("the refusal of striking by nothing into nothing", length, 0, 0, 700, 0);
+    try_strike("the refusal of striking by a byte too few", length, records - 1, sizeof out, 700, 0);
+    try_strike("the refusal of striking none into nothing", length, records, 0, 800, 0);
+    try_strike("the refusal of striking none into a byte too few", length, records, length - 1, 800, 0);
+    try_strike("the refusal of a log without its last byte", length - 1, records, sizeof out, digits(sumpquince_read(log, length - 1).refusal), 0);
+    try_strike("the refusal of striking none", length, records, length, 0, length);
+    hold("whether striking none makes another log", memcmp(out, log, length) != 0, 0);
+    memset(struck, 0xFF, records);
+    try_strike("the refusal of striking all into a byte too few", length, records, shorter - 1, 800, 0);
+    try_strike("the refusal of striking all", length, records, sizeof out, 0, shorter);
+    hold("whether striking all leaves another log than one without records", memcmp(out, none, shorter) != 0, 0);
+    SumpquinceWritten written = sumpquince_strike(none, shorter, NULL, 0, out, shorter);
+    hold("the refusal of striking by nothing from a log without records", digits(written.refusal), 0);
+    hold("its length", written.length, shorter);
+    hold("the refusal of the same into nothing", digits(sumpquince_strike(none, shorter, NULL, 0, NULL, 0).refusal), 800);
 }
 
 static size_t place_in(const SumpquinceSession *session, const uint64_t *number) {
@@ -396,6 +434,7 @@ int main(void) {
     try_empty_log();
     try_empty_results(length);
     try_empty_lists(length);
+    try_strikes(length);
     size_t record = line_behind(count_line(length)), record_length = line_behind(record) - record - 2;
     try_session_shape(log + record, record_length);
     try_session_without_slices(log + record, record_length);

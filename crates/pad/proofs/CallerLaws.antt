@@ -5,9 +5,10 @@ use native.Mathlib.Omega.{arith}
 use mathlib.Core.Bool.{Bool, true, false, cond}
 use mathlib.Core.Logic.{_⊎_, _↔_, inl, inr, ⊎-elim}
 use mathlib.Core.Path.{_≡_, refl, sym, ap, subst, _∙_}
-use mathlib.Core.List.{List, [], map}
+use mathlib.Core.List.{List, [], _++_, map}
 use lib.Dec.{leb}
-use lib.ListN.{length, getD, length-map}
+use lib.ListN.{length, take, drop, getD, length-map}
+use lib.Seq.{take-append-seam}
 use borrow.Author.Tests.{leb-true, leb-false}
 use Rattle.rules.specs.Text.{Text}
 use Rattle.rules.specs.Rules.{base}
@@ -21,8 +22,12 @@ use Rattle.rules.proofs.Format.{accepted-when-written}
 use Rattle.rules.proofs.Refusals.{refused-reading}
 use Rattle.rules.proofs.ModeLaws.{modes-add-up}
 use Rattle.rules.proofs.Respelt.{spellings-counted}
-use Rattle.rules.proofs.GivenCalls.{zero-when-accepted, line-and-field-told}
+use Rattle.rules.proofs.GivenCalls.{given-exactly-when, zero-when-accepted, line-and-field-told}
 use Rattle.rules.specs.Given.{LineAndField}
+use Rattle.rules.specs.Striking.{strikeOut}
+use Rattle.rules.specs.StrikingDemands.{JudgedBeforeAndAfter}
+use Rattle.rules.proofs.StrikingGiven.{given-by-striking}
+use Rattle.rules.proofs.StrikingBytes.{striking-rule-in-bytes, no-longer}
 use Rattle.rules.specs.Mending.{Mending, mended, unmended, mendedText, changes, mend, bytesOfMending, kindsOfMending, linesOfMending}
 use Rattle.rules.specs.MendingDemands.{ListIsTooLong}
 use Rattle.rules.proofs.MendingGiven.{given-by-mending, mend-all}
@@ -49,7 +54,7 @@ use Rattle.link.specs.Keeping.{KeptAsFed}
 use Rattle.link.proofs.FedLaws.{the-link-keeps, base-fits}
 use Rattle.pad.specs.declared.SumpquinceDeclared.{SumpquinceDeclared}
 use Rattle.pad.specs.Face.{refusalFace, oneIf, readingFace, viewFace, totalsFace, judgementFace, writtenFace, mendedFace, declaredFace, sessionFace, closingFace}
-use Rattle.pad.specs.Caller.{refusalIn, Accepts, cameOver, closedOver, AsJoinedUp, ToldByRead, ToldByView, ToldByJudge, ToldByWrite, ListFits, ToldByMend, ToldBySession, ToldByStart, ToldByTotals, AsTheLog, ToldByClosing, PlacedOver, ForTheCaller}
+use Rattle.pad.specs.Caller.{refusalIn, Accepts, cameOver, closedOver, AsJoinedUp, ToldByRead, ToldByView, ToldByJudge, ToldByWrite, ToldByStrike, ListFits, ToldByMend, ToldBySession, ToldByStart, ToldByTotals, AsTheLog, ToldByClosing, PlacedOver, ForTheCaller}
 
 -- # What a refused call leaves
 
@@ -132,6 +137,28 @@ told-by-write s slice =
       accepted = (zero-when-accepted base) .writing s (length slice);
       place = (line-and-field-told base) .writing s (length slice);
       refused = no-writing (write base (length slice) s) slice;
+    }
+
+-- What was written stands at the front of the slice.
+struck-told : (s : Text) (marks slice : List ℕ) (w : Writing) → strikeOut base (length slice) marks s ≡ w → Accepts ((writtenFace w) .refusal) → JudgedBeforeAndAfter base s (take ((writtenFace w) .length) (over (bytesOfWriting w) slice)) marks
+unfolding writtenFace bytesOfWriting over
+struck-told s marks slice (written t) e h =
+    rw (take-append-seam t (drop (length t) slice)) (striking-rule-in-bytes base s t marks (length slice) e)
+struck-told s marks slice (unwritten r) e h =
+    let unread = (given-by-striking base s marks (length slice)) .strikingElse r (λ k. omega (arith, h, k)) (λ k. omega (arith, h, k)) .0 e in
+    absurd (omega (arith, h, (given-exactly-when base) .reading .noOther s r unread .0))
+
+told-by-strike : (s : Text) (marks slice : List ℕ) → ToldByStrike s marks slice (writtenFace (strikeOut base (length slice) marks s)) (over (bytesOfWriting (strikeOut base (length slice) marks s)) slice)
+unfolding writtenFace
+told-by-strike s marks slice =
+    let g = given-by-striking base s marks (length slice) in
+    record {
+      accepted = g .zero;
+      place = g .lineAndField;
+      refused = no-writing (strikeOut base (length slice) marks s) slice;
+      roomy = λ log w h k.
+          g .zero .1 (log, w, h, omega (arith, no-longer base s log marks (accepted-when-written base s log .1 w), k));
+      struck = struck-told s marks slice (strikeOut base (length slice) marks s) refl;
     }
 
 at-most : (a b : ℕ) → (b < a → ⊥) → a ≤ b
@@ -323,6 +350,7 @@ for-the-caller =
       viewing = told-by-view;
       judging = told-by-judge;
       writing = told-by-write;
+      striking = told-by-strike;
       mending = told-by-mend;
       calling = told-by-session;
       starting = told-by-start;

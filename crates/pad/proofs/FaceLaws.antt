@@ -24,7 +24,7 @@ use Rattle.judge.specs.declared.Judged.the-variants as Judged
 use Rattle.judge.specs.Judge.{judgedBy, judgedOf}
 use Rattle.writer.specs.declared.Wrote.{Wrote}
 use Rattle.writer.specs.declared.Wrote.the-variants as Wrote
-use Rattle.writer.specs.LogText.{wroteBy, wroteOf}
+use Rattle.writer.specs.LogText.{wroteBy}
 use Rattle.mender.specs.declared.MendAnswer.{MendAnswer}
 use Rattle.mender.specs.declared.MendAnswer.the-variants as MendAnswer
 use Rattle.mender.specs.Answer.{mendedBy}
@@ -34,7 +34,7 @@ use Rattle.pad.specs.declared.SumpquinceView.{SumpquinceView}
 use Rattle.pad.specs.declared.SumpquinceJudgement.{SumpquinceJudgement}
 use Rattle.pad.specs.declared.SumpquinceWritten.{SumpquinceWritten}
 use Rattle.pad.specs.declared.SumpquinceMended.{SumpquinceMended}
-use Rattle.pad.specs.Face.{refusalFace, oneIf, readingFace, viewFace, totalsFace, judgementFace, writtenFace, mendedFace}
+use Rattle.pad.specs.Face.{refusalFace, oneIf, readingFace, viewFace, totalsFace, judgementFace, writtenFace, wroteFace, mendedFace}
 
 -- # Reading
 
@@ -107,27 +107,18 @@ module _ (room : ℕ) (s : Text) where
 
 -- # Writing
 
-abbrev aWritten : ℕ → SumpquinceRefusal → SumpquinceWritten
-aWritten n f = record { refusal = f; length = n }
+pub length-shown : {f : SumpquinceRefusal} {n : ℕ} {w : Wrote} → f ≡ refusalFace noRefusal → w ≡ Wrote.Length n → _≡_ {A = SumpquinceWritten} (record { refusal = f; length = n }) (wroteFace w)
+unfolding wroteFace
+length-shown {n = n} e a = rw a (ap (λ (f : SumpquinceRefusal). record { refusal = f; length = n }) e)
 
-abbrev writtenShown : Wrote → SumpquinceWritten
-writtenShown (Wrote.Length n) = aWritten n (refusalFace noRefusal)
-writtenShown (Wrote.Refused r) = aWritten 0 (refusalFace r)
+pub unwritten-shown : {f : SumpquinceRefusal} {r : Refusal} {w : Wrote} → f ≡ refusalFace r → w ≡ Wrote.Refused r → _≡_ {A = SumpquinceWritten} (record { refusal = f; length = 0 }) (wroteFace w)
+unfolding wroteFace
+unwritten-shown e a = rw a (ap (λ (f : SumpquinceRefusal). record { refusal = f; length = 0 }) e)
 
-module _ (room : ℕ) (s : Text) where
-  written-shown : writtenShown (wroteOf base room s) ≡ writtenFace (write base room s)
-  unfolding wroteOf writtenFace
-  written-shown = by (write base room s)
-    where
-      by : (w : Writing) → writtenShown (wroteBy w) ≡ writtenFace w
-      by (written t) = refl
-      by (unwritten r) = refl
-
-  pub length-shown : {f : SumpquinceRefusal} {n : ℕ} → f ≡ refusalFace noRefusal → Wrote.Length n ≡ wroteOf base room s → aWritten n f ≡ writtenFace (write base room s)
-  length-shown {n = n} e a = ap (aWritten n) e ∙ ap writtenShown a ∙ written-shown
-
-  pub unwritten-shown : {f : SumpquinceRefusal} {r : Refusal} → f ≡ refusalFace r → Wrote.Refused r ≡ wroteOf base room s → aWritten 0 f ≡ writtenFace (write base room s)
-  unwritten-shown e a = ap (aWritten 0) e ∙ ap writtenShown a ∙ written-shown
+pub written-shown : (w : Writing) → wroteFace (wroteBy w) ≡ writtenFace w
+unfolding wroteFace wroteBy writtenFace
+written-shown (written t) = refl
+written-shown (unwritten r) = refl
 
 -- # Mending
 

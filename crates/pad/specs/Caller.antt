@@ -16,6 +16,8 @@ use Rattle.rules.specs.Writing.{writtenBack}
 use Rattle.rules.specs.Reading.{accepted, refusal, read}
 use Rattle.rules.specs.Answers.{view, judge, numbersOfJudgement, write, bytesOfWriting, over}
 use Rattle.rules.specs.Mending.{mendedText, changes, mend, bytesOfMending, kindsOfMending, linesOfMending}
+use Rattle.rules.specs.Striking.{strikeOut}
+use Rattle.rules.specs.StrikingDemands.{resultOf, JudgedBeforeAndAfter}
 use Rattle.rules.specs.Demands.{sumOver}
 use Rattle.rules.specs.Given.{LineAndField}
 use Rattle.rules.specs.Session.{session, sessionAfter}
@@ -85,6 +87,26 @@ pub record ToldByWrite (s : Text) (slice : List ℕ) (w : SumpquinceWritten) (af
       × (length (render (writtenBack base log)) ≤ length slice))
   pub place : LineAndField (refusalIn (w .refusal))
   pub refused : (Accepts (w .refusal) → ⊥) → (w .length ≡ 0) × (afterwards ≡ slice)
+
+-- sumpquince_strike, with a byte for each record that says whether it is struck: an accepted log of no more records than there are bytes, of which what is
+-- left is no longer than the slice, and so wherever the slice has as many bytes as the log. What is written is what is left of it, and demand 3 holds of the
+-- log and of the bytes at the front of the slice: what sumpquince_judge tells of the one and of the other.
+pub record ToldByStrike (s : Text) (marks slice : List ℕ) (w : SumpquinceWritten) (afterwards : List ℕ) : Type 0 where
+  pub accepted :
+      Accepts (w .refusal)
+      ↔ ((log : Log)
+      × IsWrittenAs base s log
+      × (length (log .records) ≤ length marks)
+      × (length (resultOf marks log) ≤ length slice))
+  pub place : LineAndField (refusalIn (w .refusal))
+  pub refused : (Accepts (w .refusal) → ⊥) → (w .length ≡ 0) × (afterwards ≡ slice)
+  pub roomy :
+      (log : Log) →
+      IsWrittenAs base s log →
+      length (log .records) ≤ length marks →
+      length s ≤ length slice →
+      Accepts (w .refusal)
+  pub struck : Accepts (w .refusal) → JudgedBeforeAndAfter base s (take (w .length) afterwards) marks
 
 -- sumpquince_mend: an input no longer than a log may be, whose mended log follows the format, and slices that have room for that and for its list,
 -- which are handed over; on a refusal each slice holds what it held.
@@ -197,6 +219,11 @@ pub record ForTheCaller : Type 0 where
       ToldByWrite s slice
       (writtenFace (write base (length slice) s))
       (over (bytesOfWriting (write base (length slice) s)) slice)
+  pub striking :
+      (s : Text) (marks slice : List ℕ) →
+      ToldByStrike s marks slice
+      (writtenFace (strikeOut base (length slice) marks s))
+      (over (bytesOfWriting (strikeOut base (length slice) marks s)) slice)
   pub mending :
       (s : Text) (out kinds lines : List ℕ) →
       ToldByMend s out kinds lines

@@ -20,6 +20,8 @@ use Rattle.pad.specs.declared.SumpquinceView.{SumpquinceView}
 use Rattle.pad.specs.declared.SumpquinceJudgement.{SumpquinceJudgement}
 use Rattle.pad.specs.declared.SumpquinceDeclared.{SumpquinceDeclared}
 use Rattle.rules.specs.Mending.{Mending, refusalOfMending, bytesOfMending, kindsOfMending}
+use Rattle.writer.specs.declared.Wrote.{Wrote}
+use Rattle.writer.specs.declared.Wrote.the-variants as Wrote
 use Rattle.pad.specs.declared.SumpquinceWritten.{SumpquinceWritten}
 use Rattle.pad.specs.declared.SumpquinceMended.{SumpquinceMended}
 
@@ -73,6 +75,12 @@ judgementFace j = totalsFace (refusalFace (refusalOfJudgement j)) (totalsOfJudge
 unfoldable pub writtenFace : Writing → SumpquinceWritten
 unfolding refusalFace refusalOfWriting bytesOfWriting
 writtenFace w = record { refusal = refusalFace (refusalOfWriting w); length = length (bytesOfWriting w) }
+
+-- The same of the code's word for it.
+unfoldable pub wroteFace : Wrote → SumpquinceWritten
+unfolding refusalFace noRefusal
+wroteFace (Wrote.Length n) = record { refusal = refusalFace noRefusal; length = n }
+wroteFace (Wrote.Refused r) = record { refusal = refusalFace r; length = 0 }
 
 -- How long the mended log is, and its list.
 unfoldable pub mendedFace : Mending → SumpquinceMended

@@ -6,11 +6,12 @@ ghost use lib.ListN.{length};
 ghost use Rattle.rules.specs.Rules.{base};
 ghost use Rattle.rules.specs.Reading.{read, refusal};
 ghost use Rattle.rules.specs.Answers.{noRefusal, view, judge, numbersOfJudgement, write, bytesOfWriting, over};
+ghost use Rattle.rules.specs.Striking.{strikeOut};
 ghost use Rattle.rules.specs.Mending.{mend, bytesOfMending, kindsOfMending, linesOfMending};
 ghost use Rattle.mender.specs.Answer.{roomsOf};
 ghost use Rattle.session.specs.Session.{givenBack, keptTaken, started, taken, verdictsTaken};
 ghost use Rattle.link.specs.Link.{close, feed, holding, lentOf, stoppedBy};
-ghost use Rattle.pad.specs.Face.{closingFace, declaredFace, refusalFace, oneIf, readingFace, viewFace, totalsFace, judgementFace, writtenFace, mendedFace, sessionFace};
+ghost use Rattle.pad.specs.Face.{closingFace, declaredFace, refusalFace, oneIf, readingFace, viewFace, totalsFace, judgementFace, writtenFace, wroteFace, mendedFace, sessionFace};
 use judge::Judged;
 use link::Closing;
 use link::Link;
@@ -198,12 +199,11 @@ pub extern "C" fn sumpquince_judge(log: &[u8], verdicts: &mut [u8]) -> Sumpquinc
     }
 }
 
-#[no_mangle]
-pub extern "C" fn sumpquince_write(log: &[u8], out: &mut [u8]) -> SumpquinceWritten
-    ensures answer { λ r. ⌜ r ≡ writtenFace (write base (length (now (out .entry))) (now (log .entry))) ⌝ }
-    ensures slice { λ r. ⌜ now (out .exit) ≡ over (bytesOfWriting (write base (length (now (out .entry))) (now (log .entry)))) (now (out .entry)) ⌝ }
+// How long what was written is, or the refusal.
+fn written_face(w: Wrote) -> SumpquinceWritten
+    ensures { λ r. ⌜ r ≡ wroteFace w ⌝ }
 {
-    match writer::write(log, out) {
+    match w {
         Wrote::Length(n) => SumpquinceWritten {
             refusal: no_refusal(),
             length: n as u64,
@@ -213,6 +213,22 @@ pub extern "C" fn sumpquince_write(log: &[u8], out: &mut [u8]) -> SumpquinceWrit
             length: 0,
         },
     }
+}
+
+#[no_mangle]
+pub extern "C" fn sumpquince_write(log: &[u8], out: &mut [u8]) -> SumpquinceWritten
+    ensures answer { λ r. ⌜ r ≡ writtenFace (write base (length (now (out .entry))) (now (log .entry))) ⌝ }
+    ensures slice { λ r. ⌜ now (out .exit) ≡ over (bytesOfWriting (write base (length (now (out .entry))) (now (log .entry)))) (now (out .entry)) ⌝ }
+{
+    written_face(writer::write(log, out))
+}
+
+#[no_mangle]
+pub extern "C" fn sumpquince_strike(log: &[u8], struck: &[u8], out: &mut [u8]) -> SumpquinceWritten
+    ensures answer { λ r. ⌜ r ≡ writtenFace (strikeOut base (length (now (out .entry))) (now (struck .entry)) (now (log .entry))) ⌝ }
+    ensures slice { λ r. ⌜ now (out .exit) ≡ over (bytesOfWriting (strikeOut base (length (now (out .entry))) (now (struck .entry)) (now (log .entry)))) (now (out .entry)) ⌝ }
+{
+    written_face(striker::strike(log, struck, out))
 }
 
 #[no_mangle]

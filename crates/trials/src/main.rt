@@ -1,5 +1,5 @@
 // Runs the library on the logs of data/ and prints what it answers: the fourteen cases of document 01, the samples of its sources, chewed logs,
-// second tries, and contacts in all modes. What has to come out stands in the file stdout. The comments below say where each answer comes from;
+// second tries, contacts in all modes, and records struck. What has to come out stands in the file stdout. The comments below say where each answer comes from;
 // tests/reference holds every one of them to the second judge (tests/trials.rs there).
 
 ghost use Prim.Native.Nat.{_≤_};
@@ -257,6 +257,30 @@ fn written(name: &[u8], other: &[u8]) {
     }
 }
 
+// What is answered of a log when the records are struck that two words name, and whether what is left is the log of the other file.
+fn struck(name: &[u8], first: &[u8], second: &[u8], other: &[u8]) {
+    show_name(name);
+    let mut log = io::large_buffer();
+    let n = load(name, &mut log);
+    let mut marks = [0u8; rules::MOST_RECORDS];
+    words::mark(first, &mut marks);
+    words::mark(second, &mut marks);
+    let mut left = io::large_buffer();
+    let answer = striker::strike(&log[..n], &marks, &mut left);
+    say(b"  struck ");
+    say(first);
+    say(b" ");
+    say(second);
+    say(b":");
+    match answer {
+        Wrote::Length(length) => {
+            show(b" length ", length as u64);
+            show_likeness(&left, length, other);
+        }
+        Wrote::Refused(r) => show_refusal(r),
+    }
+}
+
 // The cases of document 01, by their numbers. Their logs have the header of case 12; its lines are 1 to 38, so the count line is 39, or 40 behind
 // a remark, and the first record stands on the line after it. Mending sets the count of those in cases 3 and 11 that are refused for it, hands over
 // what is accepted as it is, and refuses the others as reading does.
@@ -419,10 +443,24 @@ fn modes() {
     answers(b"w4-morse.edi");
 }
 
+// Striking: case 13, both ways, in its log as it came and as it was written back; all records; second tries; two contacts of different modes. What is left
+// has the log's own claims and spelling, and is judged above. A refused log has no records to strike.
+fn strikes() {
+    struck(b"12-spring.edi", b"1", b"1", b"13-struck.edi");
+    struck(b"12-written.edi", b"1", b"1-1", b"13-written-struck.edi");
+    struck(b"12-spring.edi", b"4-5", b"1-3", b"02-no-records.edi");
+    struck(b"w3-tries.edi", b"1", b"1", b"w3-struck.edi");
+    struck(b"w3-written.edi", b"1", b"1", b"w3-written-struck.edi");
+    struck(b"w4-modes.edi", b"2", b"15", b"w4-struck.edi");
+    struck(b"w4-written.edi", b"2", b"15", b"w4-written-struck.edi");
+    struck(b"01-empty.edi", b"1", b"2", b"01-empty.edi");
+}
+
 fn main() {
     cases();
     views();
     writings();
+    strikes();
     samples();
     chewed();
     second_tries();

@@ -8,7 +8,8 @@ use crate::fields::MODES;
 use crate::mending::{mend_text, Rooms};
 use crate::random::Random;
 use crate::reading::{read, LONGEST_LOG};
-use crate::striking::strike;
+use crate::strikes::{strikes, Strike};
+use crate::striking::strike_log;
 use crate::values;
 use crate::writing::write_log;
 
@@ -26,6 +27,8 @@ pub struct Trial {
     pub output_len: usize,
     /// What is lent for mending.
     pub rooms: Rooms,
+    /// What is struck from it, one time after the other.
+    pub strikes: Vec<Strike>,
 }
 
 /// As many changes as there can be in a log that is accepted once it is mended:
@@ -231,8 +234,9 @@ fn lend(random: &mut Random, made: Made) -> Trial {
         _ => random.between(1, 36) as u64,
     };
     let rooms = rooms(random, &made.log);
+    let strikes = strikes(random, &made.log);
     let Made { tag, log, expectation, outcome } = made;
-    Trial { tag, log, expectation, outcome, keyword, verdicts_len, output_len, rooms }
+    Trial { tag, log, expectation, outcome, keyword, verdicts_len, output_len, rooms, strikes }
 }
 
 /// What is lent for mending: mostly enough, and else too short in each of the
@@ -344,7 +348,7 @@ fn second_tries_struck(random: &mut Random) -> Vec<u8> {
     let written = write_log(&read(&log).expect("a valid log"));
     let written = read(&written).expect("a valid log");
     let struck: Vec<bool> = written.records.iter().map(|_| random.chance(30)).collect();
-    strike(&written, &struck)
+    strike_log(&written, &struck)
 }
 
 /// Three records of each of 64 calls, whose claims come in each order once.

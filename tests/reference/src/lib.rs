@@ -17,6 +17,7 @@ pub mod mending;
 pub mod random;
 pub mod reading;
 pub mod session;
+pub mod strikes;
 pub mod striking;
 pub mod values;
 pub mod writing;
@@ -26,6 +27,7 @@ pub use judging::{judge, Totals};
 pub use mending::{mend, Change, Mended, Rooms};
 pub use reading::{read, view, Log, Refusal, View};
 pub use session::{Lent, Session};
+pub use striking::strike;
 pub use writing::write;
 
 /// What the desk program writes for a log on its standard input.

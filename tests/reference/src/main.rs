@@ -6,6 +6,7 @@
 //! reference calls --calls M --seed S       M calls in scripts, as another
 //! reference links --links K --seed S       K scripts of a link, as a third
 //! reference show --seed S --index I        the raw log of one trial
+//! reference strikes --seed S --index I     what is struck from it: the records, each with its byte
 //! reference script --seed S --index I      the calls of one script in words
 //! reference link --seed S --index I        those of one script of a link
 //! reference tags                           every tag, one on a line
@@ -15,7 +16,7 @@
 //! between the parts and nothing after the last trial:
 //!
 //! ```text
-//! stream   8 bytes "SQTRIAL4", u64 seed, u32 number of trials, the trials
+//! stream   8 bytes "SQTRIAL5", u64 seed, u32 number of trials, the trials
 //! trial    u32 index
 //!          bytes tag              (ASCII, for messages)
 //!          bytes log
@@ -31,6 +32,13 @@
 //!          judge: answer, 12 x u64 totals, 11 x u64 modes, bytes verdicts
 //!          write: answer, bytes result
 //!          mend:  answer, bytes result, bytes kinds, and a u32 line for each
+//!          u32 number of strikes, the strikes
+//! strike   bytes name             (ASCII, for messages)
+//!          bytes struck           the slice that says what is struck
+//!          u32 output slice       its length in bytes
+//!          answer, bytes result
+//!          12 x u64 totals, 11 x u64 modes, bytes verdicts: of the result
+//!          u32 promoted           how many duplicates became credited
 //! bytes    u32 length, then that many bytes
 //! answer   u32 number, u32 line, u32 field: three zeros for acceptance
 //! ```
@@ -42,7 +50,8 @@
 //! spelling than the listed one, and `listed` is 1 where the one asked for
 //! stands in that. After a refusal every number behind the answer is 0 and every
 //! `bytes` is empty; what was lent must then be unchanged. The bits of all
-//! keywords are 0 for a log that is refused.
+//! keywords are 0 for a log that is refused. Each strike that is accepted is held
+//! to demand 3; where it does not hold, the program fails.
 //!
 //! The stream of `calls`, with the same numbers, bytes and answers:
 //!
@@ -106,15 +115,18 @@
 
 use reference::calls::{script, scripts, tags, Script, Slice, Step, Told, Wrote};
 use reference::generate::{Generator, Trial};
+use reference::judging::judge_log;
 use reference::links::{self, Links};
 use reference::reading::{KEYWORDS, LONGEST_LOG};
 use reference::session::Numbers;
-use reference::{desk, judge, mend, read, view, write, Lent, Mended, Refusal, Totals};
+use reference::strikes::Strike;
+use reference::striking::{places, Striking};
+use reference::{desk, judge, mend, read, strike, view, write, Lent, Log, Mended, Refusal, Totals};
 use std::io::{self, BufWriter, Read, Write};
 use std::process::ExitCode;
 
-const USAGE: &str =
-    "usage: reference desk | trials --count N --seed S | calls --calls M --seed S | links --links K --seed S | show|script|link --seed S --index I | tags";
+const USAGE: &str = "usage: reference desk | trials --count N --seed S | calls --calls M --seed S | links --links K --seed S | \
+    show|strikes|script|link --seed S --index I | tags";
 
 fn main() -> ExitCode {
     let arguments: Vec<String> = std::env::args().skip(1).collect();
@@ -146,6 +158,7 @@ fn run(arguments: &[String]) -> Result<(), String> {
             write_links(option(arguments, "--seed")?, scripts)
         }
         Some("show") => show(option(arguments, "--seed")?, option(arguments, "--index")?),
+        Some("strikes") => show_strikes(option(arguments, "--seed")?, option(arguments, "--index")?),
         Some("script") => show_script(option(arguments, "--seed")?, option(arguments, "--index")?),
         Some("link") => show_link(option(arguments, "--seed")?, option(arguments, "--index")?),
         Some("tags") => show_tags(),
@@ -170,6 +183,23 @@ fn answer_desk() -> io::Result<()> {
 fn show(seed: u64, index: u64) -> io::Result<()> {
     let trial = Generator::new(seed).trial(index);
     io::stdout().write_all(&trial.log)
+}
+
+fn show_strikes(seed: u64, index: u64) -> io::Result<()> {
+    let trial = Generator::new(seed).trial(index);
+    let records = read(&trial.log).map_or(0, |log| log.records.len());
+    let mut text = String::new();
+    for Strike { name, struck, output_len } in &trial.strikes {
+        let marks = struck.iter().take(records).enumerate().filter(|(_, &byte)| byte != 0);
+        let marks: String = marks.map(|(at, byte)| format!(" {}:{byte}", at + 1)).collect();
+        let marks = if marks.is_empty() { " no record" } else { &marks };
+        text += &format!("strike {name}, by {} bytes,{marks}, into {output_len} bytes: ", struck.len());
+        text += &match strike(&trial.log, struck, *output_len) {
+            Ok(rest) => format!("{} bytes\n", rest.len()),
+            Err(refusal) => format!("refused {} {} {}\n", refusal.number, refusal.line, refusal.field),
+        };
+    }
+    io::stdout().write_all(text.as_bytes())
 }
 
 fn show_script(seed: u64, index: u64) -> io::Result<()> {
@@ -220,7 +250,7 @@ fn show_tags() -> io::Result<()> {
 
 fn write_trials(seed: u64, count: u32) -> io::Result<()> {
     let mut out = BufWriter::with_capacity(1 << 16, io::stdout().lock());
-    out.write_all(b"SQTRIAL4")?;
+    out.write_all(b"SQTRIAL5")?;
     put_u64(&mut out, seed)?;
     put_u32(&mut out, count)?;
     let generator = Generator::new(seed);
@@ -269,7 +299,42 @@ fn put_trial(out: &mut impl Write, index: u32, trial: &Trial) -> io::Result<()> 
 
     let answer = mend(&trial.log, trial.rooms);
     put_answer(out, &answer)?;
-    put_mended(out, &answer.unwrap_or(Mended { text: Vec::new(), changes: Vec::new() }))
+    put_mended(out, &answer.unwrap_or(Mended { text: Vec::new(), changes: Vec::new() }))?;
+
+    put_strikes(out, trial).map_err(|fault| io::Error::new(fault.kind(), format!("trial {index} ({}), {fault}", trial.tag)))
+}
+
+fn put_strikes(out: &mut impl Write, trial: &Trial) -> io::Result<()> {
+    let read = read(&trial.log);
+    let judged = read.as_ref().ok().map(|log| (log, judge_log(log)));
+    put_size(out, trial.strikes.len())?;
+    for asked in &trial.strikes {
+        put_bytes(out, asked.name.as_bytes())?;
+        put_bytes(out, &asked.struck)?;
+        put_size(out, asked.output_len)?;
+        let answer = strike(&trial.log, &asked.struck, asked.output_len);
+        put_answer(out, &answer)?;
+        let (totals, verdicts, promoted) = match (&answer, &judged) {
+            (Ok(rest), Some((log, before))) => strike_told(asked, log, before, rest)?,
+            _ => (Totals::default(), Vec::new(), 0),
+        };
+        put_bytes(out, &answer.unwrap_or_default())?;
+        put_totals(out, &totals)?;
+        put_bytes(out, &verdicts)?;
+        put_size(out, promoted)?;
+    }
+    Ok(())
+}
+
+/// What is told of a strike that was accepted, once demand 3 was seen to hold.
+fn strike_told(asked: &Strike, log: &Log, before: &(Totals, Vec<u8>), rest: &[u8]) -> io::Result<(Totals, Vec<u8>, usize)> {
+    let broken = |fault| io::Error::other(format!("strike {}: demand 3 does not hold: {fault}", asked.name));
+    let struck = places(&asked.struck, log.records.len()).expect("a byte for each record");
+    let striking = Striking::new(log, before, &struck, rest).map_err(broken)?;
+    match striking.fault() {
+        Some(fault) => Err(broken(fault)),
+        None => Ok((striking.after().0, striking.after().1.clone(), striking.promoted())),
+    }
 }
 
 fn put_mended(out: &mut impl Write, mended: &Mended) -> io::Result<()> {

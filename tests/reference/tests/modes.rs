@@ -7,7 +7,7 @@ use reference::generate::{Generator, Trial};
 use reference::judging::{class, CREDITED, DUPLICATE, ERROR, VOID};
 use reference::random::Random;
 use reference::reading::LONGEST_LOG;
-use reference::striking::strike;
+use reference::striking::strike_log;
 use reference::writing::write_log;
 use reference::{desk, judge, read, write, Totals, MODES};
 use std::collections::BTreeSet;
@@ -104,8 +104,8 @@ fn case_13_moves_a_contact_to_another_mode() {
     let written = write(log, LONGEST_LOG).unwrap();
     assert_eq!(modes_of(&written), modes_of(log));
     let struck = [true, false, false, false, false];
-    assert_eq!(modes_of(&strike(&read(log).unwrap(), &struck)), only(&[(1, 1), (2, 1)]));
-    assert_eq!(modes_of(&strike(&read(&written).unwrap(), &struck)), only(&[(1, 1)]));
+    assert_eq!(modes_of(&strike_log(&read(log).unwrap(), &struck)), only(&[(1, 1), (2, 1)]));
+    assert_eq!(modes_of(&strike_log(&read(&written).unwrap(), &struck)), only(&[(1, 1)]));
 }
 
 /// A blank is no 0.
@@ -159,7 +159,7 @@ fn a_repeat_brings_its_own_mode_once_it_is_credited() {
     let log = log_of(&[record("2"), record("1"), record("")]);
     let log = read(&log).unwrap();
     for (struck, place) in [([false, false, false], 2), ([true, false, false], 1), ([true, true, false], BLANK)] {
-        assert_eq!(modes_of(&strike(&log, &struck)), only(&[(place, 1)]));
+        assert_eq!(modes_of(&strike_log(&log, &struck)), only(&[(place, 1)]));
     }
 }
 
@@ -227,7 +227,7 @@ fn writing_back_keeps_them() {
 /// Each struck contact leaves its mode, and each repeat that becomes credited
 /// joins its own. Answers how many joined.
 fn striking_holds(log: &[u8], struck: &[bool], name: &str) -> usize {
-    let rest = strike(&read(log).unwrap(), struck);
+    let rest = strike_log(&read(log).unwrap(), struck);
     let before = modes_and_classes(log);
     let after = modes_and_classes(&rest);
     let mut wanted = modes_of(log).map(|number| number as i64);
@@ -260,7 +260,7 @@ fn striking_changes_them_as_the_classes_say() {
         let written = write_log(&log);
         if written.len() <= LONGEST_LOG {
             assert_eq!(striking_holds(&written, &struck, &trial.tag), 0);
-            let rest = modes_of(&strike(&read(&written).unwrap(), &struck));
+            let rest = modes_of(&strike_log(&read(&written).unwrap(), &struck));
             assert!(rest.iter().zip(modes_of(&written)).all(|(after, before)| *after <= before), "{}", trial.tag);
         }
     }
@@ -298,18 +298,29 @@ impl<'a> Stream<'a> {
         let length = self.u32() as usize;
         self.take(length)
     }
+
+    /// The twelve totals, and the modes behind them.
+    fn sums(&mut self) -> (Vec<u64>, Vec<u64>) {
+        ((0..12).map(|_| self.u64()).collect(), (0..11).map(|_| self.u64()).collect())
+    }
+}
+
+fn sums_of(totals: &Totals) -> (Vec<u64>, Vec<u64>) {
+    (totals.as_list().to_vec(), totals.modes.to_vec())
 }
 
 /// What the library is compared with has the eleven numbers of each log that is
-/// judged, and eleven zeros for each that is refused, by a slice too short too.
+/// judged, and eleven zeros for each that is refused, by a slice too short too;
+/// and of each strike the eleven of what is left.
 #[test]
 fn the_stream_of_trials_carries_them() {
     let program = env!("CARGO_BIN_EXE_reference");
     let output = Command::new(program).args(["trials", "--count", "500", "--seed", "4"]).output().unwrap();
     let mut stream = Stream(&output.stdout);
-    assert_eq!(stream.take(8), b"SQTRIAL4");
+    assert_eq!(stream.take(8), b"SQTRIAL5");
     assert_eq!((stream.u64(), stream.u32()), (4, 500));
     let mut refused = BTreeSet::new();
+    let mut struck = 0;
     for index in 0..500 {
         assert_eq!(stream.u32(), index);
         stream.bytes();
@@ -321,12 +332,10 @@ fn the_stream_of_trials_carries_them() {
         stream.take(6 * 4 + 8); // view, and the bits of all keywords
         let number = stream.u32();
         stream.take(2 * 4);
-        let totals: Vec<u64> = (0..12).map(|_| stream.u64()).collect();
-        let modes: Vec<u64> = (0..11).map(|_| stream.u64()).collect();
-        let wanted = judge(log, room).map(|(totals, _)| totals).unwrap_or_default();
-        assert_eq!((totals, modes.as_slice()), (wanted.as_list().to_vec(), &wanted.modes[..]));
+        let sums = stream.sums();
+        assert_eq!(sums, sums_of(&judge(log, room).map(|(totals, _)| totals).unwrap_or_default()));
         if number != 0 {
-            assert_eq!(modes, [0; 11]);
+            assert_eq!(sums.1, [0; 11]);
             refused.insert(number);
         }
         stream.bytes();
@@ -336,7 +345,21 @@ fn the_stream_of_trials_carries_them() {
         stream.bytes();
         let changes = stream.bytes().len();
         stream.take(4 * changes);
+        for _ in 0..stream.u32() {
+            stream.bytes();
+            stream.bytes();
+            stream.take(4); // the size lent
+            let number = stream.u32();
+            stream.take(2 * 4);
+            let (totals, verdicts) = judge(stream.bytes(), 999).unwrap_or_default();
+            assert_eq!(stream.sums(), sums_of(&totals));
+            assert_eq!(stream.bytes(), verdicts);
+            let promoted = stream.u32();
+            assert!(number == 0 || (totals, verdicts.len(), promoted) == (Totals::default(), 0, 0));
+            struck += usize::from(number == 0 && totals.credited > 0);
+        }
     }
     assert!(stream.0.is_empty());
+    assert!(struck > 100, "{struck}");
     assert!(refused.contains(&7) && refused.len() > 4, "{refused:?}");
 }

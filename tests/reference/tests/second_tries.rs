@@ -3,7 +3,7 @@
 //! D."
 
 use reference::judging::{class, CREDITED, DUPLICATE, ERROR, VOID};
-use reference::striking::strike;
+use reference::striking::strike_log;
 use reference::{desk, judge, read, write};
 
 /// Worked by tropo, with a country claimed.
@@ -150,7 +150,7 @@ fn a_claimed_d_is_void_once_the_credited_one_is_struck() {
     let log = log_of(&[WORKED, BROKEN, repeat]);
     assert_eq!(classes(&log), [CREDITED, VOID, DUPLICATE]);
     for log in [written(&log), log] {
-        let rest = strike(&read(&log).unwrap(), &[true, false, false]);
+        let rest = strike_log(&read(&log).unwrap(), &[true, false, false]);
         assert_eq!(classes(&rest), [VOID, VOID]);
         let text = String::from_utf8(written(&rest)).unwrap();
         assert!(text.ends_with(&format!("{BROKEN}\r\n240302;1431;DK1AA;2;599;002;599;009;;JO40AA;0;;;;\r\n")));

@@ -4,7 +4,7 @@
 //! what the proved library answers. What it has to print is kept in its file
 //! `stdout`, which is read here and held to the answers of the reference.
 
-use reference::{judge, mend, read, view, write, Change, Refusal, Rooms, Totals, View};
+use reference::{judge, mend, read, strike, view, write, Change, Refusal, Rooms, Totals, View};
 use std::collections::BTreeSet;
 use std::fs;
 use std::path::PathBuf;
@@ -114,6 +114,34 @@ fn written(log: &[u8], other: &str) -> String {
     }
 }
 
+/// The records that two words name, each by a byte that strikes it.
+fn struck_by(words: &str) -> Vec<u8> {
+    let mut marks = vec![0; 999];
+    for word in words.split(' ') {
+        let (first, last) = word.split_once('-').unwrap_or((word, word));
+        let (first, last): (usize, usize) = (first.parse().unwrap(), last.parse().unwrap());
+        marks[first - 1..last].fill(1);
+    }
+    marks
+}
+
+fn struck(log: &[u8], words: &str, other: &str) -> String {
+    match strike(log, &struck_by(words), 65_536) {
+        Ok(rest) => {
+            let like = if rest == log_named(other) { "as" } else { "not as" };
+            format!("  struck {words}: length {} {like} {other}\n", rest.len())
+        }
+        Err(refusal) => refused(&format!("struck {words}"), refusal),
+    }
+}
+
+/// The words that a line of striking names records by, and the log that it
+/// compares with.
+fn strike_of(line: &str) -> Option<(&str, &str)> {
+    let (words, told) = line.strip_prefix("  struck ")?.split_once(':')?;
+    Some((words, told.trim_end().rsplit(' ').next()?))
+}
+
 /// The log that a line of writing compares with.
 fn other_of(line: &str) -> Option<&str> {
     line.strip_prefix("  written:")?.trim_end().rsplit(' ').next()
@@ -142,10 +170,11 @@ fn the_trials_are_answered_alike() {
     let text = fs::read_to_string(kept("crates/trials/stdout")).unwrap();
     for (name, told) in blocks(&text) {
         let log = log_named(&name);
-        let wanted = match (keyword_of(&told), other_of(&told)) {
-            (Some(keyword), _) => argument(&log, keyword),
-            (None, Some(other)) => written(&log, other),
-            (None, None) => answers(&log),
+        let wanted = match (keyword_of(&told), other_of(&told), strike_of(&told)) {
+            (Some(keyword), _, _) => argument(&log, keyword),
+            (None, Some(other), _) => written(&log, other),
+            (None, None, Some((words, other))) => struck(&log, words, other),
+            (None, None, None) => answers(&log),
         };
         assert_eq!(told, wanted, "{name}");
     }
