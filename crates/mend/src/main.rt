@@ -4,60 +4,14 @@
 
 ghost use Prim.Native.Nat.{_≤_};
 ghost use lib.ListN.{length};
-ghost use Rattle.io.specs.Counts.{Counts};
-use libc::STDERR_FILENO;
-use libc::STDIN_FILENO;
+use console::say;
+use console::say_number;
+use console::say_refusal;
 use libc::STDOUT_FILENO;
 use mender::MendAnswer;
-use rules::Refusal;
 
 // Room for the list of every log: in a log that is accepted no line has more entries than half the bytes that it has with its CR LF.
 const MOST_CHANGES: usize = rules::LONGEST_LOG / 2;
-
-// How many bytes were read, and whether a read failed behind them.
-struct Taken {
-    bytes: usize,
-    failed: bool,
-}
-
-// Reads until the list is full, the input ends or a read fails.
-fn take(log: &mut [u8]) -> Taken
-    ensures { λ r. ⌜ Counts (r .bytes) (now (log .exit)) ⌝ }
-{
-    let mut n = 0;
-    while n < log.len() {
-        let got = libc::read(STDIN_FILENO, &mut log[n..]);
-        let more = io::count(got, &log[n..]);
-        if more == 0 {
-            return Taken {
-                bytes: n,
-                failed: got < 0,
-            };
-        }
-        n += more;
-    }
-    Taken {
-        bytes: n,
-        failed: false,
-    }
-}
-
-fn say(text: &[u8]) {
-    io::write_all(STDERR_FILENO, text);
-}
-
-// A word and a number behind it.
-fn say_number(word: &[u8], n: u32) {
-    say(word);
-    io::print_decimal(STDERR_FILENO, n as u64);
-}
-
-fn say_refusal(r: Refusal) {
-    say_number(b"REFUSED ", r.number);
-    say_number(b" ", r.line);
-    say_number(b" ", r.field);
-    say(b"\n");
-}
 
 // What was done to a line, by its kind, 1 to 4.
 fn say_kind(kind: u8) {
@@ -70,7 +24,7 @@ fn say_kind(kind: u8) {
 }
 
 fn say_change(kind: u8, line: u32) {
-    say_number(b"line ", line);
+    say_number(b"line ", line as u64);
     say(b": ");
     say_kind(kind);
     say(b"\n");
@@ -109,9 +63,8 @@ fn mend(log: &[u8]) {
 // A log has at most 65,535 bytes: one byte more tells that there are too many.
 fn main() {
     let mut log = [0u8; rules::LONGEST_LOG + 1];
-    let taken = take(&mut log);
+    let taken = console::take(&mut log, b"mend");
     if taken.failed {
-        say(b"mend: cannot read the log: the system tells of an error\n");
         return;
     }
     let n = taken.bytes;

@@ -1,23 +1,20 @@
 -- `desk::main` keeps within bounds: what was read lies within the list, and what the library laid lies within the answer.
 -- Assumes nothing.
-use mathlib.Core.Path.{sym}
 use lib.Seq.{length-take-le}
+use Rattle.writer.proofs.ShownLaws.{shown-within}
+use mathlib.Core.Path.{sym}
 use borrow.Author.Needs.{needs}
 use Rattle.desk.proofs.main.Statement.{statement}
 use Rattle.desk.proofs.main.Tie as tie
-use Rattle.writer.proofs.ShownLaws.{shown-within}
 
 slice-aggregate-take : tie.Need-slice-aggregate-take
 slice-aggregate-take c = search needs
 
+slice-aggregate-take-2 : tie.Need-slice-aggregate-take-2
+slice-aggregate-take-2 c = search needs
+
 take-requires : tie.Need-take-requires
 take-requires c κs = search needs
-
-slice-aggregate-write-all : tie.Need-slice-aggregate-write-all
-slice-aggregate-write-all c = search needs
-
-write-all-requires : tie.Need-write-all-requires
-write-all-requires c κs = search needs
 
 returns : tie.Need-returns
 returns c = search needs
@@ -34,40 +31,27 @@ show-requires c κs = search needs
 array-share-prefix-answer : tie.Need-array-share-prefix-answer
 array-share-prefix-answer c = shown-within _ _ (c .show .ensures .0) (c .show .ensures .1)
 
-slice-aggregate-write-all-2 : tie.Need-slice-aggregate-write-all-2
-slice-aggregate-write-all-2 c = sym (length-take-le _ _ (array-share-prefix-answer (c .before)))
+slice-aggregate-answer : tie.Need-slice-aggregate-answer
+slice-aggregate-answer c = sym (length-take-le _ _ (array-share-prefix-answer (c .before)))
 
-write-all-requires-2 : tie.Need-write-all-requires-2
-write-all-requires-2 c κs = search needs
-
-slice-aggregate-write-all-3 : tie.Need-slice-aggregate-write-all-3
-slice-aggregate-write-all-3 c = search needs
-
-write-all-requires-3 : tie.Need-write-all-requires-3
-write-all-requires-3 c κs = search needs
+answer-requires : tie.Need-answer-requires
+answer-requires c κs = search needs
 
 returns-2 : tie.Need-returns-2
 returns-2 c = search needs
-
-returns-3 : tie.Need-returns-3
-returns-3 c = search needs
 
 pub main-spec : {M : Type 1} → statement M
 main-spec =
     tie.close
     (tie.spec
     slice-aggregate-take
+    slice-aggregate-take-2
     take-requires
-    slice-aggregate-write-all
-    write-all-requires
     returns
     array-share-prefix-log
     slice-aggregate-show
     show-requires
     array-share-prefix-answer
-    slice-aggregate-write-all-2
-    write-all-requires-2
-    slice-aggregate-write-all-3
-    write-all-requires-3
-    returns-2
-    returns-3)
+    slice-aggregate-answer
+    answer-requires
+    returns-2)

@@ -1,11 +1,11 @@
--- `mend::take` meets its contract: what was read so far lies within the list, and each turn reads at least one byte more.
+-- `console::fill` meets its contract: what was read so far lies within the list, and each turn reads at least one byte more.
 -- Assumes nothing.
 use Prim.Native.Nat.{_-_, _≤_}
 use borrow.Author.Needs.{needs}
 use lib.ListN.{length}
 use mathlib.Core.Path.{_≡_}
-use Rattle.mend.proofs.take.Statement.{statement}
-use Rattle.mend.proofs.take.Tie as tie
+use Rattle.console.proofs.fill.Statement.{statement}
+use Rattle.console.proofs.fill.Tie as tie
 use Rattle.io.proofs.Counting.{counts}
 
 abbrev Inv-loop : tie.InvT-loop
@@ -62,8 +62,8 @@ same-length-2 c = search needs
 returns-2 : tie.Need-returns-2 Inv-loop μ-loop
 returns-2 c = counts _ _ (search needs)
 
-pub take-spec : {M : Type 1} → statement M
-take-spec =
+pub fill-spec : {M : Type 1} → statement M
+fill-spec =
     tie.close
     (tie.spec
     Inv-loop

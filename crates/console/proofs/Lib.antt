@@ -1,0 +1,2 @@
+-- Laws of what the programs share.
+pub mod PartLaws

@@ -1,0 +1,2 @@
+-- What the programs of the desk share.
+pub mod Words
