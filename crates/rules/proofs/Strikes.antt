@@ -2,20 +2,23 @@
 -- Assumes nothing.
 use Prim.Native.Nat.{ℕ, _<_}
 use native.Mathlib.Omega.{arith}
-use mathlib.Core.Path.{_≡_, sym, ap, _∙_}
-use mathlib.Core.Logic.{inl, ⊎-elim, _↔_}
-use mathlib.Core.Bool.{not}
+use mathlib.Core.Path.{_≡_, refl, sym, ap, _∙_}
+use mathlib.Core.Logic.{inl, inr, ⊎-elim, _↔_}
+use mathlib.Core.Bool.{Bool, true, false, cond, not}
 use mathlib.Core.List.{List}
 use lib.Dec.{T}
 use lib.ListN.{length}
-use Rattle.rules.specs.declared.Class.the-variants.{Credited, Duplicate}
+use Rattle.rules.specs.declared.Class.{Class}
+use Rattle.rules.specs.declared.Class.the-variants.{Credited, Void, Duplicate, Error}
 use Rattle.rules.specs.Text.{Text}
 use Rattle.rules.specs.Rules.{Rules}
 use Rattle.rules.specs.Fields.{Qso, isError}
 use Rattle.rules.specs.Log.{Log, valid}
 use Rattle.rules.specs.Judging.{claimsPoints, sameCall}
 use Rattle.rules.specs.Striking.{Places, kept, strike, placeAfter}
-use Rattle.rules.specs.Demands.{SomeEarlierCredited, sameCallAs, qsoAt, classAt, StrikesRightly}
+use Rattle.rules.specs.Demands.{SomeEarlierCredited, sameCallAs, qsoAt, classAt, AsTheDocumentDefines, StrikesRightly}
+use Rattle.rules.specs.StrikingDemands.{EachClassAfter}
+use Rattle.rules.proofs.Tests.{so, holds, clash}
 use Rattle.rules.proofs.Passing.{failed, decided, same→equal, equal→same}
 use Rattle.rules.proofs.ValidLogs.{rules-of, points-ruled, error-claims-nothing, records-valid}
 use Rattle.rules.proofs.Classes.{as-defined, credited-or-repeats}
@@ -142,6 +145,65 @@ module _ (R : Rules) where
           (λ i v. failed (struck i) .0 (v .1) (w .1 i (v .0) (v .4) (v .3))),
     )
 
+  -- # Every class
+
+  module _ (qs : List Qso) (struck : Places) (j : ℕ) (h : j < length qs) (n : T (not (struck j))) where
+    abbrev after : Class
+    after = classAt R (kept struck qs) (placeAfter struck j)
+
+    abbrev defined : AsTheDocumentDefines R (kept struck qs) (placeAfter struck j)
+    defined = as-defined R (kept struck qs) (placeAfter struck j) (fits qs struck j h n)
+
+    same : qsoAt (kept struck qs) (placeAfter struck j) ≡ qsoAt qs j
+    same = same-record qs struck j h n
+
+    -- A record that repeats one which is left repeated one before.
+    repeats-before : SomeEarlierCredited R (kept struck qs) (sameCallAs R) (placeAfter struck j) → SomeEarlierCredited R qs (sameCallAs R) j
+    repeats-before w =
+        let (i, c) = claimant qs struck j h n w in
+        bars qs i j (c .0) h (c .2) (c .3) (c .4)
+
+    error-stays : classAt R qs j ≡ Error → after ≡ Error
+    error-stays e = defined .error .1 (rw same (as-defined R qs j h .error .0 e))
+
+    void-stays : classAt R qs j ≡ Void → after ≡ Void
+    void-stays e =
+        let d = as-defined R qs j h .void .0 e in
+        defined .void .1
+        (rw same (d .0), rw same (d .1), ⊎-elim (λ none. inl (rw same none)) (λ none. inr (λ w. none (repeats-before w))) (d .2))
+
+    pub other-stays : (classAt R qs j ≡ Duplicate → ⊥) → after ≡ classAt R qs j
+    other-stays other = by (classAt R qs j) refl
+      where
+        by : (c : Class) → classAt R qs j ≡ c → after ≡ classAt R qs j
+        by Credited e = still-credited qs struck j h n e ∙ sym e
+        by Void e = void-stays e ∙ sym e
+        by Duplicate e = absurd (other e)
+        by Error e = error-stays e ∙ sym e
+
+    -- A duplicate that repeats nothing any more.
+    pub freed : classAt R qs j ≡ Duplicate → ((i : ℕ) → Claimant qs struck j h n i → ⊥) → after ≡ cond (claimsPoints (qsoAt qs j)) Credited Void
+    freed e none = by (claimsPoints (qsoAt qs j)) refl
+      where
+        right : T (not (isError (qsoAt qs j)))
+        right = as-defined R qs j h .duplicate .0 e .0
+
+        by : (b : Bool) → claimsPoints (qsoAt qs j) ≡ b → after ≡ cond b Credited Void
+        by true c = credited-left qs struck j h n right (holds c) none
+        by false c =
+            defined .void .1
+            (rw same right, rw same (failed (claimsPoints (qsoAt qs j)) .1 (λ t. clash (so (claimsPoints (qsoAt qs j)) t) c)), inr (λ w. none (claimant qs struck j h n w .0) (claimant qs struck j h n w .1)))
+
+    -- One that repeats a record which is left.
+    pub stays-repeat : (i : ℕ) → i < j → T (not (struck i)) → T (not (isError (qsoAt qs i))) → T (claimsPoints (qsoAt qs i)) → T (sameCallAs R (qsoAt qs i) (qsoAt qs j)) → classAt R qs j ≡ Duplicate → after ≡ Duplicate
+    stays-repeat i k m right u t e =
+        let d = as-defined R qs j h .duplicate .0 e in
+        let there : qsoAt (kept struck qs) (placeAfter struck i) ≡ qsoAt qs i = kept-at _ struck qs i (omega arith) m in
+        let w =
+        bars (kept struck qs) (placeAfter struck i) (placeAfter struck j) (places-ordered struck i j k m) (fits qs struck j h n)
+        (rw there right) (rw there u) (rw (there, same) t) in
+        defined .duplicate .1 (rw same (d .0), rw same (d .1), w)
+
   module _ (log : Log) (struck : Places) where
     pub strikes-rightly : T (valid R log) → StrikesRightly R log struck
     unfolding strike
@@ -149,4 +211,16 @@ module _ (R : Rules) where
         record {
           stillCredited = λ j h n c. still-credited (log .records) struck j h n c;
           promoted = λ j h n c. promoted-exactly (log .records) struck j h n (errors-claim-nothing log v) c;
+        }
+
+    pub each-class-after : T (valid R log) → EachClassAfter R log struck
+    unfolding strike
+    each-class-after v =
+        let qs = log .records in
+        record {
+          othersStay = λ j h n other. other-stays qs struck j h n other;
+          duplicatesStay = λ i j k h m n t u e.
+              stays-repeat qs struck j h n i k m (errors-claim-nothing log v i (omega arith) u) u t e;
+          duplicatesFreed = λ j h n all e.
+              freed qs struck j h n e (λ i c. failed (struck i) .0 (c .1) (all i (c .0) (c .4) (c .3)));
         }

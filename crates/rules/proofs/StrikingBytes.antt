@@ -30,6 +30,7 @@ use Rattle.rules.proofs.Falls.{striking-rule}
 use Rattle.rules.proofs.Format.{accepted-when-written}
 use Rattle.rules.proofs.KeptPlaces.{kept-fits}
 use Rattle.rules.proofs.Passing.{failed}
+use Rattle.rules.proofs.Strikes.{each-class-after}
 use Rattle.rules.proofs.Struck.{struck-valid, struck-no-longer}
 use Rattle.rules.proofs.StrikingGiven.{what-is-handed, given-by-striking, refused-striking}
 
@@ -201,6 +202,7 @@ the-striker R =
     record {
       givenExactlyWhen = given-by-striking R;
       aRefusalChangesNothing = refused-striking R;
+      eachClassAfter = each-class-after R;
       strikingRule = striking-rule-in-bytes R;
       noLonger = no-longer R;
       nothingStruck = nothing-struck R;

@@ -3,23 +3,23 @@
 use Prim.Native.Nat.{ℕ, _+_, _*_, _%_, _≤_, _<_}
 use mathlib.Core.Path.{_≡_}
 use mathlib.Core.Logic.{_↔_}
-use mathlib.Core.Bool.{not}
+use mathlib.Core.Bool.{cond, not}
 use mathlib.Core.List.{List}
 use lib.Dec.{T}
 use lib.ListN.{length, getD}
 use Rattle.rules.specs.declared.Refusal.{Refusal}
 use Rattle.rules.specs.declared.Class.{Class}
-use Rattle.rules.specs.declared.Class.the-variants.{Credited, Duplicate}
+use Rattle.rules.specs.declared.Class.the-variants.{Credited, Void, Duplicate}
 use Rattle.rules.specs.declared.Totals.{Totals}
 use Rattle.rules.specs.Text.{Text}
 use Rattle.rules.specs.Rules.{Rules}
-use Rattle.rules.specs.Log.{Log, render, IsWrittenAs}
+use Rattle.rules.specs.Log.{Log, valid, render, IsWrittenAs}
 use Rattle.rules.specs.Judging.{classNumber, claimsPoints, multipliers, declared, verdictsOfLog}
 use Rattle.rules.specs.Reading.{accepted, refused, refusal, read}
 use Rattle.rules.specs.Answers.{judged, judge, written, unwritten, refusalOfWriting, bytesOfWriting, over}
 use Rattle.rules.specs.Given.{LineAndField}
-use Rattle.rules.specs.Striking.{strike, placeAfter, struckWorth, marked, strikeOut}
-use Rattle.rules.specs.Demands.{qsoAt, sameCallAs}
+use Rattle.rules.specs.Striking.{Places, strike, placeAfter, struckWorth, marked, strikeOut}
+use Rattle.rules.specs.Demands.{qsoAt, classAt, sameCallAs, classStruck, EveryEarlierClaimIsStruck}
 
 -- # Demand 1
 
@@ -62,6 +62,36 @@ RefusedStrikingChangesNothing R =
     strikeOut R (length slice) marks s ≡ unwritten r →
     (length (bytesOfWriting (strikeOut R (length slice) marks s)) ≡ 0)
     × (over (bytesOfWriting (strikeOut R (length slice) marks s)) slice ≡ slice)
+
+-- # Every class
+
+-- Besides what demand 3 says of credited records: what becomes of each class, so that it is known of every record that is not struck. An ERROR, a void
+-- and a credited record stay what they are. A duplicate stays one while an earlier record of its call that claims points is left; else it is credited if it
+-- claims points, and void if it does not.
+pub record EachClassAfter (R : Rules) (log : Log) (struck : Places) : Type 0 where
+  pub othersStay :
+      (j : ℕ) →
+      j < length (log .records) →
+      T (not (struck j)) →
+      (classAt R (log .records) j ≡ Duplicate → ⊥) →
+      classStruck R log struck j ≡ classAt R (log .records) j
+  pub duplicatesStay :
+      (i j : ℕ) →
+      i < j →
+      j < length (log .records) →
+      T (not (struck i)) →
+      T (not (struck j)) →
+      T (sameCallAs R (qsoAt (log .records) i) (qsoAt (log .records) j)) →
+      T (claimsPoints (qsoAt (log .records) i)) →
+      classAt R (log .records) j ≡ Duplicate →
+      classStruck R log struck j ≡ Duplicate
+  pub duplicatesFreed :
+      (j : ℕ) →
+      j < length (log .records) →
+      T (not (struck j)) →
+      EveryEarlierClaimIsStruck R log struck j →
+      classAt R (log .records) j ≡ Duplicate →
+      classStruck R log struck j ≡ cond (claimsPoints (qsoAt (log .records) j)) Credited Void
 
 -- # Demand 3, over the bytes
 
@@ -161,6 +191,7 @@ NothingStruck R =
 pub record TheStriker (R : Rules) : Type 0 where
   pub givenExactlyWhen : (s : Text) (marks : List ℕ) (room : ℕ) → GivenByStriking R s marks room
   pub aRefusalChangesNothing : RefusedStrikingChangesNothing R
+  pub eachClassAfter : (log : Log) (struck : Places) → T (valid R log) → EachClassAfter R log struck
   pub strikingRule : StrikingRuleInBytes R
   pub noLonger : NoLonger R
   pub nothingStruck : NothingStruck R
