@@ -66,34 +66,11 @@ enum Left {
     Refused(Refusal),
 }
 
-// Puts the verdicts of the records that are left at the places that they have among all. So many are left in front of this one.
-fn spread_one(among: &mut Marks, i: usize, gone: u8, verdicts: &Marks, before: usize) -> usize {
-    if gone != 0 {
-        return before;
-    }
-    if rules::MOST_RECORDS <= before {
-        return before;
-    }
-    if i < rules::MOST_RECORDS {
-        among[i] = verdicts[before];
-    }
-    before + 1
-}
-
-fn spread(verdicts: &Marks, gone: &Marks, among: &mut Marks) {
-    let mut before = 0;
-    let mut i = 0;
-    while i < rules::MOST_RECORDS {
-        before = spread_one(among, i, gone[i], verdicts, before);
-        i += 1;
-    }
-}
-
 fn judge_text(text: &[u8], gone: &Marks, among: &mut Marks) -> Left {
     let mut verdicts = [0u8; rules::MOST_RECORDS];
     match judge::judge(text, &mut verdicts) {
         Judged::Totals(t) => {
-            spread(&verdicts, gone, among);
+            striker::spread(&verdicts, gone, among);
             Left::Total(t.total)
         }
         Judged::Refused(r) => Left::Refused(r),

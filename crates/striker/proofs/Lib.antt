@@ -2,3 +2,4 @@
 pub mod LineLoops
 pub mod KeptLaws
 pub mod StruckLaws
+pub mod SpreadLaws

@@ -1,3 +1,4 @@
--- The text that is left of a log, by places, and what the functions under `strike` are given.
+-- The text that is left of a log, by places, what the functions under `strike` are given, and what is told of the records that are left.
 pub mod KeptText
 pub mod Given
+pub mod Spread

@@ -2,7 +2,7 @@
 // and marks too: what they are worth then is for the judge to say.
 
 ghost use Prim.Native.Nat.{_+_, _-_, _≤_};
-ghost use lib.ListN.{length};
+ghost use lib.ListN.{length, getD};
 ghost use mathlib.Core.Bool.{cond};
 ghost use mathlib.Core.Path.{_≡_};
 ghost use Rattle.rules.specs.Answers.{bytesOfWriting, over};
@@ -11,6 +11,7 @@ ghost use Rattle.rules.specs.Rules.{base};
 ghost use Rattle.rules.specs.Striking.{marked, placeAfter, strikeOut};
 ghost use Rattle.striker.specs.KeptText.{isStruck, keptLine, keptLines, headText};
 ghost use Rattle.striker.specs.Given.{LinesLie, Strikable};
+ghost use Rattle.striker.specs.Spread.{spreadAt, spreadOver};
 ghost use Rattle.writer.specs.LogText.{wroteBy};
 ghost use Rattle.writer.specs.Written.{Puts};
 ghost use Rattle.writer.specs.declared.Wrote.the-variants as Wrote;
@@ -190,5 +191,42 @@ pub fn strike(log: &[u8], struck: &[u8], out: &mut [u8]) -> Wrote
             heading: _,
         } => strike_read(log, struck, first, &ends[..records], out),
         ReadAnswer::Refused(r) => Wrote::Refused(r),
+    }
+}
+
+// # What is told of those that are left
+
+// The byte at a place of a list, and 0 behind its end.
+fn byte_or_none(list: &[u8], i: usize) -> u8
+    ensures { λ r. ⌜ r ≡ getD (now (list .entry)) i 0 ⌝ }
+{
+    if list.len() <= i {
+        return 0;
+    }
+    list[i]
+}
+
+// The one byte where a record is struck, and else the other.
+fn picked(struck: bool, stood: u8, told: u8) -> u8
+    ensures { λ r. ⌜ r ≡ cond struck stood told ⌝ }
+{
+    if struck {
+        return stood;
+    }
+    told
+}
+
+// The verdicts of judging what is left of a log, each put at the place that its record has in the log; at the places of struck records all stays as it was.
+pub fn spread(told: &[u8], struck: &[u8], among: &mut [u8])
+    ensures { λ r. ⌜ now (among .exit) ≡ spreadOver (marked (now (struck .entry))) (now (told .entry)) (now (among .entry)) ⌝ }
+{
+    let mut left = 0;
+    let mut i = 0;
+    while i < among.len() {
+        let gone = is_struck(byte_or_none(struck, i));
+        let next = byte_or_none(told, left);
+        among[i] = picked(gone, among[i], next);
+        left += one_kept(gone);
+        i += 1;
     }
 }
