@@ -16,10 +16,12 @@ pub mod links;
 pub mod mending;
 pub mod random;
 pub mod reading;
+pub mod screen;
 pub mod session;
 pub mod strikes;
 pub mod striking;
 pub mod values;
+pub mod verbs;
 pub mod writing;
 
 pub use fields::MODES;

@@ -5,6 +5,7 @@
 //! reference trials --count N --seed S      N trials as a binary stream
 //! reference calls --calls M --seed S       M calls in scripts, as another
 //! reference links --links K --seed S       K scripts of a link, as a third
+//! reference verbs FOLDER --count N --seed S    N trials of the desk's verbs, as files
 //! reference show --seed S --index I        the raw log of one trial
 //! reference strikes --seed S --index I     what is struck from it: the records, each with its byte
 //! reference script --seed S --index I      the calls of one script in words
@@ -112,21 +113,31 @@
 //! slices is as it was. The answer of `open`, which answers nothing, is three
 //! zeros. Before the first step byte i of the struct is what the lowest byte of 29
 //! times i is with the bits of 0xA5 turned.
+//!
+//! `verbs` prints a line for each trial: its index, its tag, and the words for
+//! `strike`, with a space between each two. In the folder, which has to be there,
+//! it leaves of each the log, `INDEX.edi`, and for each verb of `table`, `write`
+//! and `strike` all that has to be on standard output, `INDEX.VERB`, and on
+//! standard error, `INDEX.VERB.err`. `show` shows the log by its index.
 
 use reference::calls::{script, scripts, tags, Script, Slice, Step, Told, Wrote};
 use reference::generate::{Generator, Trial};
 use reference::judging::judge_log;
 use reference::links::{self, Links};
 use reference::reading::{KEYWORDS, LONGEST_LOG};
+use reference::screen::{self, Screen};
 use reference::session::Numbers;
 use reference::strikes::Strike;
 use reference::striking::{places, Striking};
+use reference::verbs::{self, Trials, Word};
 use reference::{desk, judge, mend, read, strike, view, write, Lent, Log, Mended, Refusal, Totals};
+use std::fs;
 use std::io::{self, BufWriter, Read, Write};
+use std::path::Path;
 use std::process::ExitCode;
 
 const USAGE: &str = "usage: reference desk | trials --count N --seed S | calls --calls M --seed S | links --links K --seed S | \
-    show|strikes|script|link --seed S --index I | tags";
+    verbs FOLDER --count N --seed S | show|strikes|script|link --seed S --index I | tags";
 
 fn main() -> ExitCode {
     let arguments: Vec<String> = std::env::args().skip(1).collect();
@@ -156,6 +167,12 @@ fn run(arguments: &[String]) -> Result<(), String> {
             let scripts = option(arguments, "--links")?;
             let scripts = u32::try_from(scripts).map_err(|_| "too many scripts".to_string())?;
             write_links(option(arguments, "--seed")?, scripts)
+        }
+        Some("verbs") => {
+            let folder = arguments.get(1).ok_or(USAGE.to_string())?;
+            let count = option(arguments, "--count")?;
+            let count = usize::try_from(count).map_err(|_| "too many trials".to_string())?;
+            write_verbs(Path::new(folder), option(arguments, "--seed")?, count)
         }
         Some("show") => show(option(arguments, "--seed")?, option(arguments, "--index")?),
         Some("strikes") => show_strikes(option(arguments, "--seed")?, option(arguments, "--index")?),
@@ -508,6 +525,30 @@ fn put_link_told(out: &mut impl Write, told: &links::Told) -> io::Result<()> {
     put_size(out, told.place)?;
     put_bytes(out, &told.verdicts)?;
     put_bytes(out, &told.worked)
+}
+
+fn write_verbs(folder: &Path, seed: u64, count: usize) -> io::Result<()> {
+    let mut out = BufWriter::new(io::stdout().lock());
+    for trial in Trials::new(seed).take(count) {
+        keep_verbs(folder, &trial)?;
+        let words: Vec<String> = trial.words.iter().map(Word::text).collect();
+        writeln!(out, "{} {} {}", trial.index, trial.tag, words.join(" "))?;
+    }
+    out.flush()
+}
+
+fn keep_verbs(folder: &Path, trial: &verbs::Trial) -> io::Result<()> {
+    let keep = |ending: &str, bytes: &[u8]| fs::write(folder.join(format!("{}.{ending}", trial.index)), bytes);
+    keep("edi", &trial.log)?;
+    for (verb, Screen { output, error }) in [
+        ("table", screen::table(&trial.log)),
+        ("write", screen::write(&trial.log)),
+        ("strike", screen::strike(&trial.log, &trial.named())),
+    ] {
+        keep(verb, &output)?;
+        keep(&format!("{verb}.err"), &error)?;
+    }
+    Ok(())
 }
 
 fn put_totals(out: &mut impl Write, totals: &Totals) -> io::Result<()> {
