@@ -3,16 +3,18 @@
 use Prim.Native.Nat.{ℕ, _+_, _≤_, _<_}
 use native.Mathlib.Nat.{zero-add, add-zero}
 use native.Mathlib.Omega.{arith}
-use mathlib.Core.Bool.{Bool, true, false, cond, not}
+use mathlib.Core.Bool.{Bool, true, cond}
 use mathlib.Core.List.{List, _++_}
 use mathlib.Core.Path.{_≡_, refl, sym, ap, _∙_}
+use lib.Dec.{eqb}
 use lib.ListN.{length, drop, getD, set, List·getD-eq-default}
 use lib.Seq.{drop-at, getD-drop}
+use Rattle.rules.proofs.Tests.{eq-of-test, fails, not-false}
 use Rattle.rules.specs.Striking.{Places, marked, placeAfter}
 use Rattle.rules.specs.StrikingDemands.{IsKept, toldAfter}
 use Rattle.writer.proofs.TextsLaws.{row-length, row-at, row-next}
 use Rattle.writer.specs.Written.{row, written}
-use Rattle.striker.specs.Spread.{spreadAt, spreadOver, SpreadIsToldAfter}
+use Rattle.striker.specs.Spread.{spreadAt, spreadOver, SpreadIsToldAfter, SpreadLeavesTheStruck, SpreadIsAsLong}
 
 pub beyond : (l : List ℕ) (i : ℕ) → length l ≤ i → 0 ≡ getD l i 0
 beyond l i h = sym (List·getD-eq-default l 0 h)
@@ -59,3 +61,17 @@ pub spread-is-told : SpreadIsToldAfter
 unfolding spreadOver
 spread-is-told marks told among j h k =
     row-at (spreadAt (marked marks) told among) (length among) j h ∙ kept-told marks told among j k
+
+-- A mark that does not keep its record strikes it.
+strikes : (marks : List ℕ) (j : ℕ) → (IsKept marks j → ⊥) → marked marks j ≡ true
+strikes marks j gone = not-false (fails (eqb (getD marks j 0) 0) (λ e. gone (eq-of-test (getD marks j 0) 0 e)))
+
+-- At that of a struck one stands what stood there.
+pub spread-leaves-the-struck : SpreadLeavesTheStruck
+unfolding spreadOver
+spread-leaves-the-struck marks told among j h gone =
+    row-at (spreadAt (marked marks) told among) (length among) j h ∙ ap (λ (b : Bool). cond b (getD among j 0) (toldAfter marks told j)) (strikes marks j gone)
+
+pub spread-is-as-long : SpreadIsAsLong
+unfolding spreadOver
+spread-is-as-long marks told among = row-length (spreadAt (marked marks) told among) (length among)

@@ -1,10 +1,9 @@
 -- What judging the result tells, at the places that the records have in the log.
 -- Assumes nothing.
 use Prim.Native.Nat.{ℕ, _<_}
-use mathlib.Core.Bool.{cond, not}
+use mathlib.Core.Bool.{cond}
 use mathlib.Core.List.{List}
 use mathlib.Core.Path.{_≡_}
-use lib.Dec.{T}
 use lib.ListN.{length, getD}
 use Rattle.rules.specs.Striking.{Places, marked, placeAfter}
 use Rattle.rules.specs.StrikingDemands.{IsKept, toldAfter}
@@ -24,3 +23,15 @@ SpreadIsToldAfter =
     j < length among →
     IsKept marks j →
     getD (spreadOver (marked marks) told among) j 0 ≡ toldAfter marks told j
+
+-- At the place of a struck record all stays as it was, and the slice stays as long as it was.
+abbrev pub SpreadLeavesTheStruck : Type 0
+SpreadLeavesTheStruck =
+    (marks told among : List ℕ) (j : ℕ) →
+    j < length among →
+    (IsKept marks j → ⊥) →
+    getD (spreadOver (marked marks) told among) j 0 ≡ getD among j 0
+
+abbrev pub SpreadIsAsLong : Type 0
+SpreadIsAsLong =
+    (marks told among : List ℕ) → length (spreadOver (marked marks) told among) ≡ length among
