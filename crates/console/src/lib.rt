@@ -1,6 +1,8 @@
 // What the desk's programs share: the log on standard input, the answer on standard output, and on standard error what cannot be done, and why a log
 // is refused.
 
+#![tactic(auto)]
+
 ghost use Rattle.std.specs.Prelude.{◌%◌, ◌≡◌};
 ghost use Rattle.io.specs.Counts.{IsPrefixLen};
 ghost use Rattle.console.specs.Words.{class_word, part_of};

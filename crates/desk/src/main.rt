@@ -1,6 +1,8 @@
 // The desk program: a log on standard input, its seventeen lines or its refusal on standard output. What is written is what the library laid, byte
 // for byte. Where the log cannot be read, or the answer not written, that is said on standard error.
 
+#![tactic(auto)]
+
 // A log has at most 65,535 bytes: one byte more tells that there are too many.
 fn main() {
     let mut log = [0u8; rules::LONGEST_LOG + 1];

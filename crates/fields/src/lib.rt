@@ -1,6 +1,8 @@
 // The readers of single fields. Each takes a line and the place where its field begins, and answers where the field ends and what it holds,
 // or that it is bad. Each goes over its field once, and copies nothing; a call of five characters alone is looked at again, for `ERROR`.
 
+#![tactic(auto)]
+
 ghost use Rattle.std.specs.Prelude.{◌+◌, ◌≤◌, ◌||◌, ◌≡◌, length, take, drop, get_or};
 ghost use Rattle.rules.specs.Fields.{call_character, exchange_character, square_letter, sub_letter, error_call};
 ghost use Rattle.rules.specs.Rules.{base};

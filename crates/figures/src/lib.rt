@@ -1,6 +1,8 @@
 // The readers of numbers, dates and times. Each takes a line and the place where its field begins, and answers where the field ends and what it
 // says, or that it is bad. A byte is looked at once, and once more only where a field begins or ends; none is copied.
 
+#![tactic(auto)]
+
 ghost use Rattle.std.specs.Prelude.{◌^◌, ◌≤◌, ◌<◌, true, [], ◌∷◌, ◌≡◌};
 ghost use Rattle.rules.specs.Arguments.{count, bonus, multiplier};
 ghost use Rattle.rules.specs.Fields.{leap, month_length, day_exists, full_year, short_date};

@@ -1,5 +1,7 @@
 // The header's lines: the table of the 36 keywords, the table of the fifteen bands, and the rule of each argument.
 
+#![tactic(auto)]
+
 ghost use Rattle.std.specs.Prelude.{◌<◌, cond, [], map, ◌≡◌, get_or};
 ghost use Rattle.rules.specs.Arguments.{meets, two_dates, a_call, empty_or_call, empty_or_calls, a_locator, an_exchange, a_band, count_and_multiplier, count_bonus_multiplier, claimed_points, claimed_bonus, claimed_total, best_contact};
 ghost use Rattle.rules.specs.Rules.{base, band_names};

@@ -1,6 +1,8 @@
 // The judge of an accepted log: the class and the marks of each record, and what they come to. It looks at no byte but through the places
 // that are noted of each record.
 
+#![tactic(auto)]
+
 ghost use Rattle.std.specs.Prelude.{◌+◌, ◌-◌, ◌*◌, ◌/◌, ◌%◌, ◌<◌, ◌≤◌, true, [], ◌∷◌, ◌≡◌, eqb, leb, drop, get_or, length, replicate, set, take};
 ghost use Rattle.rules.specs.Arguments.{among};
 ghost use Rattle.rules.specs.Fields.{empty_or, error_call, locator, new_mark};

@@ -1,6 +1,8 @@
 // The packet link: a log comes in pieces, its lines are read as they come, and its records are judged by what is kept of those before them. The link
 // is a few numbers and the unfinished line; verdicts and what is worked lie in slices that are lent to each call.
 
+#![tactic(auto)]
+
 ghost use Rattle.std.specs.Prelude.{◌+◌, ◌-◌, ◌≤◌, ◌<◌, min, true, false, cond, not, [], ◌∷◌, ◌++◌, ◌≡◌, eqb, drop, length, take};
 ghost use Rattle.rules.specs.Rules.{base};
 ghost use Rattle.rules.specs.Reading.{at_rest, refusal, step};

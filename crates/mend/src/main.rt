@@ -2,6 +2,8 @@
 // to it. A log that is refused even so has its refusal there, and nothing of it is written. Where the log cannot be read, or the mended one not
 // written, that is said there too.
 
+#![tactic(auto)]
+
 ghost use Rattle.std.specs.Prelude.{◌≤◌, length};
 
 use console::{say, say_number, say_refusal};

@@ -2,6 +2,8 @@
 // copy of the log is made: a mended line is a part of the log without its end, so that the reader takes it where it lies, and the count line
 // alone is made anew. The lines are counted first, then read and measured, and then written.
 
+#![tactic(auto)]
+
 ghost use Rattle.std.specs.Prelude.{◌+◌, ◌-◌, ◌≤◌, ◌<◌, length, cond, ◌++◌, map, ◌≡◌, ltb};
 ghost use Rattle.reader.specs.Contact.{between};
 ghost use Rattle.rules.specs.Answers.{over};

@@ -1,6 +1,8 @@
 // The C face: the functions of include/sumpquince.h, which says in words what each of them answers. A slice is a pointer and a length there, and
 // a struct is handed back by value. Nothing is decided here: the answers of the crates below are put in C's shapes.
 
+#![tactic(auto)]
+
 ghost use Rattle.std.specs.Prelude.{◌≡◌, length};
 ghost use Rattle.rules.specs.Rules.{base};
 ghost use Rattle.rules.specs.Reading.{read, refusal};

@@ -1,5 +1,7 @@
 // Where the lines of a log lie: views, and what it declares.
 
+#![tactic(auto)]
+
 ghost use Rattle.std.specs.Prelude.{◌≡◌, ◌+◌, ◌≤◌, min, drop, length};
 ghost use Rattle.rules.specs.Text.{allowed, begins, span};
 ghost use Rattle.rules.specs.Rules.{base};

@@ -1,5 +1,7 @@
 // The reader of logs: lines, the one record reader, what is due at each line, and the answers that the floors above ask for.
 
+#![tactic(auto)]
+
 ghost use Rattle.std.specs.Prelude.{◌≡◌, true, cond, [], ◌+◌, ◌≤◌, ◌<◌, drop, length, set};
 ghost use Rattle.rules.specs.Text.{allowed, begins, same, span};
 ghost use Rattle.rules.specs.Rules.{base};

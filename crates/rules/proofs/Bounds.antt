@@ -86,12 +86,16 @@ unfolding each
 each_at [] [] n t = tt
 each_at (rule ∷ rules) (u ∷ ts) zero t = first (rule u) (each rules ts) t
 each_at (rule ∷ rules) (u ∷ ts) (suc n) t = each_at rules ts n (second (rule u) (each rules ts) t)
+each_at [] (u ∷ ts) n t = elim t [ ]
+each_at (rule ∷ rules) [] n t = elim t [ ]
 
 module _ (R : Rules) where
   argument_ruled : (es : List Entry) (ts : List Text) (keyword : Text) →
       T (argument_rules R es ts) →
       T (meets R (rule_in es keyword) (argument_in es ts keyword))
   unfolding argument_rules rule_in argument_in meets
+  argument_ruled [] (u ∷ ts) keyword t = elim t [ ]
+  argument_ruled (e ∷ es) [] keyword t = elim t [ ]
   argument_ruled [] [] keyword t = tt
   argument_ruled (e ∷ es) (u ∷ ts) keyword t =
       by (same e.keyword keyword)

@@ -58,6 +58,18 @@ is→equal Credited Credited t = refl
 is→equal Void Void t = refl
 is→equal Duplicate Duplicate t = refl
 is→equal Error Error t = refl
+is→equal Credited Void t = elim t [ ]
+is→equal Credited Duplicate t = elim t [ ]
+is→equal Credited Error t = elim t [ ]
+is→equal Void Credited t = elim t [ ]
+is→equal Void Duplicate t = elim t [ ]
+is→equal Void Error t = elim t [ ]
+is→equal Duplicate Credited t = elim t [ ]
+is→equal Duplicate Void t = elim t [ ]
+is→equal Duplicate Error t = elim t [ ]
+is→equal Error Credited t = elim t [ ]
+is→equal Error Void t = elim t [ ]
+is→equal Error Duplicate t = elim t [ ]
 
 pub is_self : (a : Class) → T (is a a)
 unfolding is class_number

@@ -90,7 +90,7 @@ module _ (R : Rules) (s : Text) {A : Type 0} (c : Call A) where
     λ e. by e (read R s) refl,
     λ p.
         let (log, w, h) = p in
-        ap (λ (r : Refusal). r.number) (ap (λ (a : Reading). c.told (c.answer a)) ((accepted_when_written R s log).1 w) ∙ c.ranges log h) ∙ unfold no_refusal in refl,
+        ap (λ (r : Refusal). r.number) (ap (λ (a : Reading). c.told (c.answer a)) ((accepted_when_written R s log).1 w) ∙ c.fits log h) ∙ unfold no_refusal in refl,
   )
     where
       own : (log : Log) → (c.told (c.answer (accepted log))).number ≡ 0 → c.Fits log ⊎ c.Fails log → c.Fits log
@@ -110,7 +110,7 @@ module _ (R : Rules) (s : Text) {A : Type 0} (c : Call A) where
   rightly_placed = by (read R s) refl
     where
       own : (log : Log) → c.Fits log ⊎ c.Fails log → LineAndField (c.told (c.answer (accepted log)))
-      own log (inl h) = rw (c.ranges log h) (unfold no_refusal in no_place 0 (inl (omega arith)))
+      own log (inl h) = rw (c.fits log h) (unfold no_refusal in no_place 0 (inl (omega arith)))
       own log (inr h) = rw (c.fails log h, c.tells (refusal c.number 0 0)) (no_place c.number (inr c.late))
 
       by : (a : Reading) → read R s ≡ a → LineAndField (c.told (c.answer (read R s)))

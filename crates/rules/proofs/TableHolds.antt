@@ -5,7 +5,7 @@ use Prim.Native.Nat.{ℕ}
 use mathlib.Core.Path.{◌≡◌, refl, sym, ap, ◌∙◌}
 use mathlib.Core.Logic.{⊎_elim}
 use mathlib.Core.List.Memᴰ
-use mathlib.Core.List.{List, ◌∷◌, ◌++◌, map, Memᴰ, head-eq_of_cons-eq, tail-eq_of_cons-eq}
+use mathlib.Core.List.{List, [], ◌∷◌, ◌++◌, map, Memᴰ, head-eq_of_cons-eq, tail-eq_of_cons-eq}
 use Rattle.rules.specs.Cases.{Case, answer}
 use Rattle.rules.specs.TableArguments.{line_cases, argument_cases, argument_character_cases, band_cases, keyword_cases, due_cases, spelling_cases}
 use Rattle.rules.specs.TableFields.{field_cases, field_character_cases, calendar_cases}
@@ -30,6 +30,7 @@ computed : (cs : List Case) → answers cs ≡ says cs → Holds cs
 computed (d ∷ cs) e c (Memᴰ.head p) =
     ap (λ (x : Case). answer x.asked) p ∙ head-eq_of_cons-eq e ∙ sym (ap (λ (x : Case). x.says) p)
 computed (d ∷ cs) e c (Memᴰ.tail m) = computed cs (tail-eq_of_cons-eq e) c m
+computed [] e c x'' = elim x'' [ ]
 
 infixl 20 ◌also◌
 ◌also◌ : {a b : List Case} → Holds a → Holds b → Holds (a ++ b)

@@ -1,5 +1,7 @@
 // The vocabulary that the crates share: what is answered, and in which words. What each word means stands in specs/.
 
+#![tactic(auto)]
+
 ghost use Rattle.std.specs.Prelude.{◌≡◌};
 ghost use Rattle.rules.specs.Rules.{base};
 

@@ -1,6 +1,8 @@
 // A session: records are taken line by line and given back, and after each the totals are those of judging the records now present. The session is
 // a few numbers; what it keeps of each record lies in slices that are lent to each call.
 
+#![tactic(auto)]
+
 ghost use Rattle.std.specs.Prelude.{◌+◌, ◌-◌, ◌*◌, ◌/◌, ◌<◌, ◌≤◌, min, true, cond, not, ◌&&◌, ◌≡◌, eqb, drop, get_or, length, replicate, set, take};
 ghost use Rattle.rules.specs.Judging.{verdict_number};
 ghost use Rattle.rules.specs.Rules.{base};

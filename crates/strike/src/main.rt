@@ -2,6 +2,8 @@
 // on standard output, and a line for each of them on standard error: what it was taken for, and what striking it changed. A log that is refused has its
 // refusal there, and nothing of it is written; and so it is with what cannot be done. All is known before the first byte is written.
 
+#![tactic(auto)]
+
 use console::part;
 use judge::Judged;
 use libc::STDOUT_FILENO;

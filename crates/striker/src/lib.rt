@@ -1,6 +1,8 @@
 // Striking: the log without the records that are marked, and the count line of those that are left. Every other byte is the log's own, spelling, claims
 // and marks too: what they are worth then is for the judge to say.
 
+#![tactic(auto)]
+
 ghost use Rattle.std.specs.Prelude.{◌+◌, ◌-◌, ◌≤◌, length, get_or, cond, ◌≡◌};
 ghost use Rattle.rules.specs.Answers.{bytes_of_writing, over};
 ghost use Rattle.rules.specs.Reading.{refusal};

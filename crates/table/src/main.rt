@@ -2,6 +2,8 @@
 // stand in it, its class, and what is new by it. A log that is refused has its refusal on standard error, and there is no table of it. Where the log
 // cannot be read, or the table not written, that is said there too.
 
+#![tactic(auto)]
+
 use console::part;
 use judge::Judged;
 use reader::ReadAnswer;

@@ -2,6 +2,8 @@
 // second tries, contacts in all modes, and records struck. What has to come out stands in the file stdout. The comments below say where each answer comes from;
 // tests/reference holds every one of them to the second judge (tests/trials.rs there).
 
+#![tactic(auto)]
+
 ghost use Rattle.std.specs.Prelude.{◌≤◌, length};
 ghost use Rattle.io.specs.Counts.{IsPrefixLen};
 

@@ -1,6 +1,8 @@
 // The viewing program: a keyword as its argument, by its name in any letter case or by its number, and a log on standard input. The keyword's argument
 // and a line's end are put on standard output. A refusal, and what cannot be done, is said on standard error, and then nothing is shown of the log.
 
+#![tactic(auto)]
+
 use libc::STDOUT_FILENO;
 use places::ViewRead;
 use words::Named;

@@ -1,5 +1,7 @@
 // What a secretary's words at the desk name: records of a log, to be marked in a slice, and the keywords of its header.
 
+#![tactic(auto)]
+
 ghost use Rattle.std.specs.Prelude.{◌≤◌, ◌≡◌, length, drop};
 ghost use Rattle.rules.specs.Arguments.{entries};
 ghost use Rattle.rules.specs.Rules.{base};

@@ -2,6 +2,8 @@
 // is refused has its refusal on standard error, and nothing of it is written. Where the log cannot be read, or the other not written, that is said
 // there too.
 
+#![tactic(auto)]
+
 use writer::Wrote;
 
 fn write(log: &[u8]) {

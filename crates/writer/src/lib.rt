@@ -1,6 +1,8 @@
 // Writing a log back: texts and numbers laid over a lent slice, one behind the other. The places of all that changes are known; the result is measured
 // by them first, and the log is walked over only to copy it. What the desk program shows of a log is laid in the same way.
 
+#![tactic(auto)]
+
 ghost use Rattle.std.specs.Prelude.{◌+◌, ◌-◌, ◌*◌, ◌<◌, ◌≤◌, leb, length, cond, ◌&&◌, [], ◌∷◌, ◌++◌, ◌≡◌};
 ghost use Rattle.reader.specs.Contact.{between};
 ghost use Rattle.rules.specs.Answers.{over};

@@ -7,14 +7,14 @@ use Rattle.fields.proofs.call_or_empty.Tie as tie
 ends_requires : tie.Need-ends-requires
 ends_requires c κs = tt
 
-returns : tie.Need-returns
-returns c = no_call _ _ (sym c.before.ends.ensures ∙ c.if1.true)
+returns : tie.Need-returns-then-ends
+returns c = no_call _ _ (sym c.before.ends.ensures ∙ c.if-ends.true)
 
 call_requires : tie.Need-call-requires
 call_requires c κs = tt
 
-returns_2 : tie.Need-returns-2
-returns_2 c = c.call.ensures ∙ some_call _ _ (sym c.before.before.ends.ensures ∙ c.before.if1.false)
+returns_2 : tie.Need-returns
+returns_2 c = c.call.ensures ∙ some_call _ _ (sym c.before.before.ends.ensures ∙ c.before.if-ends.false)
 
 pub call_or_empty_spec : {M : Type 1} → statement M
 call_or_empty_spec = tie.close (tie.spec ends_requires returns call_requires returns_2)

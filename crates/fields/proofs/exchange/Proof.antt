@@ -8,30 +8,30 @@ use Rattle.fields.proofs.RunLaws.{Run, run, no_run, exchange_kind, exchange_long
 use Rattle.fields.proofs.exchange.Statement.{statement}
 use Rattle.fields.proofs.exchange.Tie as tie
 
-exchange_run_requires : tie.Need-exchange_run-requires
+exchange_run_requires : tie.Need-exchange_run-end-requires
 exchange_run_requires c κs = tt
 
 ends_requires : tie.Need-ends-requires
 ends_requires c κs = tt
 
-returns : tie.Need-returns
+returns : tie.Need-returns-then-not-ends
 returns c =
     exchange_kind base _ _
-    (no_run exchange_character refl _ _ _ c.before.before.exchange_run.ensures c.before.ends.ensures c.if1.true)
+    (no_run exchange_character refl _ _ _ c.before.before.exchange_run-end.ensures c.before.ends.ensures c.if-not-ends.true-raw)
 
-upto : (c : tie.Else1) → Run exchange_character c.before.before.before.before.args.s.now c.before.before.before.before.args.at c.before.before.exchange_run.result
-upto c = run exchange_character refl _ _ _ c.before.before.exchange_run.ensures c.before.ends.ensures c.if1.false
+upto : (c : tie.Else-not-ends) → Run exchange_character c.before.before.before.before.args.s.now c.before.before.before.before.args.at c.before.before.exchange_run-end.result
+upto c = run exchange_character refl _ _ _ c.before.before.exchange_run-end.ensures c.before.ends.ensures c.if-not-ends.false-raw
 
 longest_exchange_requires : tie.Need-longest_exchange-requires
 longest_exchange_requires c κs = tt
 
-sub_if2 : tie.Need-overflow-sub-if2
+sub_if2 : tie.Need-overflow_sub-end
 sub_if2 c = search rules
 
-returns_2 : tie.Need-returns-2
+returns_2 : tie.Need-returns-then-longest_exchange-end
 returns_2 c = exchange_long base (upto c.before.before) c.before.longest_exchange.ensures (omega arith)
 
-returns_3 : tie.Need-returns-3
+returns_3 : tie.Need-returns
 returns_3 c = exchange_read base (upto c.before.before) c.before.longest_exchange.ensures (omega arith)
 
 pub exchange_spec : {M : Type 1} → statement M

@@ -3,11 +3,11 @@ use Rattle.fields.proofs.FieldLaws.{range_below, range_from}
 use Rattle.fields.proofs.is_square_letter.Statement.{statement}
 use Rattle.fields.proofs.is_square_letter.Tie as tie
 
-returns : tie.Need-returns
-returns c = range_below 65 82 _ c.if1.true
+returns : tie.Need-returns-then-b-lt65
+returns c = range_below 65 82 _ c.if-b-lt65.true
 
-returns_2 : tie.Need-returns-2
-returns_2 c = range_from 65 82 _ c.if1.false
+returns_2 : tie.Need-returns
+returns_2 c = range_from 65 82 _ c.if-b-lt65.false
 
 pub is_square_letter_spec : {M : Type 1} → statement M
 is_square_letter_spec = tie.close (tie.spec returns returns_2)

@@ -9,25 +9,25 @@ use Rattle.fields.proofs.locator.Statement.{statement}
 use Rattle.fields.proofs.locator.Tie as tie
 
 -- The function's start, from each of its places.
-abbrev start1 : tie.Else1 → tie.Start
+abbrev start1 : tie.Else-not-is_square_letter → tie.Start
 start1 c = c.before.before.before.before
 
-abbrev start2 : tie.Else2 → tie.Start
+abbrev start2 : tie.Else-not-is_square_letter-2 → tie.Start
 start2 c = start1 c.before.before.before
 
-abbrev start3 : tie.Else3 → tie.Start
+abbrev start3 : tie.Else-not-is_digit → tie.Start
 start3 c = start2 c.before.before.before
 
-abbrev start4 : tie.Else4 → tie.Start
+abbrev start4 : tie.Else-not-is_digit-2 → tie.Start
 start4 c = start3 c.before.before.before
 
-abbrev start5 : tie.Else5 → tie.Start
+abbrev start5 : tie.Else-fifth-eq59 → tie.Start
 start5 c = start4 c.before.before
 
-abbrev start6 : tie.Else6 → tie.Start
+abbrev start6 : tie.Else-not-is_sub_letter → tie.Start
 start6 c = start5 c.before.before
 
-abbrev start7 : tie.Else7 → tie.Start
+abbrev start7 : tie.Else-not-is_sub_letter-2 → tie.Start
 start7 c = start6 c.before.before.before
 
 -- What is left to see behind so many characters of the field.
@@ -40,13 +40,13 @@ byte_at_requires c κs = tt
 is_square_letter_requires : tie.Need-is_square_letter-requires
 is_square_letter_requires c κs = tt
 
-returns : tie.Need-returns
-returns c = locator_bad _ _ (stop square_letter refl (goes _ _ locator_is_lem) c.before.before.byte_at.ensures c.before.is_square_letter.ensures c.if1.true)
+returns : tie.Need-returns-then-not-is_square_letter
+returns c = locator_bad _ _ (stop square_letter refl (goes _ _ locator_is_lem) c.before.before.byte_at.ensures c.before.is_square_letter.ensures c.if-not-is_square_letter.true-raw)
 
-behind1 : (c : tie.Else1) → Behind (start1 c) (one square_letter locator_2) 1
-behind1 c = step square_letter refl (goes _ _ locator_is_lem) c.before.before.byte_at.ensures c.before.is_square_letter.ensures _ refl c.if1.false
+behind1 : (c : tie.Else-not-is_square_letter) → Behind (start1 c) (one square_letter locator_2) 1
+behind1 c = step square_letter refl (goes _ _ locator_is_lem) c.before.before.byte_at.ensures c.before.is_square_letter.ensures _ refl c.if-not-is_square_letter.false-raw
 
-add_byte_at : tie.Need-overflow-add-byte_at
+add_byte_at : tie.Need-overflow_add-at
 add_byte_at c = omega (arith, (behind1 c).within (omega arith))
 
 byte_at_requires_2 : tie.Need-byte_at-requires-2
@@ -55,13 +55,13 @@ byte_at_requires_2 c κs = tt
 is_square_letter_requires_2 : tie.Need-is_square_letter-requires-2
 is_square_letter_requires_2 c κs = tt
 
-returns_2 : tie.Need-returns-2
-returns_2 c = locator_bad _ _ (stop square_letter refl (behind1 c.before.before.before) c.before.before.byte-at2.ensures c.before.is-square-letter2.ensures c.if2.true)
+returns_2 : tie.Need-returns-then-not-is_square_letter-2
+returns_2 c = locator_bad _ _ (stop square_letter refl (behind1 c.before.before.before) c.before.before.byte_at-2.ensures c.before.is_square_letter-2.ensures c.if-not-is_square_letter-2.true-raw)
 
-behind2 : (c : tie.Else2) → Behind (start2 c) locator_2 2
-behind2 c = step square_letter refl (behind1 c.before.before.before) c.before.before.byte-at2.ensures c.before.is-square-letter2.ensures _ (omega arith) c.if2.false
+behind2 : (c : tie.Else-not-is_square_letter-2) → Behind (start2 c) locator_2 2
+behind2 c = step square_letter refl (behind1 c.before.before.before) c.before.before.byte_at-2.ensures c.before.is_square_letter-2.ensures _ (omega arith) c.if-not-is_square_letter-2.false-raw
 
-add_byte_at_2 : tie.Need-overflow-add-byte_at-2
+add_byte_at_2 : tie.Need-overflow_add-at-2
 add_byte_at_2 c = omega (arith, (behind2 c).within (omega arith))
 
 byte_at_requires_3 : tie.Need-byte_at-requires-3
@@ -70,13 +70,13 @@ byte_at_requires_3 c κs = tt
 is_digit_requires : tie.Need-is_digit-requires
 is_digit_requires c κs = tt
 
-returns_3 : tie.Need-returns-3
-returns_3 c = locator_bad _ _ (stop digit refl (behind2 c.before.before.before) c.before.before.byte-at3.ensures c.before.is_digit.ensures c.if3.true)
+returns_3 : tie.Need-returns-then-not-is_digit
+returns_3 c = locator_bad _ _ (stop digit refl (behind2 c.before.before.before) c.before.before.byte_at-3.ensures c.before.is_digit.ensures c.if-not-is_digit.true-raw)
 
-behind3 : (c : tie.Else3) → Behind (start3 c) (one digit locator_4) 3
-behind3 c = step digit refl (behind2 c.before.before.before) c.before.before.byte-at3.ensures c.before.is_digit.ensures _ (omega arith) c.if3.false
+behind3 : (c : tie.Else-not-is_digit) → Behind (start3 c) (one digit locator_4) 3
+behind3 c = step digit refl (behind2 c.before.before.before) c.before.before.byte_at-3.ensures c.before.is_digit.ensures _ (omega arith) c.if-not-is_digit.false-raw
 
-add_byte_at_3 : tie.Need-overflow-add-byte_at-3
+add_byte_at_3 : tie.Need-overflow_add-at-3
 add_byte_at_3 c = omega (arith, (behind3 c).within (omega arith))
 
 byte_at_requires_4 : tie.Need-byte_at-requires-4
@@ -85,59 +85,59 @@ byte_at_requires_4 c κs = tt
 is_digit_requires_2 : tie.Need-is_digit-requires-2
 is_digit_requires_2 c κs = tt
 
-returns_4 : tie.Need-returns-4
-returns_4 c = locator_bad _ _ (stop digit refl (behind3 c.before.before.before) c.before.before.byte-at4.ensures c.before.is-digit2.ensures c.if4.true)
+returns_4 : tie.Need-returns-then-not-is_digit-2
+returns_4 c = locator_bad _ _ (stop digit refl (behind3 c.before.before.before) c.before.before.byte_at-4.ensures c.before.is_digit-2.ensures c.if-not-is_digit-2.true-raw)
 
-behind4 : (c : tie.Else4) → Behind (start4 c) locator_4 4
-behind4 c = step digit refl (behind3 c.before.before.before) c.before.before.byte-at4.ensures c.before.is-digit2.ensures _ (omega arith) c.if4.false
+behind4 : (c : tie.Else-not-is_digit-2) → Behind (start4 c) locator_4 4
+behind4 c = step digit refl (behind3 c.before.before.before) c.before.before.byte_at-4.ensures c.before.is_digit-2.ensures _ (omega arith) c.if-not-is_digit-2.false-raw
 
-add_four : tie.Need-overflow-add-four
+add_four : tie.Need-overflow_add-four
 add_four c = omega (arith, (behind4 c).within (omega arith))
 
-byte_at_requires_5 : tie.Need-byte_at-requires-5
+byte_at_requires_5 : tie.Need-byte_at-fifth-requires
 byte_at_requires_5 c κs = tt
 
-returns_5 : tie.Need-returns-5
-returns_5 c = locator_kept _ _ _ (may_end c.before.byte-at5.ensures (behind4 c.before.before) c.if5.true)
+returns_5 : tie.Need-returns-then-fifth-eq59
+returns_5 c = locator_kept _ _ _ (may_end c.before.byte_at-fifth.ensures (behind4 c.before.before) c.if-fifth-eq59.true)
 
-past4 : (c : tie.Else5) → Behind (start5 c) (one sub_letter (one sub_letter ended)) 4
-past4 c = may_go_on c.before.byte-at5.ensures (behind4 c.before.before) c.if5.false
+past4 : (c : tie.Else-fifth-eq59) → Behind (start5 c) (one sub_letter (one sub_letter ended)) 4
+past4 c = may_go_on c.before.byte_at-fifth.ensures (behind4 c.before.before) c.if-fifth-eq59.false
 
 is_sub_letter_requires : tie.Need-is_sub_letter-requires
 is_sub_letter_requires c κs = tt
 
-returns_6 : tie.Need-returns-6
-returns_6 c = locator_bad _ _ (stop sub_letter refl (past4 c.before.before) c.before.before.before.byte-at5.ensures c.before.is_sub_letter.ensures c.if6.true)
+returns_6 : tie.Need-returns-then-not-is_sub_letter
+returns_6 c = locator_bad _ _ (stop sub_letter refl (past4 c.before.before) c.before.before.before.byte_at-fifth.ensures c.before.is_sub_letter.ensures c.if-not-is_sub_letter.true-raw)
 
-behind5 : (c : tie.Else6) → Behind (start6 c) (one sub_letter ended) 5
-behind5 c = step sub_letter refl (past4 c.before.before) c.before.before.before.byte-at5.ensures c.before.is_sub_letter.ensures _ (omega arith) c.if6.false
+behind5 : (c : tie.Else-not-is_sub_letter) → Behind (start6 c) (one sub_letter ended) 5
+behind5 c = step sub_letter refl (past4 c.before.before) c.before.before.before.byte_at-fifth.ensures c.before.is_sub_letter.ensures _ (omega arith) c.if-not-is_sub_letter.false-raw
 
-add_byte_at_4 : tie.Need-overflow-add-byte_at-4
+add_byte_at_4 : tie.Need-overflow_add-at-4
 add_byte_at_4 c = omega (arith, (behind5 c).within (omega arith))
 
-byte_at_requires_6 : tie.Need-byte_at-requires-6
+byte_at_requires_6 : tie.Need-byte_at-requires-5
 byte_at_requires_6 c κs = tt
 
 is_sub_letter_requires_2 : tie.Need-is_sub_letter-requires-2
 is_sub_letter_requires_2 c κs = tt
 
-returns_7 : tie.Need-returns-7
-returns_7 c = locator_bad _ _ (stop sub_letter refl (behind5 c.before.before.before) c.before.before.byte-at6.ensures c.before.is-sub-letter2.ensures c.if7.true)
+returns_7 : tie.Need-returns-then-not-is_sub_letter-2
+returns_7 c = locator_bad _ _ (stop sub_letter refl (behind5 c.before.before.before) c.before.before.byte_at-5.ensures c.before.is_sub_letter-2.ensures c.if-not-is_sub_letter-2.true-raw)
 
-behind6 : (c : tie.Else7) → Behind (start7 c) ended 6
-behind6 c = step sub_letter refl (behind5 c.before.before.before) c.before.before.byte-at6.ensures c.before.is-sub-letter2.ensures _ (omega arith) c.if7.false
+behind6 : (c : tie.Else-not-is_sub_letter-2) → Behind (start7 c) ended 6
+behind6 c = step sub_letter refl (behind5 c.before.before.before) c.before.before.byte_at-5.ensures c.before.is_sub_letter-2.ensures _ (omega arith) c.if-not-is_sub_letter-2.false-raw
 
-add_six : tie.Need-overflow-add-six
+add_six : tie.Need-overflow_add-six
 add_six c = omega (arith, (behind6 c).within (omega arith))
 
 ends_requires : tie.Need-ends-requires
 ends_requires c κs = tt
 
-returns_8 : tie.Need-returns-8
-returns_8 c = locator_bad _ _ (too_long_lem c.before.ends.ensures (behind6 c.before.before) c.if8.true)
+returns_8 : tie.Need-returns-then-not-ends
+returns_8 c = locator_bad _ _ (too_long_lem c.before.ends.ensures (behind6 c.before.before) c.if-not-ends.true-raw)
 
-returns_9 : tie.Need-returns-9
-returns_9 c = locator_kept _ _ _ (whole c.before.ends.ensures (behind6 c.before.before) c.if8.false)
+returns_9 : tie.Need-returns
+returns_9 c = locator_kept _ _ _ (whole c.before.ends.ensures (behind6 c.before.before) c.if-not-ends.false-raw)
 
 pub locator_spec : {M : Type 1} → statement M
 locator_spec =

@@ -7,14 +7,14 @@ use Rattle.fields.proofs.locator_or_empty.Tie as tie
 ends_requires : tie.Need-ends-requires
 ends_requires c κs = tt
 
-returns : tie.Need-returns
-returns c = no_locator _ _ (sym c.before.ends.ensures ∙ c.if1.true)
+returns : tie.Need-returns-then-ends
+returns c = no_locator _ _ (sym c.before.ends.ensures ∙ c.if-ends.true)
 
 locator_requires : tie.Need-locator-requires
 locator_requires c κs = tt
 
-returns_2 : tie.Need-returns-2
-returns_2 c = c.locator.ensures ∙ some_locator _ _ (sym c.before.before.ends.ensures ∙ c.before.if1.false)
+returns_2 : tie.Need-returns
+returns_2 c = c.locator.ensures ∙ some_locator _ _ (sym c.before.before.ends.ensures ∙ c.before.if-ends.false)
 
 pub locator_or_empty_spec : {M : Type 1} → statement M
 locator_or_empty_spec = tie.close (tie.spec ends_requires returns locator_requires returns_2)

@@ -12,35 +12,35 @@ use Rattle.fields.proofs.mode.Tie as tie
 abbrev Behind : tie.Start → Shape → ℕ → Type 0
 Behind c p n = Goes mode p c.args.s.now c.args.at (c.args.at + n)
 
-byte_at_requires : tie.Need-byte_at-requires
+byte_at_requires : tie.Need-byte_at-first-requires
 byte_at_requires c κs = tt
 
-returns : tie.Need-returns
-returns c = mode_kept _ _ _ (may_end c.before.byte_at.ensures (goes _ _ mode_is_lem) c.if1.true)
+returns : tie.Need-returns-then-first-eq59
+returns c = mode_kept _ _ _ (may_end c.before.byte_at-first.ensures (goes _ _ mode_is_lem) c.if-first-eq59.true)
 
-past0 : (c : tie.Else1) → Goes mode (one digit ended) c.before.before.before.args.s.now c.before.before.before.args.at c.before.before.before.args.at
-past0 c = may_go_on c.before.byte_at.ensures (goes _ _ mode_is_lem) c.if1.false
+past0 : (c : tie.Else-first-eq59) → Goes mode (one digit ended) c.before.before.before.args.s.now c.before.before.before.args.at c.before.before.before.args.at
+past0 c = may_go_on c.before.byte_at-first.ensures (goes _ _ mode_is_lem) c.if-first-eq59.false
 
 is_digit_requires : tie.Need-is_digit-requires
 is_digit_requires c κs = tt
 
-returns_2 : tie.Need-returns-2
-returns_2 c = mode_bad _ _ (stop digit refl (past0 c.before.before) c.before.before.before.byte_at.ensures c.before.is_digit.ensures c.if2.true)
+returns_2 : tie.Need-returns-then-not-is_digit
+returns_2 c = mode_bad _ _ (stop digit refl (past0 c.before.before) c.before.before.before.byte_at-first.ensures c.before.is_digit.ensures c.if-not-is_digit.true-raw)
 
-behind1 : (c : tie.Else2) → Behind c.before.before.before.before.before ended 1
-behind1 c = step digit refl (past0 c.before.before) c.before.before.before.byte_at.ensures c.before.is_digit.ensures _ refl c.if2.false
+behind1 : (c : tie.Else-not-is_digit) → Behind c.before.before.before.before.before ended 1
+behind1 c = step digit refl (past0 c.before.before) c.before.before.before.byte_at-first.ensures c.before.is_digit.ensures _ refl c.if-not-is_digit.false-raw
 
-add_end : tie.Need-overflow-add-end
+add_end : tie.Need-overflow_add-end
 add_end c = omega (arith, (behind1 c).within (omega arith))
 
 ends_requires : tie.Need-ends-requires
 ends_requires c κs = tt
 
-returns_3 : tie.Need-returns-3
-returns_3 c = mode_bad _ _ (too_long_lem c.before.ends.ensures (behind1 c.before.before) c.if3.true)
+returns_3 : tie.Need-returns-then-not-ends
+returns_3 c = mode_bad _ _ (too_long_lem c.before.ends.ensures (behind1 c.before.before) c.if-not-ends.true-raw)
 
-returns_4 : tie.Need-returns-4
-returns_4 c = mode_kept _ _ _ (whole c.before.ends.ensures (behind1 c.before.before) c.if3.false)
+returns_4 : tie.Need-returns
+returns_4 c = mode_kept _ _ _ (whole c.before.ends.ensures (behind1 c.before.before) c.if-not-ends.false-raw)
 
 pub mode_spec : {M : Type 1} → statement M
 mode_spec =

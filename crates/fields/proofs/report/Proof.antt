@@ -9,90 +9,90 @@ use Rattle.fields.proofs.report.Statement.{statement}
 use Rattle.fields.proofs.report.Tie as tie
 
 -- The function's start, from each of its places.
-abbrev start1 : tie.Else1 → tie.Start
+abbrev start1 : tie.Else-first-eq59 → tie.Start
 start1 c = c.before.before.before
 
-abbrev start2 : tie.Else2 → tie.Start
+abbrev start2 : tie.Else-not-is_digit → tie.Start
 start2 c = start1 c.before.before
 
-abbrev start3 : tie.Else3 → tie.Start
+abbrev start3 : tie.Else-not-is_digit-2 → tie.Start
 start3 c = start2 c.before.before.before
 
-abbrev start4 : tie.Else4 → tie.Start
+abbrev start4 : tie.Else-third-eq59 → tie.Start
 start4 c = start3 c.before.before
 
-abbrev start5 : tie.Else5 → tie.Start
+abbrev start5 : tie.Else-not-is_report_character → tie.Start
 start5 c = start4 c.before.before
 
 -- What is left to see behind so many characters of the field.
 abbrev Behind : tie.Start → Shape → ℕ → Type 0
 Behind c p n = Goes report p c.args.s.now c.args.at (c.args.at + n)
 
-byte_at_requires : tie.Need-byte_at-requires
+byte_at_requires : tie.Need-byte_at-first-requires
 byte_at_requires c κs = tt
 
-returns : tie.Need-returns
-returns c = report_kept _ _ _ (may_end c.before.byte_at.ensures (goes _ _ report_is) c.if1.true)
+returns : tie.Need-returns-then-first-eq59
+returns c = report_kept _ _ _ (may_end c.before.byte_at-first.ensures (goes _ _ report_is) c.if-first-eq59.true)
 
-past0 : (c : tie.Else1) → Goes report (one digit (one digit report_2)) (start1 c).args.s.now (start1 c).args.at (start1 c).args.at
-past0 c = may_go_on c.before.byte_at.ensures (goes _ _ report_is) c.if1.false
+past0 : (c : tie.Else-first-eq59) → Goes report (one digit (one digit report_2)) (start1 c).args.s.now (start1 c).args.at (start1 c).args.at
+past0 c = may_go_on c.before.byte_at-first.ensures (goes _ _ report_is) c.if-first-eq59.false
 
 is_digit_requires : tie.Need-is_digit-requires
 is_digit_requires c κs = tt
 
-returns_2 : tie.Need-returns-2
-returns_2 c = report_bad _ _ (stop digit refl (past0 c.before.before) c.before.before.before.byte_at.ensures c.before.is_digit.ensures c.if2.true)
+returns_2 : tie.Need-returns-then-not-is_digit
+returns_2 c = report_bad _ _ (stop digit refl (past0 c.before.before) c.before.before.before.byte_at-first.ensures c.before.is_digit.ensures c.if-not-is_digit.true-raw)
 
-behind1 : (c : tie.Else2) → Behind (start2 c) (one digit report_2) 1
-behind1 c = step digit refl (past0 c.before.before) c.before.before.before.byte_at.ensures c.before.is_digit.ensures _ refl c.if2.false
+behind1 : (c : tie.Else-not-is_digit) → Behind (start2 c) (one digit report_2) 1
+behind1 c = step digit refl (past0 c.before.before) c.before.before.before.byte_at-first.ensures c.before.is_digit.ensures _ refl c.if-not-is_digit.false-raw
 
-add_byte_at : tie.Need-overflow-add-byte_at
+add_byte_at : tie.Need-overflow_add-at
 add_byte_at c = omega (arith, (behind1 c).within (omega arith))
 
-byte_at_requires_2 : tie.Need-byte_at-requires-2
+byte_at_requires_2 : tie.Need-byte_at-requires
 byte_at_requires_2 c κs = tt
 
 is_digit_requires_2 : tie.Need-is_digit-requires-2
 is_digit_requires_2 c κs = tt
 
-returns_3 : tie.Need-returns-3
-returns_3 c = report_bad _ _ (stop digit refl (behind1 c.before.before.before) c.before.before.byte-at2.ensures c.before.is-digit2.ensures c.if3.true)
+returns_3 : tie.Need-returns-then-not-is_digit-2
+returns_3 c = report_bad _ _ (stop digit refl (behind1 c.before.before.before) c.before.before.byte_at.ensures c.before.is_digit-2.ensures c.if-not-is_digit-2.true-raw)
 
-behind2 : (c : tie.Else3) → Behind (start3 c) report_2 2
-behind2 c = step digit refl (behind1 c.before.before.before) c.before.before.byte-at2.ensures c.before.is-digit2.ensures _ (omega arith) c.if3.false
+behind2 : (c : tie.Else-not-is_digit-2) → Behind (start3 c) report_2 2
+behind2 c = step digit refl (behind1 c.before.before.before) c.before.before.byte_at.ensures c.before.is_digit-2.ensures _ (omega arith) c.if-not-is_digit-2.false-raw
 
-add_two : tie.Need-overflow-add-two
+add_two : tie.Need-overflow_add-two
 add_two c = omega (arith, (behind2 c).within (omega arith))
 
-byte_at_requires_3 : tie.Need-byte_at-requires-3
+byte_at_requires_3 : tie.Need-byte_at-third-requires
 byte_at_requires_3 c κs = tt
 
-returns_4 : tie.Need-returns-4
-returns_4 c = report_kept _ _ _ (may_end c.before.byte-at3.ensures (behind2 c.before.before) c.if4.true)
+returns_4 : tie.Need-returns-then-third-eq59
+returns_4 c = report_kept _ _ _ (may_end c.before.byte_at-third.ensures (behind2 c.before.before) c.if-third-eq59.true)
 
-past2 : (c : tie.Else4) → Behind (start4 c) (one digit_or_capital ended) 2
-past2 c = may_go_on c.before.byte-at3.ensures (behind2 c.before.before) c.if4.false
+past2 : (c : tie.Else-third-eq59) → Behind (start4 c) (one digit_or_capital ended) 2
+past2 c = may_go_on c.before.byte_at-third.ensures (behind2 c.before.before) c.if-third-eq59.false
 
 is_report_character_requires : tie.Need-is_report_character-requires
 is_report_character_requires c κs = tt
 
-returns_5 : tie.Need-returns-5
-returns_5 c = report_bad _ _ (stop digit_or_capital refl (past2 c.before.before) c.before.before.before.byte-at3.ensures c.before.is_report_character.ensures c.if5.true)
+returns_5 : tie.Need-returns-then-not-is_report_character
+returns_5 c = report_bad _ _ (stop digit_or_capital refl (past2 c.before.before) c.before.before.before.byte_at-third.ensures c.before.is_report_character.ensures c.if-not-is_report_character.true-raw)
 
-behind3 : (c : tie.Else5) → Behind (start5 c) ended 3
-behind3 c = step digit_or_capital refl (past2 c.before.before) c.before.before.before.byte-at3.ensures c.before.is_report_character.ensures _ (omega arith) c.if5.false
+behind3 : (c : tie.Else-not-is_report_character) → Behind (start5 c) ended 3
+behind3 c = step digit_or_capital refl (past2 c.before.before) c.before.before.before.byte_at-third.ensures c.before.is_report_character.ensures _ (omega arith) c.if-not-is_report_character.false-raw
 
-add_three : tie.Need-overflow-add-three
+add_three : tie.Need-overflow_add-three
 add_three c = omega (arith, (behind3 c).within (omega arith))
 
 ends_requires : tie.Need-ends-requires
 ends_requires c κs = tt
 
-returns_6 : tie.Need-returns-6
-returns_6 c = report_bad _ _ (too_long_lem c.before.ends.ensures (behind3 c.before.before) c.if6.true)
+returns_6 : tie.Need-returns-then-not-ends
+returns_6 c = report_bad _ _ (too_long_lem c.before.ends.ensures (behind3 c.before.before) c.if-not-ends.true-raw)
 
-returns_7 : tie.Need-returns-7
-returns_7 c = report_kept _ _ _ (whole c.before.ends.ensures (behind3 c.before.before) c.if6.false)
+returns_7 : tie.Need-returns
+returns_7 c = report_kept _ _ _ (whole c.before.ends.ensures (behind3 c.before.before) c.if-not-ends.false-raw)
 
 pub report_spec : {M : Type 1} → statement M
 report_spec =

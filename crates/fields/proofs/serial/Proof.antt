@@ -9,120 +9,120 @@ use Rattle.fields.proofs.serial.Statement.{statement}
 use Rattle.fields.proofs.serial.Tie as tie
 
 -- The function's start, from each of its places.
-abbrev start1 : tie.Else1 → tie.Start
+abbrev start1 : tie.Else-first-eq59 → tie.Start
 start1 c = c.before.before.before
 
-abbrev start2 : tie.Else2 → tie.Start
+abbrev start2 : tie.Else-not-is_digit → tie.Start
 start2 c = start1 c.before.before
 
-abbrev start3 : tie.Else3 → tie.Start
+abbrev start3 : tie.Else-not-is_digit-2 → tie.Start
 start3 c = start2 c.before.before.before
 
-abbrev start4 : tie.Else4 → tie.Start
+abbrev start4 : tie.Else-not-is_digit-3 → tie.Start
 start4 c = start3 c.before.before.before
 
-abbrev start5 : tie.Else5 → tie.Start
+abbrev start5 : tie.Else-fourth-eq59 → tie.Start
 start5 c = start4 c.before.before
 
-abbrev start6 : tie.Else6 → tie.Start
+abbrev start6 : tie.Else-not-is_digit-4 → tie.Start
 start6 c = start5 c.before.before
 
 -- What is left to see behind so many characters of the field.
 abbrev Behind : tie.Start → Shape → ℕ → Type 0
 Behind c p n = Goes serial p c.args.s.now c.args.at (c.args.at + n)
 
-byte_at_requires : tie.Need-byte_at-requires
+byte_at_requires : tie.Need-byte_at-first-requires
 byte_at_requires c κs = tt
 
-returns : tie.Need-returns
-returns c = serial_kept _ _ _ (may_end c.before.byte_at.ensures (goes _ _ serial_is) c.if1.true)
+returns : tie.Need-returns-then-first-eq59
+returns c = serial_kept _ _ _ (may_end c.before.byte_at-first.ensures (goes _ _ serial_is) c.if-first-eq59.true)
 
-past0 : (c : tie.Else1) → Goes serial (one digit (one digit (one digit serial_3))) (start1 c).args.s.now (start1 c).args.at (start1 c).args.at
-past0 c = may_go_on c.before.byte_at.ensures (goes _ _ serial_is) c.if1.false
+past0 : (c : tie.Else-first-eq59) → Goes serial (one digit (one digit (one digit serial_3))) (start1 c).args.s.now (start1 c).args.at (start1 c).args.at
+past0 c = may_go_on c.before.byte_at-first.ensures (goes _ _ serial_is) c.if-first-eq59.false
 
 is_digit_requires : tie.Need-is_digit-requires
 is_digit_requires c κs = tt
 
-returns_2 : tie.Need-returns-2
+returns_2 : tie.Need-returns-then-not-is_digit
 returns_2 c =
     serial_bad _ _
-    (stop digit refl (past0 c.before.before) c.before.before.before.byte_at.ensures c.before.is_digit.ensures c.if2.true)
+    (stop digit refl (past0 c.before.before) c.before.before.before.byte_at-first.ensures c.before.is_digit.ensures c.if-not-is_digit.true-raw)
 
-behind1 : (c : tie.Else2) → Behind (start2 c) (one digit (one digit serial_3)) 1
+behind1 : (c : tie.Else-not-is_digit) → Behind (start2 c) (one digit (one digit serial_3)) 1
 behind1 c =
-    step digit refl (past0 c.before.before) c.before.before.before.byte_at.ensures c.before.is_digit.ensures _ refl c.if2.false
+    step digit refl (past0 c.before.before) c.before.before.before.byte_at-first.ensures c.before.is_digit.ensures _ refl c.if-not-is_digit.false-raw
 
-add_byte_at : tie.Need-overflow-add-byte_at
+add_byte_at : tie.Need-overflow_add-at
 add_byte_at c = omega (arith, (behind1 c).within (omega arith))
 
-byte_at_requires_2 : tie.Need-byte_at-requires-2
+byte_at_requires_2 : tie.Need-byte_at-requires
 byte_at_requires_2 c κs = tt
 
 is_digit_requires_2 : tie.Need-is_digit-requires-2
 is_digit_requires_2 c κs = tt
 
-returns_3 : tie.Need-returns-3
+returns_3 : tie.Need-returns-then-not-is_digit-2
 returns_3 c =
     serial_bad _ _
-    (stop digit refl (behind1 c.before.before.before) c.before.before.byte-at2.ensures c.before.is-digit2.ensures c.if3.true)
+    (stop digit refl (behind1 c.before.before.before) c.before.before.byte_at.ensures c.before.is_digit-2.ensures c.if-not-is_digit-2.true-raw)
 
-behind2 : (c : tie.Else3) → Behind (start3 c) (one digit serial_3) 2
+behind2 : (c : tie.Else-not-is_digit-2) → Behind (start3 c) (one digit serial_3) 2
 behind2 c =
-    step digit refl (behind1 c.before.before.before) c.before.before.byte-at2.ensures c.before.is-digit2.ensures _ (omega arith) c.if3.false
+    step digit refl (behind1 c.before.before.before) c.before.before.byte_at.ensures c.before.is_digit-2.ensures _ (omega arith) c.if-not-is_digit-2.false-raw
 
-add_byte_at_2 : tie.Need-overflow-add-byte_at-2
+add_byte_at_2 : tie.Need-overflow_add-at-2
 add_byte_at_2 c = omega (arith, (behind2 c).within (omega arith))
 
-byte_at_requires_3 : tie.Need-byte_at-requires-3
+byte_at_requires_3 : tie.Need-byte_at-requires-2
 byte_at_requires_3 c κs = tt
 
 is_digit_requires_3 : tie.Need-is_digit-requires-3
 is_digit_requires_3 c κs = tt
 
-returns_4 : tie.Need-returns-4
+returns_4 : tie.Need-returns-then-not-is_digit-3
 returns_4 c =
     serial_bad _ _
-    (stop digit refl (behind2 c.before.before.before) c.before.before.byte-at3.ensures c.before.is-digit3.ensures c.if4.true)
+    (stop digit refl (behind2 c.before.before.before) c.before.before.byte_at-2.ensures c.before.is_digit-3.ensures c.if-not-is_digit-3.true-raw)
 
-behind3 : (c : tie.Else4) → Behind (start4 c) serial_3 3
+behind3 : (c : tie.Else-not-is_digit-3) → Behind (start4 c) serial_3 3
 behind3 c =
-    step digit refl (behind2 c.before.before.before) c.before.before.byte-at3.ensures c.before.is-digit3.ensures _ (omega arith) c.if4.false
+    step digit refl (behind2 c.before.before.before) c.before.before.byte_at-2.ensures c.before.is_digit-3.ensures _ (omega arith) c.if-not-is_digit-3.false-raw
 
-add_three : tie.Need-overflow-add-three
+add_three : tie.Need-overflow_add-three
 add_three c = omega (arith, (behind3 c).within (omega arith))
 
-byte_at_requires_4 : tie.Need-byte_at-requires-4
+byte_at_requires_4 : tie.Need-byte_at-fourth-requires
 byte_at_requires_4 c κs = tt
 
-returns_5 : tie.Need-returns-5
-returns_5 c = serial_kept _ _ _ (may_end c.before.byte-at4.ensures (behind3 c.before.before) c.if5.true)
+returns_5 : tie.Need-returns-then-fourth-eq59
+returns_5 c = serial_kept _ _ _ (may_end c.before.byte_at-fourth.ensures (behind3 c.before.before) c.if-fourth-eq59.true)
 
-past3 : (c : tie.Else5) → Behind (start5 c) (one digit ended) 3
-past3 c = may_go_on c.before.byte-at4.ensures (behind3 c.before.before) c.if5.false
+past3 : (c : tie.Else-fourth-eq59) → Behind (start5 c) (one digit ended) 3
+past3 c = may_go_on c.before.byte_at-fourth.ensures (behind3 c.before.before) c.if-fourth-eq59.false
 
 is_digit_requires_4 : tie.Need-is_digit-requires-4
 is_digit_requires_4 c κs = tt
 
-returns_6 : tie.Need-returns-6
+returns_6 : tie.Need-returns-then-not-is_digit-4
 returns_6 c =
     serial_bad _ _
-    (stop digit refl (past3 c.before.before) c.before.before.before.byte-at4.ensures c.before.is-digit4.ensures c.if6.true)
+    (stop digit refl (past3 c.before.before) c.before.before.before.byte_at-fourth.ensures c.before.is_digit-4.ensures c.if-not-is_digit-4.true-raw)
 
-behind4 : (c : tie.Else6) → Behind (start6 c) ended 4
+behind4 : (c : tie.Else-not-is_digit-4) → Behind (start6 c) ended 4
 behind4 c =
-    step digit refl (past3 c.before.before) c.before.before.before.byte-at4.ensures c.before.is-digit4.ensures _ (omega arith) c.if6.false
+    step digit refl (past3 c.before.before) c.before.before.before.byte_at-fourth.ensures c.before.is_digit-4.ensures _ (omega arith) c.if-not-is_digit-4.false-raw
 
-add_four : tie.Need-overflow-add-four
+add_four : tie.Need-overflow_add-four
 add_four c = omega (arith, (behind4 c).within (omega arith))
 
 ends_requires : tie.Need-ends-requires
 ends_requires c κs = tt
 
-returns_7 : tie.Need-returns-7
-returns_7 c = serial_bad _ _ (too_long_lem c.before.ends.ensures (behind4 c.before.before) c.if7.true)
+returns_7 : tie.Need-returns-then-not-ends
+returns_7 c = serial_bad _ _ (too_long_lem c.before.ends.ensures (behind4 c.before.before) c.if-not-ends.true-raw)
 
-returns_8 : tie.Need-returns-8
-returns_8 c = serial_kept _ _ _ (whole c.before.ends.ensures (behind4 c.before.before) c.if7.false)
+returns_8 : tie.Need-returns
+returns_8 c = serial_kept _ _ _ (whole c.before.ends.ensures (behind4 c.before.before) c.if-not-ends.false-raw)
 
 pub serial_spec : {M : Type 1} → statement M
 serial_spec =
