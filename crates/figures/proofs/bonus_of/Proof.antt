@@ -5,6 +5,7 @@ use Rattle.figures.proofs.LimitLaws.{readable, bound_read}
 use Rattle.figures.proofs.bonus_of.Statement.{statement}
 use Rattle.figures.proofs.bonus_of.Tie as tie
 
+
 most_bonus_requires : tie.Need-most_bonus-requires
 most_bonus_requires c κs = tt
 
@@ -13,7 +14,7 @@ number_from_requires c κs = omega (arith, c.most_bonus.ensures, readable.bonus)
 
 returns : tie.Need-returns
 unfolding bonus
-returns c = bound_read _ _ 0 c.before.most_bonus.ensures c.number_from.ensures
+returns c = bound_read _ _ 0 c.most_bonus.ensures c.number_from.ensures
 
 pub bonus_of_spec : {M : Type 1} → statement M
 bonus_of_spec = tie.close (tie.spec most_bonus_requires number_from_requires returns)

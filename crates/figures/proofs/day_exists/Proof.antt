@@ -3,20 +3,21 @@ use Rattle.figures.proofs.CalendarLaws.{exists_no_month, exists_beyond, exists_n
 use Rattle.figures.proofs.day_exists.Statement.{statement}
 use Rattle.figures.proofs.day_exists.Tie as tie
 
-returns : tie.Need-returns
-returns c = exists_no_month _ _ _ c.if1.true
 
-returns_2 : tie.Need-returns-2
-returns_2 c = exists_beyond _ _ _ c.before.if1.false c.if2.true
+returns : tie.Need-returns-then-month-lt1
+returns c = exists_no_month _ _ _ c.if-month-lt1.true
 
-returns_3 : tie.Need-returns-3
-returns_3 c = exists_no_day _ _ _ c.before.before.if1.false c.before.if2.false c.if3.true
+returns_2 : tie.Need-returns-then-month-gt12
+returns_2 c = exists_beyond _ _ _ c.if-month-lt1.false c.if-month-gt12.true
+
+returns_3 : tie.Need-returns-then-day-lt1
+returns_3 c = exists_no_day _ _ _ c.if-month-lt1.false c.if-month-gt12.false c.if-day-lt1.true
 
 month_length_requires : tie.Need-month_length-requires
-month_length_requires c κs = (c.before.before.if1.false, c.before.if2.false)
+month_length_requires c κs = (c.if-month-lt1.false, c.if-month-gt12.false)
 
-returns_4 : tie.Need-returns-4
-returns_4 c = exists_within _ _ _ c.before.before.before.if1.false c.before.before.if2.false c.before.if3.false c.month_length.ensures
+returns_4 : tie.Need-returns
+returns_4 c = exists_within _ _ _ c.if-month-lt1.false c.if-month-gt12.false c.if-day-lt1.false c.month_length.ensures
 
 pub day_exists_spec : {M : Type 1} → statement M
 day_exists_spec = tie.close (tie.spec returns returns_2 returns_3 month_length_requires returns_4)

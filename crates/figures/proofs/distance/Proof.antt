@@ -4,6 +4,7 @@ use Rattle.figures.proofs.LimitLaws.{readable, digits_read}
 use Rattle.figures.proofs.distance.Statement.{statement}
 use Rattle.figures.proofs.distance.Tie as tie
 
+
 distance_digits_requires : tie.Need-distance_digits-requires
 distance_digits_requires c κs = tt
 
@@ -11,7 +12,7 @@ number_requires : tie.Need-number-requires
 number_requires c κs = omega (arith, c.distance_digits.ensures, readable.distance)
 
 returns : tie.Need-returns
-returns c = digits_read _ _ c.before.distance_digits.ensures c.number.ensures
+returns c = digits_read _ _ c.distance_digits.ensures c.number.ensures
 
 pub distance_spec : {M : Type 1} → statement M
 distance_spec = tie.close (tie.spec distance_digits_requires number_requires returns)

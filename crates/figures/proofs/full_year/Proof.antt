@@ -4,16 +4,17 @@ use Rattle.figures.proofs.CalendarLaws.{year_ninety, year_later}
 use Rattle.figures.proofs.full_year.Statement.{statement}
 use Rattle.figures.proofs.full_year.Tie as tie
 
-add_result : tie.Need-overflow-add-result
+
+add_result : tie.Need-overflow_add-result
 add_result c = search rules
 
-returns : tie.Need-returns
+returns : tie.Need-returns-then-yy-ge90
 returns c = year_ninety _ (search rules)
 
-add_result_2 : tie.Need-overflow-add-result-2
+add_result_2 : tie.Need-overflow_add-result-2
 add_result_2 c = search rules
 
-returns_2 : tie.Need-returns-2
+returns_2 : tie.Need-returns
 returns_2 c = year_later _ (search rules)
 
 pub full_year_spec : {M : Type 1} → statement M

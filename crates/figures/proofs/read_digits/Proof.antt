@@ -13,77 +13,78 @@ use Rattle.figures.proofs.NumberLaws.{digits_more, digits_enough, digits_stop, d
 use Rattle.figures.proofs.read_digits.Statement.{statement}
 use Rattle.figures.proofs.read_digits.Tie as tie
 
-abbrev invariant-loop : tie.invariant-loop
+
+abbrev invariant-loop : tie.invariant-loop-i
 invariant-loop s at most value₀ left₀ i₀ value left i =
     (left ≤ most) × (value < 10 ^ (most - left)) × (digits_at most s at ≡ digits_from left value s i)
 
-abbrev decreases-loop : tie.decreases-loop
+abbrev decreases-loop : tie.decreases-loop-i
 decreases-loop s at most value₀ left₀ i₀ value left i = length s - i
 
 -- The loop's turn, from where it goes on.
-abbrev turn : tie.Else2 invariant-loop decreases-loop → tie.At-loop invariant-loop decreases-loop
+abbrev turn : tie.Else-not-is_digit invariant-loop decreases-loop → tie.At-loop-i invariant-loop decreases-loop
 turn c = c.before.before.before.before.before
 
 -- In a turn that goes on: the character is a digit, and the value has room for it.
-digit_here : (c : tie.Else2 invariant-loop decreases-loop)
-    → digit (get_or (turn c).before.before.args.s.now (turn c).loop.i 0) ≡ true
-digit_here c = sym c.before.is_digit.ensures ∙ not-false _ c.if2.false
+digit_here : (c : tie.Else-not-is_digit invariant-loop decreases-loop)
+    → digit (get_or (turn c).args.s.now (turn c).loop-i.i 0) ≡ true
+digit_here c = sym c.is_digit.ensures ∙ not-false _ c.if-not-is_digit.false-raw
 
-nine_here : (c : tie.Else2 invariant-loop decreases-loop)
-    → get_or (turn c).before.before.args.s.now (turn c).loop.i 0 ≤ 57
+nine_here : (c : tie.Else-not-is_digit invariant-loop decreases-loop)
+    → get_or (turn c).args.s.now (turn c).loop-i.i 0 ≤ 57
 nine_here c = digit_most _ (digit_here c)
 
-small_here : (c : tie.Else2 invariant-loop decreases-loop) → (turn c).loop.value < 10 ^ 18
-small_here c = below_power _ 18 (search rules) (turn c).loop.invariant.1
+small_here : (c : tie.Else-not-is_digit invariant-loop decreases-loop) → (turn c).loop-i.value < 10 ^ 18
+small_here c = below_power _ 18 (search rules) (turn c).loop-i.invariant.1
 
-loop_holds : tie.Need-loop-init invariant-loop decreases-loop
+loop_holds : tie.Need-loop-i-init invariant-loop decreases-loop
 unfolding digits_at
-loop_holds c = (search rules, below_none c.before.args.most, refl)
+loop_holds c = (search rules, below_none c.args.most, refl)
 
-returns : tie.Need-returns invariant-loop decreases-loop
-returns c = digits_enough _ _ _ _ c.if1.true ∙ sym c.before.before.loop.invariant.2
+returns : tie.Need-returns-then-left-eq0 invariant-loop decreases-loop
+returns c = digits_enough _ _ _ _ c.if-left-eq0.true ∙ sym c.loop-i.invariant.2
 
-shared_slice_read_b : tie.Need-shared-slice-read-b invariant-loop decreases-loop
+shared_slice_read_b : tie.Need-bounds-s-i invariant-loop decreases-loop
 shared_slice_read_b c = search rules
 
 is_digit_requires : tie.Need-is_digit-requires invariant-loop decreases-loop
 is_digit_requires c κs = tt
 
-returns_2 : tie.Need-returns-2 invariant-loop decreases-loop
+returns_2 : tie.Need-returns-then-not-is_digit invariant-loop decreases-loop
 returns_2 c =
-    digits_stop _ _ _ _ (search rules) (sym c.before.is_digit.ensures ∙ not-true _ c.if2.true)
-    ∙ sym c.before.before.before.before.before.loop.invariant.2
+    digits_stop _ _ _ _ (search rules) (sym c.is_digit.ensures ∙ not-true _ c.if-not-is_digit.true-raw)
+    ∙ sym c.loop-i.invariant.2
 
-mul_value : tie.Need-overflow-mul-value invariant-loop decreases-loop
+mul_value : tie.Need-overflow_mul-value invariant-loop decreases-loop
 mul_value c = omega (arith, small_here c)
 
-sub_value : tie.Need-overflow-sub-value invariant-loop decreases-loop
+sub_value : tie.Need-overflow_sub-value invariant-loop decreases-loop
 sub_value c = digit_least _ (digit_here c)
 
-cast_value : tie.Need-overflow-cast-value invariant-loop decreases-loop
-cast_value c = omega (arith, c.before.before.shared-slice-known2.given (turn c).loop.i)
+cast_value : tie.Need-overflow_cast-value invariant-loop decreases-loop
+cast_value c = omega (arith, c.shared_slice_known-in-loop-i-1.given (turn c).loop-i.i)
 
-add_value : tie.Need-overflow-add-value invariant-loop decreases-loop
+add_value : tie.Need-overflow_add-value invariant-loop decreases-loop
 add_value c = omega (arith, small_here c, nine_here c)
 
-sub_left : tie.Need-overflow-sub-left invariant-loop decreases-loop
+sub_left : tie.Need-overflow_sub-left invariant-loop decreases-loop
 sub_left c = search rules
 
-add_i : tie.Need-overflow-add-i invariant-loop decreases-loop
+add_i : tie.Need-overflow_add-i invariant-loop decreases-loop
 add_i c = search rules
 
-loop_less : tie.Need-loop-smaller invariant-loop decreases-loop
+loop_less : tie.Need-loop-i-smaller invariant-loop decreases-loop
 loop_less c = search rules
 
-loop_again : tie.Need-loop-preserved invariant-loop decreases-loop
+loop_again : tie.Need-loop-i-preserved invariant-loop decreases-loop
 loop_again c = (
   search rules,
-  below_more _ _ _ _ (search rules) (search rules) (turn c).loop.invariant.1 (omega (arith, nine_here c)),
-  (turn c).loop.invariant.2 ∙ digits_more _ _ _ _ (search rules) (search rules) (digit_here c),
+  below_more _ _ _ _ (search rules) (search rules) (turn c).loop-i.invariant.1 (omega (arith, nine_here c)),
+  (turn c).loop-i.invariant.2 ∙ digits_more _ _ _ _ (search rules) (search rules) (digit_here c),
 )
 
-returns_3 : tie.Need-returns-3 invariant-loop decreases-loop
-returns_3 c = digits_end _ _ _ _ c.loop-test.false ∙ sym c.before.loop.invariant.2
+returns_3 : tie.Need-returns invariant-loop decreases-loop
+returns_3 c = digits_end _ _ _ _ c.loop-i-test.false ∙ sym c.loop-i.invariant.2
 
 pub read_digits_spec : {M : Type 1} → statement M
 read_digits_spec =

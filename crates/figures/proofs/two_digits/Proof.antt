@@ -8,26 +8,27 @@ use Rattle.figures.proofs.TimeLaws.{two_digits}
 use Rattle.figures.proofs.two_digits.Statement.{statement}
 use Rattle.figures.proofs.two_digits.Tie as tie
 
-sub_result : tie.Need-overflow-sub-result
+
+sub_result : tie.Need-overflow_sub-result
 unfolding all
 sub_result c = digit_least _ (and_l (digit c.args.a) (digit c.args.b && true) c.requires)
 
-cast_result : tie.Need-overflow-cast-result
+cast_result : tie.Need-overflow_cast-result
 cast_result c = search rules
 
-mul_result : tie.Need-overflow-mul-result
+mul_result : tie.Need-overflow_mul-result
 mul_result c = search rules
 
-sub_result_2 : tie.Need-overflow-sub-result-2
+sub_result_2 : tie.Need-overflow_sub-result-2
 unfolding all
 sub_result_2 c =
     digit_least _
     (and_l (digit c.args.b) true (and_r (digit c.args.a) (digit c.args.b && true) c.requires))
 
-cast_result_2 : tie.Need-overflow-cast-result-2
+cast_result_2 : tie.Need-overflow_cast-result-2
 cast_result_2 c = search rules
 
-add_result : tie.Need-overflow-add-result
+add_result : tie.Need-overflow_add-result
 add_result c = search rules
 
 returns : tie.Need-returns

@@ -5,13 +5,14 @@ use Rattle.figures.specs.Figure.{minutes_of}
 use Rattle.figures.proofs.TimeOfDay.minutes.Statement.{statement}
 use Rattle.figures.proofs.TimeOfDay.minutes.Tie as tie
 
-mul_result : tie.Need-overflow-mul-result
+
+mul_result : tie.Need-overflow_mul-result
 mul_result c = search rules
 
-add_result : tie.Need-overflow-add-result
+add_result : tie.Need-overflow_add-result
 add_result c = search rules
 
-sub_result : tie.Need-overflow-sub-result
+sub_result : tie.Need-overflow_sub-result
 sub_result c = search rules
 
 returns : tie.Need-returns
