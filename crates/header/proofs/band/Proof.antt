@@ -10,41 +10,42 @@ use Rattle.header.proofs.BandLaws.{band_here, band_later, no_band, band_told}
 use Rattle.header.proofs.band.Statement.{statement}
 use Rattle.header.proofs.band.Tie as tie
 
-abbrev invariant-loop : tie.invariant-loop
+
+abbrev invariant-loop : tie.invariant-loop-k
 invariant-loop t k₀ k = among band_names t ≡ among (drop k band_names) t
 
-abbrev decreases-loop : tie.decreases-loop
+abbrev decreases-loop : tie.decreases-loop-k
 decreases-loop t k₀ k = 15 - k
 
-loop_holds : tie.Need-loop-init invariant-loop decreases-loop
+loop_holds : tie.Need-loop-k-init invariant-loop decreases-loop
 loop_holds c = refl
 
 is_band_requires : tie.Need-is_band-requires invariant-loop decreases-loop
 is_band_requires c κs = search rules
 
-returns : tie.Need-returns invariant-loop decreases-loop
+returns : tie.Need-returns-then-is_band invariant-loop decreases-loop
 returns c =
     band_told _ true
-    (c.before.before.before.loop.invariant
-    ∙ band_here c.before.before.before.before.before.args.t.now c.before.before.before.loop.k (search rules)
-    (sym c.before.is_band.ensures ∙ c.if1.true))
+    (c.loop-k.invariant
+    ∙ band_here c.args.t.now c.loop-k.k (search rules)
+    (sym c.is_band.ensures ∙ c.if-is_band.true))
 
-add_k : tie.Need-overflow-add-k invariant-loop decreases-loop
+add_k : tie.Need-overflow_add-k invariant-loop decreases-loop
 add_k c = search rules
 
-loop_less : tie.Need-loop-smaller invariant-loop decreases-loop
+loop_less : tie.Need-loop-k-smaller invariant-loop decreases-loop
 loop_less c = search rules
 
-loop_again : tie.Need-loop-preserved invariant-loop decreases-loop
+loop_again : tie.Need-loop-k-preserved invariant-loop decreases-loop
 loop_again c =
-    c.before.before.before.loop.invariant
-    ∙ band_later c.before.before.before.before.before.args.t.now c.before.before.before.loop.k (search rules)
-    (sym c.before.is_band.ensures ∙ c.if1.false)
+    c.loop-k.invariant
+    ∙ band_later c.args.t.now c.loop-k.k (search rules)
+    (sym c.is_band.ensures ∙ c.if-is_band.false)
 
-returns_2 : tie.Need-returns-2 invariant-loop decreases-loop
+returns_2 : tie.Need-returns invariant-loop decreases-loop
 returns_2 c =
     band_told _ false
-    (c.before.loop.invariant ∙ no_band c.before.before.before.args.t.now c.before.loop.k (search rules))
+    (c.loop-k.invariant ∙ no_band c.args.t.now c.loop-k.k (search rules))
 
 pub band_spec : {M : Type 1} → statement M
 band_spec =

@@ -9,28 +9,29 @@ use Rattle.header.proofs.RuleLaws.{call_apart}
 use Rattle.header.proofs.is_call.Statement.{statement}
 use Rattle.header.proofs.is_call.Tie as tie
 
+
 call_requires : tie.Need-call-requires
 call_requires c κs = tt
 
-enum_known_end : tie.Need-enum-known-end
+enum_known_end : tie.Need-enum_known-end
 enum_known_end c = search rules
 
-enum_told : tie.Need-enum-told
+enum_told : tie.Need-enum_told-1
 enum_told c = search rules
 
-returns : tie.Need-returns
+returns : tie.Need-returns-in_default
 unfolding meets
 returns c =
-    let t = c.before.before.before.before.args.t.now in
+    let t = c.args.t.now in
     argument_broken call call_apart t
-    (call_refused t 0 (sym c.before.before.call.ensures ∙ c.enum_told.given.1))
+    (call_refused t 0 (sym c.call.ensures ∙ c.in_default.is))
 
-returns_2 : tie.Need-returns-2
+returns_2 : tie.Need-returns
 unfolding meets
 returns_2 c =
-    let t = c.before.before.before.before.before.args.t.now in
+    let t = c.args.t.now in
     argument_ends call call_apart t
-    (call_picked t 0 (sym c.before.before.before.call.ensures ∙ c.before.end.given.1)).0
+    (call_picked t 0 (sym c.call.ensures ∙ c.in-Call.is)).0
 
 pub is_call_spec : {M : Type 1} → statement M
 is_call_spec = tie.close (tie.spec call_requires enum_known_end enum_told returns returns_2)

@@ -16,100 +16,101 @@ use Rattle.header.proofs.RuleLaws.{number_kept}
 use Rattle.header.proofs.is_count_bonus_multiplier.Statement.{statement}
 use Rattle.header.proofs.is_count_bonus_multiplier.Tie as tie
 
-abbrev rules : List (Text → Bool)
-rules = count base ∷ bonus base ∷ multiplier base ∷ []
+
+abbrev parts_rules : List (Text → Bool)
+parts_rules = count base ∷ bonus base ∷ multiplier base ∷ []
 
 -- The function's start, from behind each part that was read.
-abbrev start1 : tie.After-known-told → tie.Start
-start1 c = c.before.before.before.before.before
+abbrev start1 : tie.In-Number → tie.Start
+start1 c = c.before.before.before
 
-abbrev start2 : tie.After-known-told2 → tie.Start
-start2 c = start1 c.before.before.before.before
+abbrev start2 : tie.In-Number-bonus_of → tie.Start
+start2 c = start1 c.before.before
 
-abbrev start3 : tie.After-known-told3 → tie.Start
-start3 c = start2 c.before.before.before.before
+abbrev start3 : tie.In-Number-multiplier_of → tie.Start
+start3 c = start2 c.before.before
 
 -- Where the second part begins, and the third.
-abbrev second : tie.After-known-told → ℕ
-second c = c.before.count.given.0.1.0 + 1
+abbrev second : tie.In-Number → ℕ
+second c = c.in-Number.count + 1
 
-abbrev third : tie.After-known-told2 → ℕ
-third c = c.before.bonus.given.0.1.0 + 1
+abbrev third : tie.In-Number-bonus_of → ℕ
+third c = c.in-Number-bonus_of.bonus + 1
 
-count_kept : (c : tie.After-known-told) → Kept (count base) (start1 c).args.t.now 0 c.before.count.given.0.1.0
-count_kept c = number_kept (count base) _ 0 (sym c.before.before.before.count_of.ensures ∙ c.before.count.given.1)
+count_kept : (c : tie.In-Number) → Kept (count base) (start1 c).args.t.now 0 c.in-Number.count
+count_kept c = number_kept (count base) _ 0 (sym c.count_of.ensures ∙ c.in-Number.is)
 
-count_due : (c : tie.After-known-told) → Due rules (bonus base ∷ multiplier base ∷ []) (start1 c).args.t.now (second c)
-count_due c = due_next (due_first rules (start1 c).args.t.now) (count_kept c)
+count_due : (c : tie.In-Number) → Due parts_rules (bonus base ∷ multiplier base ∷ []) (start1 c).args.t.now (second c)
+count_due c = due_next (due_first parts_rules (start1 c).args.t.now) (count_kept c)
 
-bonus_kept : (c : tie.After-known-told2) → Kept (bonus base) (start2 c).args.t.now (second c.before.before.before.before) c.before.bonus.given.0.1.0
-bonus_kept c = number_kept (bonus base) _ _ (sym c.before.before.before.bonus_of.ensures ∙ c.before.bonus.given.1)
+bonus_kept : (c : tie.In-Number-bonus_of) → Kept (bonus base) (start2 c).args.t.now (second c.before.before) c.in-Number-bonus_of.bonus
+bonus_kept c = number_kept (bonus base) _ _ (sym c.bonus_of.ensures ∙ c.in-Number-bonus_of.is)
 
-bonus_due : (c : tie.After-known-told2) → Due rules (multiplier base ∷ []) (start2 c).args.t.now (third c)
-bonus_due c = due_next (count_due c.before.before.before.before) (bonus_kept c)
+bonus_due : (c : tie.In-Number-bonus_of) → Due parts_rules (multiplier base ∷ []) (start2 c).args.t.now (third c)
+bonus_due c = due_next (count_due c.before.before) (bonus_kept c)
 
-end_kept : (c : tie.After-known-told3) → Kept (multiplier base) (start3 c).args.t.now (third c.before.before.before.before) c.before.end.given.0.1.0
-end_kept c = number_kept (multiplier base) _ _ (sym c.before.before.before.multiplier_of.ensures ∙ c.before.end.given.1)
+end_kept : (c : tie.In-Number-multiplier_of) → Kept (multiplier base) (start3 c).args.t.now (third c.before.before) c.in-Number-multiplier_of.end
+end_kept c = number_kept (multiplier base) _ _ (sym c.multiplier_of.ensures ∙ c.in-Number-multiplier_of.is)
 
 count_of_requires : tie.Need-count_of-requires
 count_of_requires c κs = tt
 
-enum_known_count : tie.Need-enum-known-count
+enum_known_count : tie.Need-enum_known-count
 enum_known_count c = search rules
 
-enum_told : tie.Need-enum-told
+enum_told : tie.Need-enum_told-1
 enum_told c = search rules
 
-returns : tie.Need-returns
+returns : tie.Need-returns-in_default
 unfolding meets
 returns c =
-    let t = c.before.before.before.before.args.t.now in
-    due_broken (due_first rules t) (number_refused (count base) t 0 (sym c.before.before.count_of.ensures ∙ c.enum_told.given.1))
+    let t = c.args.t.now in
+    due_broken (due_first parts_rules t) (number_refused (count base) t 0 (sym c.count_of.ensures ∙ c.in_default.is))
 
-add_bonus_of : tie.Need-overflow-add-bonus_of
+add_bonus_of : tie.Need-overflow_add-count
 add_bonus_of c = omega (arith, (count_kept c).ending, end_within (start1 c).args.t.now 0)
 
 bonus_of_requires : tie.Need-bonus_of-requires
 bonus_of_requires c κs = tt
 
-enum_known_bonus : tie.Need-enum-known-bonus
+enum_known_bonus : tie.Need-enum_known-bonus
 enum_known_bonus c = search rules
 
-enum_told_2 : tie.Need-enum-told-2
+enum_told_2 : tie.Need-enum_told-in_default-bonus_of
 enum_told_2 c = search rules
 
-returns_2 : tie.Need-returns-2
+returns_2 : tie.Need-returns-in_default-bonus_of
 unfolding meets
 returns_2 c =
-    let d = c.before.before.before in
+    let d = c.before.before in
     due_broken (count_due d)
-    (number_refused (bonus base) (start1 d).args.t.now (second d) (sym c.before.before.bonus_of.ensures ∙ c.enum-told2.given.1))
+    (number_refused (bonus base) (start1 d).args.t.now (second d) (sym c.bonus_of.ensures ∙ c.in_default-bonus_of.is))
 
-add_multiplier_of : tie.Need-overflow-add-multiplier_of
+add_multiplier_of : tie.Need-overflow_add-bonus
 add_multiplier_of c =
-    let d = c.before.before.before.before in
+    let d = c.before.before in
     let t = (start2 c).args.t.now in
     omega (arith, (count_kept d).ending, end_within t 0, (bonus_kept c).ending, end_within t (second d))
 
 multiplier_of_requires : tie.Need-multiplier_of-requires
 multiplier_of_requires c κs = tt
 
-enum_known_end : tie.Need-enum-known-end
+enum_known_end : tie.Need-enum_known-end
 enum_known_end c = search rules
 
-enum_told_3 : tie.Need-enum-told-3
+enum_told_3 : tie.Need-enum_told-in_default-multiplier_of
 enum_told_3 c = search rules
 
-returns_3 : tie.Need-returns-3
+returns_3 : tie.Need-returns-in_default-multiplier_of
 unfolding meets
 returns_3 c =
-    let d = c.before.before.before in
+    let d = c.before.before in
     due_broken (bonus_due d)
-    (number_refused (multiplier base) (start2 d).args.t.now (third d) (sym c.before.before.multiplier_of.ensures ∙ c.enum-told3.given.1))
+    (number_refused (multiplier base) (start2 d).args.t.now (third d) (sym c.multiplier_of.ensures ∙ c.in_default-multiplier_of.is))
 
-returns_4 : tie.Need-returns-4
+returns_4 : tie.Need-returns
 unfolding meets
-returns_4 c = due_last (bonus_due c.before.before.before.before) (end_kept c)
+returns_4 c = due_last (bonus_due c.before.before) (end_kept c)
 
 pub is_count_bonus_multiplier_spec : {M : Type 1} → statement M
 is_count_bonus_multiplier_spec =

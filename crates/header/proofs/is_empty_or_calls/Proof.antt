@@ -15,70 +15,71 @@ use Rattle.header.proofs.CallsLaws.{every_broken, every_last, every_more, every_
 use Rattle.header.proofs.is_empty_or_calls.Statement.{statement}
 use Rattle.header.proofs.is_empty_or_calls.Tie as tie
 
-abbrev invariant-loop : tie.invariant-loop
+
+abbrev invariant-loop : tie.invariant-loop-at
 invariant-loop t at₀ at = (at ≤ length t) × (every call (parts t) ≡ every call (parts (drop at t)))
 
-abbrev decreases-loop : tie.decreases-loop
+abbrev decreases-loop : tie.decreases-loop-at
 decreases-loop t at₀ at = length t - at
 
 -- The loop's turn, from behind the call that was read, and the text.
-abbrev turn : tie.After-known-told invariant-loop decreases-loop → tie.At-loop invariant-loop decreases-loop
-turn c = c.before.before.before.before.before
+abbrev turn : tie.In-Call invariant-loop decreases-loop → tie.At-loop-at invariant-loop decreases-loop
+turn c = c.before.before.before
 
-abbrev text : tie.At-loop invariant-loop decreases-loop → Text
-text c = c.before.before.before.args.t.now
+abbrev text : tie.At-loop-at invariant-loop decreases-loop → Text
+text c = c.args.t.now
 
-call_kept : (c : tie.After-known-told invariant-loop decreases-loop) → Kept call (text (turn c)) (turn c).loop.at c.before.end.given.0.0
-call_kept c = (call_picked (text (turn c)) (turn c).loop.at (sym c.before.before.before.call.ensures ∙ c.before.end.given.1)).0
+call_kept : (c : tie.In-Call invariant-loop decreases-loop) → Kept call (text (turn c)) (turn c).loop-at.at c.in-Call.end
+call_kept c = (call_picked (text (turn c)) (turn c).loop-at.at (sym c.call.ensures ∙ c.in-Call.is)).0
 
-returns : tie.Need-returns invariant-loop decreases-loop
-returns c = calls_none base _ c.if1.true
+returns : tie.Need-returns-then-t-eq0 invariant-loop decreases-loop
+returns c = calls_none base _ c.if-t-eq0.true
 
-loop_holds : tie.Need-loop-init invariant-loop decreases-loop
+loop_holds : tie.Need-loop-at-init invariant-loop decreases-loop
 loop_holds c = (search rules, refl)
 
 call_requires : tie.Need-call-requires invariant-loop decreases-loop
 call_requires c κs = tt
 
-enum_known_end : tie.Need-enum-known-end invariant-loop decreases-loop
+enum_known_end : tie.Need-enum_known-end invariant-loop decreases-loop
 enum_known_end c = search rules
 
-enum_told : tie.Need-enum-told invariant-loop decreases-loop
+enum_told : tie.Need-enum_told-1 invariant-loop decreases-loop
 enum_told c = search rules
 
-returns_2 : tie.Need-returns-2 invariant-loop decreases-loop
+returns_2 : tie.Need-returns-in_default invariant-loop decreases-loop
 returns_2 c =
-    let d = c.before.before.before.before in
-    calls_told base (text d) false d.before.if1.false
-    (d.loop.invariant.1
-    ∙ every_broken call (text d) d.loop.at (call_refused (text d) d.loop.at (sym c.before.before.call.ensures ∙ c.enum_told.given.1)))
+    let d = c.before.before.before in
+    calls_told base (text d) false d.if-t-eq0.false
+    (d.loop-at.invariant.1
+    ∙ every_broken call (text d) d.loop-at.at (call_refused (text d) d.loop-at.at (sym c.call.ensures ∙ c.in_default.is)))
 
-returns_3 : tie.Need-returns-3 invariant-loop decreases-loop
+returns_3 : tie.Need-returns-then-end-t invariant-loop decreases-loop
 returns_3 c =
     let d = turn c.before in
-    calls_told base (text d) true d.before.if1.left
-    (d.loop.inv.1 ∙ every_last call (text d) d.loop.at (call_kept c.before) c.if2.true)
+    calls_told base (text d) true d.if-t-eq0.false
+    (d.loop-at.invariant.1 ∙ every_last call (text d) d.loop-at.at (call_kept c.before) c.if-end-t.true)
 
-add_at : tie.Need-overflow-add-at invariant-loop decreases-loop
+add_at : tie.Need-overflow_add-at invariant-loop decreases-loop
 add_at c =
     let d = turn c.before in
-    omega (arith, (call_kept c.before).ending, end_within (text d) d.loop.at)
+    omega (arith, (call_kept c.before).ending, end_within (text d) d.loop-at.at)
 
-loop_less : tie.Need-loop-smaller invariant-loop decreases-loop
+loop_less : tie.Need-loop-at-smaller invariant-loop decreases-loop
 loop_less c =
     let d = turn c.before in
-    omega (arith, (call_kept c.before).ending, end_by_span (text d) d.loop.at)
+    omega (arith, (call_kept c.before).ending, end_by_span (text d) d.loop-at.at)
 
-loop_again : tie.Need-loop-preserved invariant-loop decreases-loop
+loop_again : tie.Need-loop-at-preserved invariant-loop decreases-loop
 loop_again c =
     let d = turn c.before in
-    let inside : c.before.before.end.given.0.0 < length (text d) = omega (arith, (call_kept c.before).ending, end_within (text d) d.loop.at) in
-    (omega arith, d.loop.inv.1 ∙ every_more call (text d) d.loop.at (call_kept c.before) inside)
+    let inside : c.in-Call.end < length (text d) = omega (arith, (call_kept c.before).ending, end_within (text d) d.loop-at.at) in
+    (omega arith, d.loop-at.invariant.1 ∙ every_more call (text d) d.loop-at.at (call_kept c.before) inside)
 
-returns_4 : tie.Need-returns-4 invariant-loop decreases-loop
+returns_4 : tie.Need-returns invariant-loop decreases-loop
 returns_4 c =
     let d = c.before in
-    calls_told base (text d) false d.before.if1.false (d.loop.invariant.1 ∙ every_none (text d) d.loop.at (search rules))
+    calls_told base (text d) false d.if-t-eq0.false (d.loop-at.invariant.1 ∙ every_none (text d) d.loop-at.at (search rules))
 
 pub is_empty_or_calls_spec : {M : Type 1} → statement M
 is_empty_or_calls_spec =

@@ -8,21 +8,22 @@ use Rattle.header.proofs.TableLaws.{keyword_known, keyword_beyond}
 use Rattle.header.proofs.keyword.Statement.{statement}
 use Rattle.header.proofs.keyword.Tie as tie
 
-returns : tie.Need-returns
-returns c = keyword_beyond _ _ c.if1.true
 
-mul_spelling : tie.Need-overflow-mul-spelling
+returns : tie.Need-returns-then-k-ge36
+returns c = keyword_beyond _ _ c.if-k-ge36.true
+
+mul_spelling : tie.Need-offset_bounds-k
 mul_spelling c = search rules
 
-index_1_spelling : tie.Need-bounds-1-spelling
+index_1_spelling : tie.Need-bounds-k
 index_1_spelling c = search rules
 
 spelling_requires : tie.Need-spelling-requires
 spelling_requires c κs = tt
 
-returns_2 : tie.Need-returns-2
+returns_2 : tie.Need-returns
 unfolding entries keywords_of keyword_start
-returns_2 c = c.spelling.ensures ∙ keyword_known _ [] _ c.before.before.before.if1.false
+returns_2 c = c.spelling.ensures ∙ keyword_known _ [] _ c.if-k-ge36.false
 
 pub keyword_spec : {M : Type 1} → statement M
 keyword_spec = tie.close (tie.spec returns mul_spelling index_1_spelling spelling_requires returns_2)

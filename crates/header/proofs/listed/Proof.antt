@@ -8,18 +8,19 @@ use Rattle.header.proofs.TableLaws.{listed_within, listed_beyond}
 use Rattle.header.proofs.listed.Statement.{statement}
 use Rattle.header.proofs.listed.Tie as tie
 
-returns : tie.Need-returns
-returns c = listed_beyond _ c.if1.true
 
-mul_result : tie.Need-overflow-mul-result
+returns : tie.Need-returns-then-k-ge36
+returns c = listed_beyond _ c.if-k-ge36.true
+
+mul_result : tie.Need-offset_bounds-k
 mul_result c = search rules
 
-array_copy_out_result : tie.Need-array-copy-out-result
+array_copy_out_result : tie.Need-bounds-k-k
 array_copy_out_result c = search rules
 
-returns_2 : tie.Need-returns-2
+returns_2 : tie.Need-returns
 unfolding entries keywords_of keyword_start
-returns_2 c = listed_within _ c.before.if1.false []
+returns_2 c = listed_within _ c.if-k-ge36.false []
 
 pub listed_spec : {M : Type 1} → statement M
 listed_spec = tie.close (tie.spec returns mul_result array_copy_out_result returns_2)
