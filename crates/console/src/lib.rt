@@ -45,7 +45,7 @@ pub fn answer(text: &[u8]) {
 // # Standard input
 
 // How many bytes were read, and whether a read failed behind them.
-#[derive(Drop)]
+#[derive(Clone, Copy)]
 pub struct Taken {
     pub bytes: usize,
     pub failed: bool,

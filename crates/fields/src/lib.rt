@@ -147,7 +147,7 @@ pub fn exchange_run(s: &[u8], at: usize) -> usize
     i
 }
 
-#[derive(Drop)]
+#[derive(Clone, Copy)]
 pub enum CallRead {
     Call { end: usize, error: bool },
     Bad,
@@ -207,7 +207,7 @@ pub fn call_or_empty(s: &[u8], at: usize) -> CallRead
     call(s, at)
 }
 
-#[derive(Drop)]
+#[derive(Clone, Copy)]
 pub enum ModeRead {
     Mode(usize),
     Bad,
@@ -230,7 +230,7 @@ pub fn mode(s: &[u8], at: usize) -> ModeRead
     ModeRead::Mode(end)
 }
 
-#[derive(Drop)]
+#[derive(Clone, Copy)]
 pub enum ReportRead {
     Report(usize),
     Bad,
@@ -264,7 +264,7 @@ pub fn report(s: &[u8], at: usize) -> ReportRead
     ReportRead::Report(three)
 }
 
-#[derive(Drop)]
+#[derive(Clone, Copy)]
 pub enum SerialRead {
     Serial(usize),
     Bad,
@@ -301,7 +301,7 @@ pub fn serial(s: &[u8], at: usize) -> SerialRead
     SerialRead::Serial(four)
 }
 
-#[derive(Drop)]
+#[derive(Clone, Copy)]
 pub enum ExchangeRead {
     Exchange(usize),
     Bad,
@@ -320,7 +320,7 @@ pub fn exchange(s: &[u8], at: usize) -> ExchangeRead
     ExchangeRead::Exchange(end)
 }
 
-#[derive(Drop)]
+#[derive(Clone, Copy)]
 pub enum LocatorRead {
     Locator(usize),
     Bad,
@@ -368,7 +368,7 @@ pub fn locator_or_empty(s: &[u8], at: usize) -> LocatorRead
     locator(s, at)
 }
 
-#[derive(Drop)]
+#[derive(Clone, Copy)]
 pub enum MarkRead {
     Mark { set: bool, end: usize },
     Bad,

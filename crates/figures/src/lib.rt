@@ -13,7 +13,7 @@ ghost use Rattle.figures.specs.Figure.{date_at, long_date_at, time_at, minutes_o
 use fields::{ends, is_digit};
 
 // A time of day, as its four digits read.
-#[derive(Drop)]
+#[derive(Clone, Copy)]
 pub struct TimeOfDay {
     pub digits: u32,
 }
@@ -55,32 +55,32 @@ impl TimeOfDay {
     }
 }
 
-#[derive(Drop)]
+#[derive(Clone, Copy)]
 pub enum TimeMade {
     Time(TimeOfDay),
     Bad,
 }
 
-#[derive(Drop)]
+#[derive(Clone, Copy)]
 pub enum DateRead {
     Date(usize),
     Empty,
     Bad,
 }
 
-#[derive(Drop)]
+#[derive(Clone, Copy)]
 pub enum LongDateRead {
     Date(u32, usize),
     Bad,
 }
 
-#[derive(Drop)]
+#[derive(Clone, Copy)]
 pub enum TimeRead {
     Time(TimeOfDay, usize),
     Bad,
 }
 
-#[derive(Drop)]
+#[derive(Clone, Copy)]
 pub enum NumberRead {
     Number(u64, usize),
     Bad,
@@ -90,7 +90,7 @@ pub enum NumberRead {
 const U64_DIGITS: usize = 19;
 
 // Digits from a place on: what they write, and the place behind them.
-#[derive(Drop)]
+#[derive(Clone, Copy)]
 struct DigitsRead {
     value: u64,
     end: usize,

@@ -95,7 +95,7 @@ fn begins_in_any_case(word: &[u8], s: &[u8]) -> bool
 }
 
 // Whether a line begins with the keyword that is due and its `=`: as it is listed, with letters in their other case, or not at all.
-#[derive(Drop)]
+#[derive(Clone, Copy)]
 pub enum KeywordRead {
     Listed,
     Respelt,
@@ -145,7 +145,7 @@ fn is_band(k: usize, t: &[u8]) -> bool
 }
 
 // Whether a text is one of the fifteen names.
-#[derive(Drop)]
+#[derive(Clone, Copy)]
 pub enum BandRead {
     Listed,
     Differs,
@@ -165,7 +165,7 @@ pub fn band(t: &[u8]) -> BandRead
 }
 
 // Whether the argument of a keyword keeps its rule.
-#[derive(Drop)]
+#[derive(Clone, Copy)]
 pub enum ArgumentRead {
     Kept,
     Broken,

@@ -247,7 +247,7 @@ fn same_run(s: &[u8], a: usize, b: usize, n: usize) -> bool
 }
 
 // Where a repeat was found.
-#[derive(Drop)]
+#[derive(Clone, Copy)]
 enum Found {
     At(usize),
     Nothing,
@@ -339,7 +339,7 @@ fn new_square(s: &[u8], squares: &mut [u16], m: usize, a: usize, e: usize) -> bo
 // # One record
 
 // What was noted of a record: where its call, its exchange and its points begin, and where these end.
-#[derive(Drop)]
+#[derive(Clone, Copy)]
 struct Noted {
     call: usize,
     exchange: usize,
@@ -348,7 +348,7 @@ struct Noted {
 }
 
 // How many calls, squares and exchanges are kept.
-#[derive(Drop)]
+#[derive(Clone, Copy)]
 struct Kept {
     calls: usize,
     squares: usize,
@@ -356,7 +356,7 @@ struct Kept {
 }
 
 // What is said of a record, what it brings and by which mode, and what is kept after it. One that is not credited brings nothing, by no mode.
-#[derive(Drop)]
+#[derive(Clone, Copy)]
 struct Step {
     verdict: Verdict,
     worth: u64,
@@ -454,7 +454,7 @@ fn judge_next(
 
 // What the records come to so far, but for their modes. These are counted in a list beside it.
 #[repr(C)]
-#[derive(Drop)]
+#[derive(Clone, Copy)]
 pub struct Tally {
     pub credited: u64,
     pub voids: u64,
@@ -620,7 +620,7 @@ pub fn no_tally() -> Tally
 
 // The sums and the modes beside them.
 #[repr(C)]
-#[derive(Drop)]
+#[derive(Clone, Copy)]
 pub struct Sums {
     pub tally: Tally,
     pub modes: Modes,
@@ -817,7 +817,7 @@ pub fn totals_kept(s: Sums, d: Declared) -> Totals
 // How many records of each class there are, what is new with them, and their modes, in two bytes each. A caller who has no more room keeps these, and
 // the points in four.
 #[repr(C)]
-#[derive(Drop)]
+#[derive(Clone, Copy)]
 pub struct Counts {
     pub credited: u16,
     pub voids: u16,
@@ -839,7 +839,7 @@ pub struct Counts {
     pub blank: u16,
 }
 
-#[derive(Drop)]
+#[derive(Clone, Copy)]
 pub struct Counted {
     pub points: u32,
     pub counts: Counts,
@@ -1052,7 +1052,7 @@ fn walk_records(
 // # The log
 
 // What a log is judged to be, with how many records it has, where the first begins and what its header is like, for a caller that walks them again.
-#[derive(Drop)]
+#[derive(Clone, Copy)]
 pub enum Weighed {
     Refused(Refusal),
     Done {
@@ -1064,7 +1064,7 @@ pub enum Weighed {
 }
 
 // What a log is judged to be.
-#[derive(Drop)]
+#[derive(Clone, Copy)]
 pub enum Judged {
     Totals(Totals),
     Refused(Refusal),

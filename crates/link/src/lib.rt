@@ -20,7 +20,7 @@ use rules::{Due, Next, Refusal, Totals};
 // # The state
 
 #[repr(C)]
-#[derive(Drop)]
+#[derive(Clone, Copy)]
 pub struct Rated {
     pub squarebonus: u16,
     pub squaremultiplier: u16,
@@ -31,7 +31,7 @@ pub struct Rated {
 }
 
 #[repr(C)]
-#[derive(Drop)]
+#[derive(Clone, Copy)]
 pub struct Link {
     pub refusal: Refusal,
     pub count: u32,
@@ -645,7 +645,7 @@ pub fn fed(s: Link, bytes: &[u8], verdicts: &mut [u8], worked: &mut [u8]) -> Lin
 
 // # Closing
 
-#[derive(Drop)]
+#[derive(Clone, Copy)]
 pub struct Closing {
     pub link: Link,
     pub refusal: Refusal,

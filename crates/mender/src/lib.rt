@@ -24,7 +24,7 @@ use rules::{Due, Next, Refusal, Region};
 
 // A line of the log: where its text ends, behind which its CR and LF stand as far as they are there; where the next line begins; what has to be done
 // to its end, 0, 1 or 2; and whether every character of its text is allowed.
-#[derive(Drop)]
+#[derive(Clone, Copy)]
 pub struct Cut {
     pub end: usize,
     pub next: usize,
@@ -141,7 +141,7 @@ fn count_done(line: &[u8], follow: usize) -> u8
 
 // A line of the log as it is mended: where its text ends, unless its count is set; where the next line begins; what was done to its end, 0, 1 or 2,
 // and to its text, 0, 3 or 4; whether every character of the text is allowed; and where the next line lies.
-#[derive(Drop)]
+#[derive(Clone, Copy)]
 pub struct Laid {
     pub end: usize,
     pub next: usize,
@@ -309,7 +309,7 @@ fn laid_next(due: Due, s: &[u8], at: usize, l: Laid, follow: usize) -> Next
 }
 
 // How long the mended log and the list are, or why the mended log is refused.
-#[derive(Drop)]
+#[derive(Clone, Copy)]
 pub enum Checked {
     Sound { bytes: usize, listed: usize },
     Refused(Refusal),
@@ -462,7 +462,7 @@ fn put_lines(s: &[u8], total: usize, out: &mut [u8], kinds: &mut [u8], lines: &m
 // # The answer
 
 // How long the mended log and the list are, or why nothing was handed over.
-#[derive(Drop)]
+#[derive(Clone, Copy)]
 pub enum MendAnswer {
     Mended { length: usize, changes: usize },
     Refused(Refusal),

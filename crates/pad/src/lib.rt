@@ -24,7 +24,7 @@ use session::{Replied, Session};
 use writer::Wrote;
 
 #[repr(C)]
-#[derive(Drop)]
+#[derive(Clone, Copy)]
 pub struct SumpquinceRefusal {
     pub number: u32,
     pub line: u32,
@@ -32,7 +32,7 @@ pub struct SumpquinceRefusal {
 }
 
 #[repr(C)]
-#[derive(Drop)]
+#[derive(Clone, Copy)]
 pub struct SumpquinceReading {
     pub refusal: SumpquinceRefusal,
     pub records: u64,
@@ -40,7 +40,7 @@ pub struct SumpquinceReading {
 }
 
 #[repr(C)]
-#[derive(Drop)]
+#[derive(Clone, Copy)]
 pub struct SumpquinceView {
     pub refusal: SumpquinceRefusal,
     pub start: u64,
@@ -49,7 +49,7 @@ pub struct SumpquinceView {
 }
 
 #[repr(C)]
-#[derive(Drop)]
+#[derive(Clone, Copy)]
 pub struct SumpquinceJudgement {
     pub refusal: SumpquinceRefusal,
     pub credited: u64,
@@ -68,14 +68,14 @@ pub struct SumpquinceJudgement {
 }
 
 #[repr(C)]
-#[derive(Drop)]
+#[derive(Clone, Copy)]
 pub struct SumpquinceWritten {
     pub refusal: SumpquinceRefusal,
     pub length: u64,
 }
 
 #[repr(C)]
-#[derive(Drop)]
+#[derive(Clone, Copy)]
 pub struct SumpquinceMended {
     pub refusal: SumpquinceRefusal,
     pub length: u64,
@@ -83,7 +83,7 @@ pub struct SumpquinceMended {
 }
 
 #[repr(C)]
-#[derive(Drop)]
+#[derive(Clone, Copy)]
 pub struct SumpquinceDeclared {
     pub squarebonus: u32,
     pub squaremultiplier: u32,

@@ -18,7 +18,7 @@ use rules::Refusal;
 
 // The bonuses and multipliers that a log declares.
 #[repr(C)]
-#[derive(Drop)]
+#[derive(Clone, Copy)]
 pub struct Declared {
     pub squarebonus: u64,
     pub squaremultiplier: u64,
@@ -59,7 +59,7 @@ fn line_start(s: &[u8], i: usize) -> usize
 }
 
 // The bonus and the multiplier of one of the three arguments that have them.
-#[derive(Drop)]
+#[derive(Clone, Copy)]
 pub struct Rates {
     pub bonus: u64,
     pub multiplier: u64,
@@ -127,7 +127,7 @@ pub fn declared_at(s: &[u8], claims: usize) -> Declared
 }
 
 // A view: the argument's part of an accepted log, or why there is none.
-#[derive(Drop)]
+#[derive(Clone, Copy)]
 pub enum ViewRead {
     Seen {
         start: usize,

@@ -90,7 +90,7 @@ pub fn line_ends(s: &[u8], at: usize) -> bool
 }
 
 // Whether a line stands at a place, and where it ends, before its CR LF.
-#[derive(Drop)]
+#[derive(Clone, Copy)]
 pub enum LineRead {
     Line(usize),
     Missing,
@@ -148,7 +148,7 @@ pub fn semicolons(line: &[u8]) -> usize
 // # The record reader
 
 // Where the parts of a record begin and end, what they say, and where the record ends.
-#[derive(Drop)]
+#[derive(Clone, Copy)]
 pub struct Contact {
     pub call: usize,
     pub callend: usize,
@@ -178,7 +178,7 @@ fn third_is_error(s: &[u8], at: usize) -> bool
 }
 
 // Where the date of a record ends, if it may stand there: only an ERROR record may leave it empty.
-#[derive(Drop)]
+#[derive(Clone, Copy)]
 pub enum DatedRead {
     Dated(usize),
     Bad,
@@ -232,7 +232,7 @@ fn last_end(s: &[u8], at: usize) -> usize
 
 // The fields of a record where they lie, or the first of the fourteen in front that breaks its rule. What stands behind the last is for the
 // caller to look at.
-#[derive(Drop)]
+#[derive(Clone, Copy)]
 pub enum Parsed {
     Fields(Contact),
     Bad(u32),
@@ -325,7 +325,7 @@ pub fn parse(s: &[u8], at: usize) -> Parsed
 }
 
 // What is told where a record is due: where its parts lie, or the refusal's number and field.
-#[derive(Drop)]
+#[derive(Clone, Copy)]
 pub enum RecordRead {
     Kept(Contact),
     Stops { number: u32, field: u32 },
@@ -460,7 +460,7 @@ fn argument_step(k: usize, t: &[u8]) -> Next
 }
 
 // What follows from a line, and how many keywords are respelt so far, its own too.
-#[derive(Drop)]
+#[derive(Clone, Copy)]
 pub struct Stepped {
     pub next: Next,
     pub respelt: usize,
@@ -590,7 +590,7 @@ pub fn step(due: Due, line: &[u8]) -> Stepped
 // # A log as a whole
 
 // How many records are due behind the count line, or that it is not read yet.
-#[derive(Drop)]
+#[derive(Clone, Copy)]
 pub enum CountRead {
     Counted(usize),
     Further,
@@ -629,14 +629,14 @@ fn claims_by(due: Due, claims: usize, at: usize) -> usize
 }
 
 // What is told of the header: where the first of the nine claims begins, and how many keywords are not spelt as they are listed.
-#[derive(Drop)]
+#[derive(Clone, Copy)]
 pub struct Heading {
     pub claims: usize,
     pub respelt: usize,
 }
 
 // What is told in front of the records: how many there are, where the first begins, what the header is like, and the first record's line.
-#[derive(Drop)]
+#[derive(Clone, Copy)]
 pub enum HeadRead {
     Head {
         records: usize,
@@ -701,7 +701,7 @@ fn head(log: &[u8]) -> HeadRead
 }
 
 // What is answered of a log: how many records it has, where the first begins and what its header is like, or why it is refused.
-#[derive(Drop)]
+#[derive(Clone, Copy)]
 pub enum ReadAnswer {
     Accepted {
         records: usize,

@@ -7,7 +7,7 @@ ghost use Rattle.rules.specs.Rules.{base};
 
 // Why a log is refused, where, and in which field; number 0 says that nothing is refused.
 #[repr(C)]
-#[derive(Drop)]
+#[derive(Clone, Copy)]
 pub struct Refusal {
     pub number: u32,
     pub line: u32,
@@ -16,7 +16,7 @@ pub struct Refusal {
 
 // How many credited records there are by each mode: by its code, and with none.
 #[repr(C)]
-#[derive(Drop)]
+#[derive(Clone, Copy)]
 pub struct Modes {
     pub code0: u64,
     pub code1: u64,
@@ -32,7 +32,7 @@ pub struct Modes {
 }
 
 // What a judged log comes to.
-#[derive(Drop)]
+#[derive(Clone, Copy)]
 pub struct Totals {
     pub credited: u64,
     pub voids: u64,
@@ -50,7 +50,7 @@ pub struct Totals {
 }
 
 // What a record is worth.
-#[derive(Drop)]
+#[derive(Clone, Copy)]
 pub enum Class {
     Credited,
     Void,
@@ -59,7 +59,7 @@ pub enum Class {
 }
 
 // What is said of one record: its class, and what is new by it.
-#[derive(Drop)]
+#[derive(Clone, Copy)]
 pub struct Verdict {
     pub class: Class,
     pub exchange: bool,
@@ -68,7 +68,7 @@ pub struct Verdict {
 }
 
 // What the next line of a log has to be.
-#[derive(Drop)]
+#[derive(Clone, Copy)]
 pub enum Due {
     Identifier,
     // The keyword that comes after so many.
@@ -83,14 +83,14 @@ pub enum Due {
 }
 
 // What follows from a line: what is due after it, or why it is refused.
-#[derive(Drop)]
+#[derive(Clone, Copy)]
 pub enum Next {
     Goes(Due),
     Stops { number: u32, field: u32 },
 }
 
 // Where a line of a chewed log lies, as far as one can tell from the lines in front of it.
-#[derive(Drop)]
+#[derive(Clone, Copy)]
 pub enum Region {
     // In front of `[Remarks]`, or that line itself.
     Head,

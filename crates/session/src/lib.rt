@@ -320,7 +320,7 @@ fn verdict_of(
 }
 
 // What is told of a line that was taken, what it is worth, the byte of its mode and the number of its verdict; or why it was not.
-#[derive(Drop)]
+#[derive(Clone, Copy)]
 pub struct LineKept {
     pub refusal: Refusal,
     pub worth: u64,
@@ -420,14 +420,14 @@ pub fn keep_line(
 
 // What was declared, and what the records now present come to.
 #[repr(C)]
-#[derive(Drop)]
+#[derive(Clone, Copy)]
 pub struct Session {
     pub declared: Declared,
     pub sums: Sums,
 }
 
 // The session after a call, and why the call was refused, if it was.
-#[derive(Drop)]
+#[derive(Clone, Copy)]
 pub struct Replied {
     pub session: Session,
     pub refusal: Refusal,

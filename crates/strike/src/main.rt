@@ -62,7 +62,7 @@ fn take_words(struck: &mut Marks) -> bool {
 // # Judging what is left
 
 // What judging comes to: the total, or why there is none.
-#[derive(Drop)]
+#[derive(Clone, Copy)]
 enum Left {
     Total(u64),
     Refused(Refusal),
@@ -219,13 +219,13 @@ fn put_strike(
 // # The strikes
 
 // How far the lines go, and what the total is then.
-#[derive(Drop)]
+#[derive(Clone, Copy)]
 struct Lines {
     end: usize,
     total: u64,
 }
 
-#[derive(Drop)]
+#[derive(Clone, Copy)]
 enum Told {
     Lines(Lines),
     Refused(Refusal),

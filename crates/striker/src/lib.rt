@@ -57,7 +57,7 @@ fn bytes_kept(struck: bool, start: usize, next: usize) -> usize
 }
 
 // What is left of the records: how many there are, and how many bytes their lines take.
-#[derive(Drop)]
+#[derive(Clone, Copy)]
 struct Left {
     records: usize,
     bytes: usize,

@@ -79,7 +79,7 @@ pub fn mark(word: &[u8], struck: &mut [u8]) -> bool
 }
 
 // What a word names of a header: the keyword of this number, from 1, or nothing. A number that no keyword has is handed on as it is.
-#[derive(Drop)]
+#[derive(Clone, Copy)]
 pub enum Named {
     Keyword(usize),
     Nothing,

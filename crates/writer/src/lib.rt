@@ -393,7 +393,7 @@ fn respell(out: &mut [u8], respelt: usize)
 // # The log
 
 // How long the result is, or why nothing was written.
-#[derive(Drop)]
+#[derive(Clone, Copy)]
 pub enum Wrote {
     Length(usize),
     Refused(Refusal),
