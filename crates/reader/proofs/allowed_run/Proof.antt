@@ -10,155 +10,156 @@ use Rattle.reader.proofs.LineLaws.{run_on}
 use Rattle.reader.proofs.allowed_run.Statement.{statement}
 use Rattle.reader.proofs.allowed_run.Tie as tie
 
-abbrev invariant-loop : tie.invariant-loop
+
+abbrev invariant-loop : tie.invariant-loop-i
 invariant-loop s at i₀ i = (i ≤ length s) × Within allowed s at i
 
-abbrev decreases-loop : tie.decreases-loop
+abbrev decreases-loop : tie.decreases-loop-i
 decreases-loop s at i₀ i = length s - i
 
 -- The text, its first place and the present one, behind each of the four characters.
-abbrev text2 : tie.Else2 invariant-loop decreases-loop → Text
-text2 c = let l = c.before.before.before.before in l.before.before.before.args.s.now
+abbrev text2 : tie.Else-not-is_allowed invariant-loop decreases-loop → Text
+text2 c = let l = c.before.before.before.before in l.args.s.now
 
-abbrev first2 : tie.Else2 invariant-loop decreases-loop → ℕ
-first2 c = let l = c.before.before.before.before in l.before.before.before.args.at
+abbrev first2 : tie.Else-not-is_allowed invariant-loop decreases-loop → ℕ
+first2 c = let l = c.before.before.before.before in l.args.at
 
-abbrev here2 : tie.Else2 invariant-loop decreases-loop → ℕ
-here2 c = c.before.before.before.before.loop.i
+abbrev here2 : tie.Else-not-is_allowed invariant-loop decreases-loop → ℕ
+here2 c = c.loop-i.i
 
-room2 : (c : tie.Else2 invariant-loop decreases-loop) → here2 c + 3 < length (text2 c)
-room2 c = c.before.before.before.loop-test.true
+room2 : (c : tie.Else-not-is_allowed invariant-loop decreases-loop) → here2 c + 3 < length (text2 c)
+room2 c = c.loop-i-test.true
 
-run2 : (c : tie.Else2 invariant-loop decreases-loop) → Within allowed (text2 c) (first2 c) (here2 c + 1)
+run2 : (c : tie.Else-not-is_allowed invariant-loop decreases-loop) → Within allowed (text2 c) (first2 c) (here2 c + 1)
 run2 c =
-    run_on c.before.before.before.before.loop.invariant.1 (omega (arith, room2 c)) c.before.is_allowed.ensures c.if2.false refl
+    run_on c.loop-i.invariant.1 (omega (arith, room2 c)) c.is_allowed.ensures c.if-not-is_allowed.false-raw refl
 
-abbrev text3 : tie.Else3 invariant-loop decreases-loop → Text
+abbrev text3 : tie.Else-not-is_allowed-2 invariant-loop decreases-loop → Text
 text3 c = text2 c.before.before.before
 
-abbrev first3 : tie.Else3 invariant-loop decreases-loop → ℕ
+abbrev first3 : tie.Else-not-is_allowed-2 invariant-loop decreases-loop → ℕ
 first3 c = first2 c.before.before.before
 
-abbrev here3 : tie.Else3 invariant-loop decreases-loop → ℕ
+abbrev here3 : tie.Else-not-is_allowed-2 invariant-loop decreases-loop → ℕ
 here3 c = here2 c.before.before.before
 
-room3 : (c : tie.Else3 invariant-loop decreases-loop) → here3 c + 3 < length (text3 c)
+room3 : (c : tie.Else-not-is_allowed-2 invariant-loop decreases-loop) → here3 c + 3 < length (text3 c)
 room3 c = room2 c.before.before.before
 
-run3 : (c : tie.Else3 invariant-loop decreases-loop) → Within allowed (text3 c) (first3 c) (here3 c + 2)
+run3 : (c : tie.Else-not-is_allowed-2 invariant-loop decreases-loop) → Within allowed (text3 c) (first3 c) (here3 c + 2)
 run3 c =
-    run_on (run2 c.before.before.before) (omega (arith, room3 c)) c.before.is-allowed2.ensures c.if3.false (omega arith)
+    run_on (run2 c.before.before.before) (omega (arith, room3 c)) c.is_allowed-in-loop-i.ensures c.if-not-is_allowed-2.false-raw (omega arith)
 
-abbrev text4 : tie.Else4 invariant-loop decreases-loop → Text
+abbrev text4 : tie.Else-not-is_allowed-3 invariant-loop decreases-loop → Text
 text4 c = text3 c.before.before.before
 
-abbrev first4 : tie.Else4 invariant-loop decreases-loop → ℕ
+abbrev first4 : tie.Else-not-is_allowed-3 invariant-loop decreases-loop → ℕ
 first4 c = first3 c.before.before.before
 
-abbrev here4 : tie.Else4 invariant-loop decreases-loop → ℕ
+abbrev here4 : tie.Else-not-is_allowed-3 invariant-loop decreases-loop → ℕ
 here4 c = here3 c.before.before.before
 
-room4 : (c : tie.Else4 invariant-loop decreases-loop) → here4 c + 3 < length (text4 c)
+room4 : (c : tie.Else-not-is_allowed-3 invariant-loop decreases-loop) → here4 c + 3 < length (text4 c)
 room4 c = room3 c.before.before.before
 
-run4 : (c : tie.Else4 invariant-loop decreases-loop) → Within allowed (text4 c) (first4 c) (here4 c + 3)
+run4 : (c : tie.Else-not-is_allowed-3 invariant-loop decreases-loop) → Within allowed (text4 c) (first4 c) (here4 c + 3)
 run4 c =
-    run_on (run3 c.before.before.before) (omega (arith, room4 c)) c.before.is-allowed3.ensures c.if4.false (omega arith)
+    run_on (run3 c.before.before.before) (omega (arith, room4 c)) c.is_allowed-in-loop-i-2.ensures c.if-not-is_allowed-3.false-raw (omega arith)
 
-abbrev text5 : tie.Else5 invariant-loop decreases-loop → Text
+abbrev text5 : tie.Else-not-is_allowed-4 invariant-loop decreases-loop → Text
 text5 c = text4 c.before.before.before
 
-abbrev first5 : tie.Else5 invariant-loop decreases-loop → ℕ
+abbrev first5 : tie.Else-not-is_allowed-4 invariant-loop decreases-loop → ℕ
 first5 c = first4 c.before.before.before
 
-abbrev here5 : tie.Else5 invariant-loop decreases-loop → ℕ
+abbrev here5 : tie.Else-not-is_allowed-4 invariant-loop decreases-loop → ℕ
 here5 c = here4 c.before.before.before
 
-room5 : (c : tie.Else5 invariant-loop decreases-loop) → here5 c + 3 < length (text5 c)
+room5 : (c : tie.Else-not-is_allowed-4 invariant-loop decreases-loop) → here5 c + 3 < length (text5 c)
 room5 c = room4 c.before.before.before
 
-run5 : (c : tie.Else5 invariant-loop decreases-loop) → Within allowed (text5 c) (first5 c) (here5 c + 4)
+run5 : (c : tie.Else-not-is_allowed-4 invariant-loop decreases-loop) → Within allowed (text5 c) (first5 c) (here5 c + 4)
 run5 c =
-    run_on (run4 c.before.before.before) (omega (arith, room5 c)) c.before.is-allowed4.ensures c.if5.false (omega arith)
+    run_on (run4 c.before.before.before) (omega (arith, room5 c)) c.is_allowed-in-loop-i-3.ensures c.if-not-is_allowed-4.false-raw (omega arith)
 
-returns : tie.Need-returns invariant-loop decreases-loop
-returns c = run_ends (run_starts allowed _ _) c.if1.true
+returns : tie.Need-returns-then-s-at invariant-loop decreases-loop
+returns c = run_ends (run_starts allowed _ _) c.if-s-at.true
 
-loop_holds : tie.Need-loop-init invariant-loop decreases-loop
+loop_holds : tie.Need-loop-i-init invariant-loop decreases-loop
 loop_holds c = (search rules, run_starts allowed _ _)
 
-add_loop : tie.Need-overflow-add-loop invariant-loop decreases-loop
+add_loop : tie.Need-overflow_add-i invariant-loop decreases-loop
 add_loop c = search rules
 
-shared_slice_read_is_allowed : tie.Need-shared-slice-read-is_allowed invariant-loop decreases-loop
+shared_slice_read_is_allowed : tie.Need-bounds-s-i invariant-loop decreases-loop
 shared_slice_read_is_allowed c = search rules
 
 is_allowed_requires : tie.Need-is_allowed-requires invariant-loop decreases-loop
 is_allowed_requires c κs = search rules
 
-returns_2 : tie.Need-returns-2 invariant-loop decreases-loop
+returns_2 : tie.Need-returns-then-not-is_allowed invariant-loop decreases-loop
 returns_2 c =
-    run_stops c.before.before.before.before.loop.invariant.1 (omega (arith, c.before.before.before.loop-test.true)) c.before.is_allowed.ensures c.if2.true
+    run_stops c.loop-i.invariant.1 (omega (arith, c.loop-i-test.true)) c.is_allowed.ensures c.if-not-is_allowed.true-raw
 
-add_is_allowed : tie.Need-overflow-add-is_allowed invariant-loop decreases-loop
+add_is_allowed : tie.Need-overflow_add-i-in-loop-i invariant-loop decreases-loop
 add_is_allowed c = search rules
 
-shared_slice_read_is_allowed_2 : tie.Need-shared-slice-read-is_allowed-2 invariant-loop decreases-loop
+shared_slice_read_is_allowed_2 : tie.Need-bounds-s-i-in-loop-i invariant-loop decreases-loop
 shared_slice_read_is_allowed_2 c = search rules
 
-is_allowed_requires_2 : tie.Need-is_allowed-requires-2 invariant-loop decreases-loop
+is_allowed_requires_2 : tie.Need-is_allowed-requires-in-loop-i invariant-loop decreases-loop
 is_allowed_requires_2 c κs = search rules
 
-add_result : tie.Need-overflow-add-result invariant-loop decreases-loop
+add_result : tie.Need-overflow_add-result invariant-loop decreases-loop
 add_result c = search rules
 
-returns_3 : tie.Need-returns-3 invariant-loop decreases-loop
-returns_3 c = run_stops (run2 c.before.before.before) (omega (arith, room2 c.before.before.before)) c.before.is-allowed2.ensures c.if3.true
+returns_3 : tie.Need-returns-then-not-is_allowed-2 invariant-loop decreases-loop
+returns_3 c = run_stops (run2 c.before.before.before) (omega (arith, room2 c.before.before.before)) c.is_allowed-in-loop-i.ensures c.if-not-is_allowed-2.true-raw
 
-add_is_allowed_2 : tie.Need-overflow-add-is_allowed-2 invariant-loop decreases-loop
+add_is_allowed_2 : tie.Need-overflow_add-i-in-loop-i-2 invariant-loop decreases-loop
 add_is_allowed_2 c = search rules
 
-shared_slice_read_is_allowed_3 : tie.Need-shared-slice-read-is_allowed-3 invariant-loop decreases-loop
+shared_slice_read_is_allowed_3 : tie.Need-bounds-s-i-in-loop-i-2 invariant-loop decreases-loop
 shared_slice_read_is_allowed_3 c = search rules
 
-is_allowed_requires_3 : tie.Need-is_allowed-requires-3 invariant-loop decreases-loop
+is_allowed_requires_3 : tie.Need-is_allowed-requires-in-loop-i-2 invariant-loop decreases-loop
 is_allowed_requires_3 c κs = search rules
 
-add_result_2 : tie.Need-overflow-add-result-2 invariant-loop decreases-loop
+add_result_2 : tie.Need-overflow_add-result-then-not-is_allowed-3 invariant-loop decreases-loop
 add_result_2 c = search rules
 
-returns_4 : tie.Need-returns-4 invariant-loop decreases-loop
-returns_4 c = run_stops (run3 c.before.before.before) (omega (arith, room3 c.before.before.before)) c.before.is-allowed3.ensures c.if4.true
+returns_4 : tie.Need-returns-then-not-is_allowed-3 invariant-loop decreases-loop
+returns_4 c = run_stops (run3 c.before.before.before) (omega (arith, room3 c.before.before.before)) c.is_allowed-in-loop-i-2.ensures c.if-not-is_allowed-3.true-raw
 
-add_is_allowed_3 : tie.Need-overflow-add-is_allowed-3 invariant-loop decreases-loop
+add_is_allowed_3 : tie.Need-overflow_add-i-in-loop-i-3 invariant-loop decreases-loop
 add_is_allowed_3 c = search rules
 
-shared_slice_read_is_allowed_4 : tie.Need-shared-slice-read-is_allowed-4 invariant-loop decreases-loop
+shared_slice_read_is_allowed_4 : tie.Need-bounds-s-i-in-loop-i-3 invariant-loop decreases-loop
 shared_slice_read_is_allowed_4 c = search rules
 
-is_allowed_requires_4 : tie.Need-is_allowed-requires-4 invariant-loop decreases-loop
+is_allowed_requires_4 : tie.Need-is_allowed-requires-in-loop-i-3 invariant-loop decreases-loop
 is_allowed_requires_4 c κs = search rules
 
-add_result_3 : tie.Need-overflow-add-result-3 invariant-loop decreases-loop
+add_result_3 : tie.Need-overflow_add-result-then-not-is_allowed-4 invariant-loop decreases-loop
 add_result_3 c = search rules
 
-returns_5 : tie.Need-returns-5 invariant-loop decreases-loop
-returns_5 c = run_stops (run4 c.before.before.before) (omega (arith, room4 c.before.before.before)) c.before.is-allowed4.ensures c.if5.true
+returns_5 : tie.Need-returns-then-not-is_allowed-4 invariant-loop decreases-loop
+returns_5 c = run_stops (run4 c.before.before.before) (omega (arith, room4 c.before.before.before)) c.is_allowed-in-loop-i-3.ensures c.if-not-is_allowed-4.true-raw
 
-add_i : tie.Need-overflow-add-i invariant-loop decreases-loop
+add_i : tie.Need-overflow_add-i-in-loop-i-4 invariant-loop decreases-loop
 add_i c = search rules
 
-loop_less : tie.Need-loop-smaller invariant-loop decreases-loop
+loop_less : tie.Need-loop-i-smaller invariant-loop decreases-loop
 loop_less c = search rules
 
-loop_again : tie.Need-loop-preserved invariant-loop decreases-loop
+loop_again : tie.Need-loop-i-preserved invariant-loop decreases-loop
 loop_again c = (omega (arith, room5 c), run5 c)
 
 allowed_tail_requires : tie.Need-allowed_tail-requires invariant-loop decreases-loop
 allowed_tail_requires c κs = search rules
 
-returns_6 : tie.Need-returns-6 invariant-loop decreases-loop
-returns_6 c = c.allowed_tail.ensures ∙ sym c.before.before.loop.invariant.1.ending
+returns_6 : tie.Need-returns invariant-loop decreases-loop
+returns_6 c = c.allowed_tail.ensures ∙ sym c.loop-i.invariant.1.ending
 
 pub allowed_run_spec : {M : Type 1} → statement M
 allowed_run_spec =

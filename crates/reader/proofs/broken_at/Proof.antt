@@ -8,39 +8,40 @@ use Rattle.reader.proofs.ParseLaws.{broken_line, broken_missing, ends_there, goe
 use Rattle.reader.proofs.broken_at.Statement.{statement}
 use Rattle.reader.proofs.broken_at.Tie as tie
 
+
 -- The line that was found.
-found : (c : tie.After-known-told) → Stood base c.before.before.before.before.before.args.s.now c.before.before.before.before.before.args.at c.before.end.given.0.0
-found c = stood base _ _ (sym c.before.before.before.line_end.ensures ∙ c.before.end.given.1)
+found : (c : tie.In-Line) → Stood base c.args.s.now c.args.at c.in-Line.end
+found c = stood base _ _ (sym c.line_end.ensures ∙ c.in-Line.is)
 
 line_end_requires : tie.Need-line_end-requires
 line_end_requires c κs = search rules
 
-enum_known_end : tie.Need-enum-known-end
+enum_known_end : tie.Need-enum_known-end
 enum_known_end c = search rules
 
-enum_told : tie.Need-enum-told
+enum_told : tie.Need-enum_told-1
 enum_told c = search rules
 
-returns : tie.Need-returns
-returns c = broken_missing base _ _ _ (sym c.before.before.before.line_end.ensures ∙ c.before.enum_told.given.1) (goes_on_there _ _ c.if1.true)
+returns : tie.Need-returns-then-at-s
+returns c = broken_missing base _ _ _ (sym c.line_end.ensures ∙ c.in_default.is) (goes_on_there _ _ c.if-at-s.true)
 
-returns_2 : tie.Need-returns-2
-returns_2 c = broken_missing base _ _ _ (sym c.before.before.before.line_end.ensures ∙ c.before.enum_told.given.1) (ends_there _ _ c.if1.false)
+returns_2 : tie.Need-returns-in_default
+returns_2 c = broken_missing base _ _ _ (sym c.line_end.ensures ∙ c.in_default.is) (ends_there _ _ c.if-at-s.false)
 
-sub_broken : tie.Need-overflow-sub-broken
+sub_broken : tie.Need-slice_bounds-broken-count
 sub_broken c = (found c).behind
 
-part_broken_start : tie.Need-slice-bounds-broken-start
+part_broken_start : tie.Need-slice_bounds-broken-start
 part_broken_start c = (found c).behind
 
-part_broken_end : tie.Need-slice-bounds-broken-end
+part_broken_end : tie.Need-slice_bounds-broken-end
 part_broken_end c = omega (arith, (found c).within)
 
 broken_requires : tie.Need-broken-requires
 broken_requires c κs = search rules
 
-returns_3 : tie.Need-returns-3
-returns_3 c = c.broken.ensures ∙ broken_line base _ _ _ (sym c.before.before.before.before.before.line_end.ensures ∙ c.before.before.before.end.given.1)
+returns_3 : tie.Need-returns
+returns_3 c = c.broken.ensures ∙ broken_line base _ _ _ (sym c.line_end.ensures ∙ c.in-Line.is)
 
 pub broken_at_spec : {M : Type 1} → statement M
 broken_at_spec =

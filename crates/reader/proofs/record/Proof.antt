@@ -6,29 +6,30 @@ use Rattle.reader.proofs.ParseLaws.{bad_alone, kept_alone, late_alone}
 use Rattle.reader.proofs.record.Statement.{statement}
 use Rattle.reader.proofs.record.Tie as tie
 
-parse_requires : tie.Need-parse-requires
+
+parse_requires : tie.Need-parse-read-requires
 parse_requires c κs = search rules
 
-enum_known_read : tie.Need-enum-known-read
+enum_known_read : tie.Need-enum_known-read
 enum_known_read c = search rules
 
 broken_requires : tie.Need-broken-requires
 broken_requires c κs = search rules
 
-enum_known_read_2 : tie.Need-enum-known-read-2
+enum_known_read_2 : tie.Need-enum_known-read-in-Fields-1
 enum_known_read_2 c = search rules
 
-returns : tie.Need-returns
-returns c = kept_alone base _ (sym c.before.before.before.before.before.parse.ensures ∙ c.before.before.before.read2.given.1) c.if1.true
+returns : tie.Need-returns-then-c-line
+returns c = kept_alone base _ (sym c.parse-read.ensures ∙ c.in-Fields.is) c.if-c-line.true
 
-broken_requires_2 : tie.Need-broken-requires-2
+broken_requires_2 : tie.Need-broken-requires-in-Fields
 broken_requires_2 c κs = search rules
 
-returns_2 : tie.Need-returns-2
-returns_2 c = c.broken.ensures ∙ bad_alone base _ (sym c.before.before.before.before.parse.ensures ∙ c.before.before.read.given.1)
+returns_2 : tie.Need-returns-in-Bad
+returns_2 c = c.broken.ensures ∙ bad_alone base _ (sym c.parse-read.ensures ∙ c.in-Bad.is)
 
-returns_3 : tie.Need-returns-3
-returns_3 c = c.broken2.ensures ∙ late_alone base _ (sym c.before.before.before.before.before.before.parse.ensures ∙ c.before.before.before.before.read2.given.1) c.before.if1.false
+returns_3 : tie.Need-returns-else-c-line
+returns_3 c = c.broken-in-Fields.ensures ∙ late_alone base _ (sym c.parse-read.ensures ∙ c.in-Fields.is) c.if-c-line.false
 
 pub record_spec : {M : Type 1} → statement M
 record_spec =

@@ -7,29 +7,30 @@ use Rattle.reader.proofs.DueLaws.{record_bad, record_last, record_next_lem}
 use Rattle.reader.proofs.record_step.Statement.{statement}
 use Rattle.reader.proofs.record_step.Tie as tie
 
-record_requires : tie.Need-record-requires
+
+record_requires : tie.Need-record-read-requires
 record_requires c κs = search rules
 
-enum_known_read : tie.Need-enum-known-read
+enum_known_read : tie.Need-enum_known-read
 enum_known_read c = search rules
 
-enum_told : tie.Need-enum-told
+enum_told : tie.Need-enum_told-1
 enum_told c = search rules
 
-returns : tie.Need-returns
-returns c = record_last base _ _ (sym c.before.before.before.«record».ensures ∙ c.before.enum_told.given.1) c.if1.true
+returns : tie.Need-returns-then-n-eq0
+returns c = record_last base _ _ (sym c.record-read.ensures ∙ c.in-Kept.is) c.if-n-eq0.true
 
-sub_records_due : tie.Need-overflow-sub-records_due
-sub_records_due c = omega (arith, c.if1.false)
+sub_records_due : tie.Need-overflow_sub-n
+sub_records_due c = omega (arith, c.if-n-eq0.false)
 
 records_due_requires : tie.Need-records_due-requires
 records_due_requires c κs = search rules
 
-returns_2 : tie.Need-returns-2
-returns_2 c = record_bad base _ _ (sym c.before.before.before.«record».ensures ∙ c.before.read.given.1)
+returns_2 : tie.Need-returns-in-Stops
+returns_2 c = record_bad base _ _ (sym c.record-read.ensures ∙ c.in-Stops.is)
 
-returns_3 : tie.Need-returns-3
-returns_3 c = record_next_lem base _ _ (sym c.before.before.before.before.«record».ensures ∙ c.before.before.enum_told.given.1) c.records_due.ensures
+returns_3 : tie.Need-returns-else-n-eq0
+returns_3 c = record_next_lem base _ _ (sym c.record-read.ensures ∙ c.in-Kept.is) c.records_due.ensures
 
 pub record_step_spec : {M : Type 1} → statement M
 record_step_spec =

@@ -7,40 +7,36 @@ use Rattle.reader.proofs.DueLaws.{count_long, count_line, a_remark}
 use Rattle.reader.proofs.remark_step.Statement.{statement}
 use Rattle.reader.proofs.remark_step.Tie as tie
 
-slice_aggregate_begins_with : tie.Need-slice-aggregate-begins_with
-slice_aggregate_begins_with c = search rules
-
 begins_with_requires : tie.Need-begins_with-requires
 begins_with_requires c κs = search rules
 
-sub_count_step : tie.Need-overflow-sub-count_step
+sub_count_step : tie.Need-slice_bounds-count_step-count
 unfolding count_start
-sub_count_step c = count_long base _ (sym c.before.begins_with.ensures ∙ c.if1.true)
+sub_count_step c = count_long base _ (sym c.begins_with.ensures ∙ c.if-begins_with.true)
 
-part_count_step_start : tie.Need-slice-bounds-count_step-start
+part_count_step_start : tie.Need-slice_bounds-count_step-start
 unfolding count_start
-part_count_step_start c = count_long base _ (sym c.before.begins_with.ensures ∙ c.if1.true)
+part_count_step_start c = count_long base _ (sym c.begins_with.ensures ∙ c.if-begins_with.true)
 
-part_count_step_end : tie.Need-slice-bounds-count_step-end
+part_count_step_end : tie.Need-slice_bounds-count_step-end
 part_count_step_end c = search rules
 
 count_step_requires : tie.Need-count_step-requires
 count_step_requires c κs = search rules
 
-returns : tie.Need-returns
+returns : tie.Need-returns-then-begins_with
 unfolding count_start
 returns c =
-    count_line base _ (sym c.before.before.before.begins_with.ensures ∙ c.before.before.if1.true) c.count_step.ensures
+    count_line base _ (sym c.begins_with.ensures ∙ c.if-begins_with.true) c.count_step.ensures
 
-returns_2 : tie.Need-returns-2
+returns_2 : tie.Need-returns
 unfolding count_start
-returns_2 c = a_remark base _ (sym c.before.begins_with.ensures ∙ c.if1.false)
+returns_2 c = a_remark base _ (sym c.begins_with.ensures ∙ c.if-begins_with.false)
 
 pub remark_step_spec : {M : Type 1} → statement M
 remark_step_spec =
     tie.close
     (tie.spec
-    slice_aggregate_begins_with
     begins_with_requires
     sub_count_step
     part_count_step_start

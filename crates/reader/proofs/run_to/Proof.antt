@@ -10,35 +10,36 @@ use Rattle.reader.specs.Line.{other_than}
 use Rattle.reader.proofs.run_to.Statement.{statement}
 use Rattle.reader.proofs.run_to.Tie as tie
 
-abbrev invariant-loop : tie.invariant-loop
+
+abbrev invariant-loop : tie.invariant-loop-i
 invariant-loop s at b i₀ i = Within (other_than b) s at i
 
-abbrev decreases-loop : tie.decreases-loop
+abbrev decreases-loop : tie.decreases-loop-i
 decreases-loop s at b i₀ i = length s - i
 
-loop_holds : tie.Need-loop-init invariant-loop decreases-loop
+loop_holds : tie.Need-loop-i-init invariant-loop decreases-loop
 loop_holds c = run_starts (other_than c.args.b) _ _
 
-shared_slice_read_if1 : tie.Need-shared-slice-read-if1 invariant-loop decreases-loop
+shared_slice_read_if1 : tie.Need-bounds-s-i invariant-loop decreases-loop
 shared_slice_read_if1 c = search rules
 
-returns : tie.Need-returns invariant-loop decreases-loop
+returns : tie.Need-returns-then-s-i invariant-loop decreases-loop
 returns c =
-    run_stops c.before.before.before.loop.invariant c.before.before.loop-test.true refl (ap (λ (b : Bool). not (not b)) (eq-eqb _ _ c.if1.true))
+    run_stops c.loop-i.invariant c.loop-i-test.true refl (ap (λ (b : Bool). not (not b)) (eq-eqb _ _ c.if-s-i.true))
 
-add_i : tie.Need-overflow-add-i invariant-loop decreases-loop
+add_i : tie.Need-overflow_add-i invariant-loop decreases-loop
 add_i c = search rules
 
-loop_less : tie.Need-loop-smaller invariant-loop decreases-loop
+loop_less : tie.Need-loop-i-smaller invariant-loop decreases-loop
 loop_less c = search rules
 
-loop_again : tie.Need-loop-preserved invariant-loop decreases-loop
+loop_again : tie.Need-loop-i-preserved invariant-loop decreases-loop
 loop_again c =
-    run_more c.before.before.before.loop.invariant c.before.before.loop-test.true refl (ap (λ (b : Bool). not (not b)) (ne_eqb _ _ c.if1.false))
+    run_more c.loop-i.invariant c.loop-i-test.true refl (ap (λ (b : Bool). not (not b)) (ne_eqb _ _ c.if-s-i.false))
 
-returns_2 : tie.Need-returns-2 invariant-loop decreases-loop
+returns_2 : tie.Need-returns invariant-loop decreases-loop
 returns_2 c =
-    run_ends c.before.loop.invariant c.loop-test.false
+    run_ends c.loop-i.invariant c.loop-i-test.false
 
 pub run_to_spec : {M : Type 1} → statement M
 run_to_spec =

@@ -6,30 +6,31 @@ use Rattle.reader.proofs.FirstLaws.{points_bad, points_left, points_none, points
 use Rattle.reader.proofs.scored.Statement.{statement}
 use Rattle.reader.proofs.scored.Tie as tie
 
+
 points_requires : tie.Need-points-requires
 points_requires c κs = search rules
 
-enum_known_worth : tie.Need-enum-known-worth
+enum_known_worth : tie.Need-enum_known-worth
 enum_known_worth c = search rules
 
-enum_told : tie.Need-enum-told
+enum_told : tie.Need-enum_told-1
 enum_told c = search rules
 
-returns : tie.Need-returns
+returns : tie.Need-returns-in_default
 unfolding base
-returns c = points_bad base _ _ _ (sym c.before.before.points.ensures ∙ c.enum_told.given.1)
+returns c = points_bad base _ _ _ (sym c.points.ensures ∙ c.in_default.is)
 
-returns_2 : tie.Need-returns-2
+returns_2 : tie.Need-returns-then-not-error
 unfolding base
-returns_2 c = points_plain base _ _ _ (sym c.before.before.before.before.points.ensures ∙ c.before.before.worth.given.1) c.if1.true
+returns_2 c = points_plain base _ _ _ (sym c.points.ensures ∙ c.in-Number.is) c.if-not-error.true-raw
 
-returns_3 : tie.Need-returns-3
+returns_3 : tie.Need-returns-then-worth-eq0
 unfolding base
-returns_3 c = points_none base _ _ _ (sym c.before.before.before.before.before.points.ensures ∙ c.before.before.before.worth.given.1) c.if2.true
+returns_3 c = points_none base _ _ _ (sym c.points.ensures ∙ c.in-Number.is) c.if-worth-eq0.true
 
-returns_4 : tie.Need-returns-4
+returns_4 : tie.Need-returns
 unfolding base
-returns_4 c = points_left base _ _ _ (sym c.before.before.before.before.before.points.ensures ∙ c.before.before.before.worth.given.1) c.before.if1.false c.if2.false
+returns_4 c = points_left base _ _ _ (sym c.points.ensures ∙ c.in-Number.is) c.if-not-error.false-raw c.if-worth-eq0.false
 
 pub scored_spec : {M : Type 1} → statement M
 scored_spec =

@@ -9,24 +9,25 @@ use Rattle.reader.proofs.NotedLaws.{records_listed, records_read, refused_listed
 use Rattle.reader.proofs.survey.Statement.{statement}
 use Rattle.reader.proofs.survey.Tie as tie
 
--- The places of the code: the start, behind the head, and behind the records.
-abbrev start : tie.After-known-told2 → tie.Start
-start d = d.before.before.before.before.before.before.before.before.before.before
 
-abbrev led_to : tie.After-survey_records → tie.After-known-told2
+-- The places of the code: the start, behind the head, and behind the records.
+abbrev start : tie.In-Head → tie.Start
+start d = d.before.before.before.before.before.before.before.before
+
+abbrev led_to : tie.After-survey_records → tie.In-Head
 led_to r = r.before.before.before.before.before.before
 
 -- The head that leads to the records.
-led : (d : tie.After-known-told2) → head_of base (start d).args.log.now ≡ HeadRead.Head d.before.told2.given.0.0 d.before.told2.given.0.1.0 d.before.told2.given.0.1.1.0 d.before.told2.given.0.1.1.1.0
-led d = sym d.before.before.before.head.ensures ∙ d.before.told2.given.1
+led : (d : tie.In-Head) → head_of base (start d).args.log.now ≡ HeadRead.Head d.in-Head.records d.in-Head.first d.in-Head.heading d.in-Head.line
+led d = sym d.head-told.ensures ∙ d.in-Head.is
 
-head_requires : tie.Need-head-requires
+head_requires : tie.Need-head-told-requires
 head_requires c κs = search rules
 
-enum_known_told : tie.Need-enum-known-told
+enum_known_told : tie.Need-enum_known-told
 enum_known_told c = search rules
 
-enum_known_told_2 : tie.Need-enum-known-told-2
+enum_known_told_2 : tie.Need-enum_known-told-in-Head-1
 enum_known_told_2 c = search rules
 
 survey_records_requires : tie.Need-survey_records-requires
@@ -34,9 +35,9 @@ survey_records_requires c κs =
     let q = head_begins base _ (led c.before.before.before.before.before) in
     (q.0.line, q.0.within, q.1)
 
-returns : tie.Need-returns
+returns : tie.Need-returns-in-Refused
 returns c =
-    let e = sym c.before.before.before.head.ensures ∙ c.before.told.given.1 in (
+    let e = sym c.head-told.ensures ∙ c.in-Refused.is in (
       refused_read base _ e,
       (
         refused_listed base _ e (λ d. d.call) _,
@@ -53,22 +54,22 @@ returns c =
       ),
     )
 
-same_length : tie.Need-same-length
+same_length : tie.Need-shape_of-calls
 same_length c = search rules
 
-same_length_2 : tie.Need-same-length-2
+same_length_2 : tie.Need-shape_of-exchanges
 same_length_2 c = search rules
 
-same_length_3 : tie.Need-same-length-3
+same_length_3 : tie.Need-shape_of-points
 same_length_3 c = search rules
 
-same_length_4 : tie.Need-same-length-4
+same_length_4 : tie.Need-shape_of-pointsends
 same_length_4 c = search rules
 
-same_length_5 : tie.Need-same-length-5
+same_length_5 : tie.Need-shape_of-ends
 same_length_5 c = search rules
 
-returns_2 : tie.Need-returns-2
+returns_2 : tie.Need-returns-in-Head
 returns_2 c =
     let e = c.before.before.before.before.before in
     let r = e.before.before.before.before.before in

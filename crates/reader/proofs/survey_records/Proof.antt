@@ -12,7 +12,8 @@ use Rattle.reader.proofs.NotedLaws.{Fills, Placed, Surveys, fills_end, fills_fir
 use Rattle.reader.proofs.survey_records.Statement.{statement}
 use Rattle.reader.proofs.survey_records.Tie as tie
 
-abbrev invariant-loop : tie.invariant-loop
+
+abbrev invariant-loop : tie.invariant-loop-i
 invariant-loop log records first claims before calls₀ exchanges₀ points₀ pointsends₀ ends₀ at₀ line₀ i₀ calls exchanges points pointsends ends at line i =
     Surveys base log records first claims before at line i
     × Fills base log records first (λ c. c.call) calls₀ at i calls
@@ -21,60 +22,60 @@ invariant-loop log records first claims before calls₀ exchanges₀ points₀ p
     × Fills base log records first (λ c. c.pointsend) pointsends₀ at i pointsends
     × Fills base log records first (λ c. c.end) ends₀ at i ends
 
-abbrev decreases-loop : tie.decreases-loop
+abbrev decreases-loop : tie.decreases-loop-i
 decreases-loop log records first claims before calls₀ exchanges₀ points₀ pointsends₀ ends₀ at₀ line₀ i₀ calls exchanges points pointsends ends at line i =
     records - i
 
 -- The places of a turn: its start, behind the record that is kept, and in front of each store.
-abbrev turn_of : tie.After-known-told2 invariant-loop decreases-loop → tie.At-loop invariant-loop decreases-loop
-turn_of d = d.before.before.before.before.before
+abbrev turn_of : tie.In-Kept invariant-loop decreases-loop → tie.At-loop-i invariant-loop decreases-loop
+turn_of d = d.before.before.before
 
-abbrev text : tie.At-loop invariant-loop decreases-loop → Text
-text l = let m = l.before.before.before in m.before.before.before.before.args.log.now
+abbrev text : tie.At-loop-i invariant-loop decreases-loop → Text
+text l = let m = l.before.before.before in m.args.log.now
 
-abbrev count : tie.At-loop invariant-loop decreases-loop → ℕ
-count l = let m = l.before.before.before in m.before.before.before.before.args.records
+abbrev count : tie.At-loop-i invariant-loop decreases-loop → ℕ
+count l = let m = l.before.before.before in m.args.records
 
-abbrev arg2 : tie.After-note-arg2 invariant-loop decreases-loop → tie.After-note-arg invariant-loop decreases-loop
+abbrev arg2 : tie.After-note-arg-in-Kept-1 invariant-loop decreases-loop → tie.After-note-arg-1 invariant-loop decreases-loop
 arg2 c = c.before.before.before.before
 
-abbrev arg3 : tie.After-note-arg3 invariant-loop decreases-loop → tie.After-note-arg2 invariant-loop decreases-loop
+abbrev arg3 : tie.After-note-arg-in-Kept-2-1 invariant-loop decreases-loop → tie.After-note-arg-in-Kept-1 invariant-loop decreases-loop
 arg3 c = c.before.before.before.before
 
-abbrev arg4 : tie.After-note-arg4 invariant-loop decreases-loop → tie.After-note-arg3 invariant-loop decreases-loop
+abbrev arg4 : tie.After-note-arg-in-Kept-3-1 invariant-loop decreases-loop → tie.After-note-arg-in-Kept-2-1 invariant-loop decreases-loop
 arg4 c = c.before.before.before.before
 
-abbrev arg5 : tie.After-note-arg5 invariant-loop decreases-loop → tie.After-note-arg4 invariant-loop decreases-loop
+abbrev arg5 : tie.After-note-arg-in-Kept-4-1 invariant-loop decreases-loop → tie.After-note-arg-in-Kept-3-1 invariant-loop decreases-loop
 arg5 c = c.before.before.before.before
 
-abbrev kept1 : tie.After-note-arg invariant-loop decreases-loop → tie.After-known-told2 invariant-loop decreases-loop
+abbrev kept1 : tie.After-note-arg-1 invariant-loop decreases-loop → tie.In-Kept invariant-loop decreases-loop
 kept1 c = c.before
 
-abbrev kept2 : tie.After-note-arg2 invariant-loop decreases-loop → tie.After-known-told2 invariant-loop decreases-loop
+abbrev kept2 : tie.After-note-arg-in-Kept-1 invariant-loop decreases-loop → tie.In-Kept invariant-loop decreases-loop
 kept2 c = kept1 (arg2 c)
 
-abbrev kept3 : tie.After-note-arg3 invariant-loop decreases-loop → tie.After-known-told2 invariant-loop decreases-loop
+abbrev kept3 : tie.After-note-arg-in-Kept-2-1 invariant-loop decreases-loop → tie.In-Kept invariant-loop decreases-loop
 kept3 c = kept2 (arg3 c)
 
-abbrev kept4 : tie.After-note-arg4 invariant-loop decreases-loop → tie.After-known-told2 invariant-loop decreases-loop
+abbrev kept4 : tie.After-note-arg-in-Kept-3-1 invariant-loop decreases-loop → tie.In-Kept invariant-loop decreases-loop
 kept4 c = kept3 (arg4 c)
 
-abbrev kept5 : tie.After-note-arg5 invariant-loop decreases-loop → tie.After-known-told2 invariant-loop decreases-loop
+abbrev kept5 : tie.After-note-arg-in-Kept-4-1 invariant-loop decreases-loop → tie.In-Kept invariant-loop decreases-loop
 kept5 c = kept4 (arg5 c)
 
 -- The record that is kept, and where its parts lie.
-took_it : (d : tie.After-known-told2 invariant-loop decreases-loop) → record_at base (text (turn_of d)) (turn_of d).loop.at ≡ RecordRead.Kept d.before.told2.given.0.0
-took_it d = sym d.before.before.before.record_at.ensures ∙ d.before.told2.given.1
+took_it : (d : tie.In-Kept invariant-loop decreases-loop) → record_at base (text (turn_of d)) (turn_of d).loop-i.at ≡ RecordRead.Kept d.in-Kept.c
+took_it d = sym d.record_at-told.ensures ∙ d.in-Kept.is
 
-lies : (d : tie.After-known-told2 invariant-loop decreases-loop) → Placed (text (turn_of d)) (turn_of d).loop.at d.before.told2.given.0.0
+lies : (d : tie.In-Kept invariant-loop decreases-loop) → Placed (text (turn_of d)) (turn_of d).loop-i.at d.in-Kept.c
 lies d = placed base _ _ (took_it d)
 
-room : (d : tie.After-known-told2 invariant-loop decreases-loop) → (turn_of d).loop.i < count (turn_of d)
-room d = d.before.before.before.before.loop-test.true
+room : (d : tie.In-Kept invariant-loop decreases-loop) → (turn_of d).loop-i.i < count (turn_of d)
+room d = d.loop-i-test.true
 
-loop_holds : tie.Need-loop-init invariant-loop decreases-loop
+loop_holds : tie.Need-loop-i-init invariant-loop decreases-loop
 loop_holds c =
-    let p = c.before.before.before.before.before.before.requires in (
+    let p = c.requires in (
       surveys_first base _ _ _ _ p.0 p.1 p.2,
       fills_first base _ _ _ _ _,
       fills_first base _ _ _ _ _,
@@ -83,155 +84,155 @@ loop_holds c =
       fills_first base _ _ _ _ _,
     )
 
-record_at_requires : tie.Need-record_at-requires invariant-loop decreases-loop
+record_at_requires : tie.Need-record_at-told-requires invariant-loop decreases-loop
 record_at_requires c κs = search rules
 
-enum_known_told : tie.Need-enum-known-told invariant-loop decreases-loop
+enum_known_told : tie.Need-enum_known-told invariant-loop decreases-loop
 enum_known_told c = search rules
 
-same_length : tie.Need-same-length invariant-loop decreases-loop
-same_length c = c.before.before.before.before.before.loop.invariant.1.long
+same_length : tie.Need-shape_of-calls-in-Stops invariant-loop decreases-loop
+same_length c = c.loop-i.invariant.1.long
 
-same_length_2 : tie.Need-same-length-2 invariant-loop decreases-loop
-same_length_2 c = c.before.before.before.before.before.loop.invariant.2.long
+same_length_2 : tie.Need-shape_of-exchanges-in-Stops invariant-loop decreases-loop
+same_length_2 c = c.loop-i.invariant.2.long
 
-same_length_3 : tie.Need-same-length-3 invariant-loop decreases-loop
-same_length_3 c = c.before.before.before.before.before.loop.invariant.3.long
+same_length_3 : tie.Need-shape_of-points-in-Stops invariant-loop decreases-loop
+same_length_3 c = c.loop-i.invariant.3.long
 
-same_length_4 : tie.Need-same-length-4 invariant-loop decreases-loop
-same_length_4 c = c.before.before.before.before.before.loop.invariant.4.long
+same_length_4 : tie.Need-shape_of-pointsends-in-Stops invariant-loop decreases-loop
+same_length_4 c = c.loop-i.invariant.4.long
 
-same_length_5 : tie.Need-same-length-5 invariant-loop decreases-loop
-same_length_5 c = c.before.before.before.before.before.loop.invariant.5.long
+same_length_5 : tie.Need-shape_of-ends-in-Stops invariant-loop decreases-loop
+same_length_5 c = c.loop-i.invariant.5.long
 
-returns : tie.Need-returns invariant-loop decreases-loop
+returns : tie.Need-returns-in-Stops invariant-loop decreases-loop
 returns c =
-    let l = c.before.before.before.before.before in
-    let h = c.before.before.before.before.loop-test.true in
-    let e = sym c.before.before.before.record_at.ensures ∙ c.before.told.given.1 in (
-      surveys_stop base _ _ _ _ l.loop.invariant.0 h e,
+    let l = c.before.before.before in
+    let h = c.loop-i-test.true in
+    let e = sym c.record_at-told.ensures ∙ c.in-Stops.is in (
+      surveys_stop base _ _ _ _ l.loop-i.invariant.0 h e,
       (
-        fills_stop base _ _ _ _ _ l.loop.invariant.1 h e,
+        fills_stop base _ _ _ _ _ l.loop-i.invariant.1 h e,
         (
-          fills_stop base _ _ _ _ _ l.loop.invariant.2 h e,
+          fills_stop base _ _ _ _ _ l.loop-i.invariant.2 h e,
           (
-            fills_stop base _ _ _ _ _ l.loop.invariant.3 h e,
+            fills_stop base _ _ _ _ _ l.loop-i.invariant.3 h e,
             (
-              fills_stop base _ _ _ _ _ l.loop.invariant.4 h e,
-              fills_stop base _ _ _ _ _ l.loop.invariant.5 h e,
+              fills_stop base _ _ _ _ _ l.loop-i.invariant.4 h e,
+              fills_stop base _ _ _ _ _ l.loop-i.invariant.5 h e,
             ),
           ),
         ),
       ),
     )
 
-enum_known_told_2 : tie.Need-enum-known-told-2 invariant-loop decreases-loop
+enum_known_told_2 : tie.Need-enum_known-told-in-Kept-1 invariant-loop decreases-loop
 enum_known_told_2 c = search rules
 
 note_requires : tie.Need-note-requires invariant-loop decreases-loop
-note_requires c κs = let d = kept1 c in omega (arith, (lies d).call, (lies d).within, (turn_of d).loop.inv.0.short)
+note_requires c κs = let d = kept1 c in omega (arith, (lies d).call, (lies d).within, (turn_of d).loop-i.invariant.0.short)
 
-note_requires_2 : tie.Need-note-requires-2 invariant-loop decreases-loop
-note_requires_2 c κs = let d = kept2 c in omega (arith, (lies d).exchange, (lies d).within, (turn_of d).loop.inv.0.short)
+note_requires_2 : tie.Need-note-requires-in-Kept invariant-loop decreases-loop
+note_requires_2 c κs = let d = kept2 c in omega (arith, (lies d).exchange, (lies d).within, (turn_of d).loop-i.invariant.0.short)
 
-note_requires_3 : tie.Need-note-requires-3 invariant-loop decreases-loop
-note_requires_3 c κs = let d = kept3 c in omega (arith, (lies d).points, (lies d).within, (turn_of d).loop.inv.0.short)
+note_requires_3 : tie.Need-note-requires-in-Kept-2 invariant-loop decreases-loop
+note_requires_3 c κs = let d = kept3 c in omega (arith, (lies d).points, (lies d).within, (turn_of d).loop-i.invariant.0.short)
 
-note_requires_4 : tie.Need-note-requires-4 invariant-loop decreases-loop
-note_requires_4 c κs = let d = kept4 c in omega (arith, (lies d).pointsend, (lies d).within, (turn_of d).loop.inv.0.short)
+note_requires_4 : tie.Need-note-requires-in-Kept-3 invariant-loop decreases-loop
+note_requires_4 c κs = let d = kept4 c in omega (arith, (lies d).pointsend, (lies d).within, (turn_of d).loop-i.invariant.0.short)
 
-note_requires_5 : tie.Need-note-requires-5 invariant-loop decreases-loop
-note_requires_5 c κs = let d = kept5 c in omega (arith, (lies d).within, (turn_of d).loop.inv.0.short)
+note_requires_5 : tie.Need-note-requires-in-Kept-4 invariant-loop decreases-loop
+note_requires_5 c κs = let d = kept5 c in omega (arith, (lies d).within, (turn_of d).loop-i.invariant.0.short)
 
-add_at : tie.Need-overflow-add-at invariant-loop decreases-loop
-add_at c = let d = kept5 c.before.before.before.before in omega (arith, (lies d).within, (turn_of d).loop.inv.0.short, log_small)
+add_at : tie.Need-overflow_add-at invariant-loop decreases-loop
+add_at c = let d = kept5 c.before.before.before.before in omega (arith, (lies d).within, (turn_of d).loop-i.invariant.0.short, log_small)
 
-add_line : tie.Need-overflow-add-line invariant-loop decreases-loop
-add_line c = let w = (turn_of (kept5 c.before.before.before.before)).loop.inv.0 in omega (arith, w.within, w.short, w.number, log_small)
+add_line : tie.Need-overflow_add-line invariant-loop decreases-loop
+add_line c = let w = (turn_of (kept5 c.before.before.before.before)).loop-i.invariant.0 in omega (arith, w.within, w.short, w.number, log_small)
 
-add_i : tie.Need-overflow-add-i invariant-loop decreases-loop
-add_i c = let w = (turn_of (kept5 c.before.before.before.before)).loop.inv.0 in omega (arith, w.slow, w.within, w.short, log_small)
+add_i : tie.Need-overflow_add-i invariant-loop decreases-loop
+add_i c = let w = (turn_of (kept5 c.before.before.before.before)).loop-i.invariant.0 in omega (arith, w.slow, w.within, w.short, log_small)
 
-loop_less : tie.Need-loop-smaller invariant-loop decreases-loop
+loop_less : tie.Need-loop-i-smaller invariant-loop decreases-loop
 loop_less c = let d = kept5 c.before.before.before.before in omega (arith, room d)
 
-loop_again : tie.Need-loop-preserved invariant-loop decreases-loop
+loop_again : tie.Need-loop-i-preserved invariant-loop decreases-loop
 loop_again c =
     let e = c.before.before.before.before in
     let d = kept5 e in
-    let w = (turn_of d).loop.inv in (
+    let w = (turn_of d).loop-i.invariant in (
       surveys_next base _ _ _ _ w.0 (room d) (took_it d),
-      fills_next base _ _ _ _ _ w.1 (room d) (took_it d) (arg3 (arg4 (arg5 e))).before.before.before.note.ensures,
-      fills_next base _ _ _ _ _ w.2 (room d) (took_it d) (arg4 (arg5 e)).before.before.before.note2.ensures,
-      fills_next base _ _ _ _ _ w.3 (room d) (took_it d) (arg5 e).before.before.before.note3.ensures,
-      fills_next base _ _ _ _ _ w.4 (room d) (took_it d) e.before.before.before.note4.ensures,
-      fills_next base _ _ _ _ _ w.5 (room d) (took_it d) c.before.before.before.note5.ensures,
+      fills_next base _ _ _ _ _ w.1 (room d) (took_it d) (arg3 (arg4 (arg5 e))).note.ensures,
+      fills_next base _ _ _ _ _ w.2 (room d) (took_it d) (arg4 (arg5 e)).note-in-Kept.ensures,
+      fills_next base _ _ _ _ _ w.3 (room d) (took_it d) (arg5 e).note-in-Kept-2.ensures,
+      fills_next base _ _ _ _ _ w.4 (room d) (took_it d) e.note-in-Kept-3.ensures,
+      fills_next base _ _ _ _ _ w.5 (room d) (took_it d) c.note-in-Kept-4.ensures,
     )
 
-same_length_6 : tie.Need-same-length-6 invariant-loop decreases-loop
-same_length_6 c = c.before.before.loop.invariant.1.long
+same_length_6 : tie.Need-shape_of-calls-then-at-log invariant-loop decreases-loop
+same_length_6 c = c.loop-i.invariant.1.long
 
-same_length_7 : tie.Need-same-length-7 invariant-loop decreases-loop
-same_length_7 c = c.before.before.loop.invariant.2.long
+same_length_7 : tie.Need-shape_of-exchanges-then-at-log invariant-loop decreases-loop
+same_length_7 c = c.loop-i.invariant.2.long
 
-same_length_8 : tie.Need-same-length-8 invariant-loop decreases-loop
-same_length_8 c = c.before.before.loop.invariant.3.long
+same_length_8 : tie.Need-shape_of-points-then-at-log invariant-loop decreases-loop
+same_length_8 c = c.loop-i.invariant.3.long
 
-same_length_9 : tie.Need-same-length-9 invariant-loop decreases-loop
-same_length_9 c = c.before.before.loop.invariant.4.long
+same_length_9 : tie.Need-shape_of-pointsends-then-at-log invariant-loop decreases-loop
+same_length_9 c = c.loop-i.invariant.4.long
 
-same_length_10 : tie.Need-same-length-10 invariant-loop decreases-loop
-same_length_10 c = c.before.before.loop.invariant.5.long
+same_length_10 : tie.Need-shape_of-ends-then-at-log invariant-loop decreases-loop
+same_length_10 c = c.loop-i.invariant.5.long
 
-returns_2 : tie.Need-returns-2 invariant-loop decreases-loop
+returns_2 : tie.Need-returns-then-at-log invariant-loop decreases-loop
 returns_2 c =
     let l = c.before.before in
-    let h = c.before.loop-test.false in (
-      surveys_more base _ _ _ _ l.loop.invariant.0 h c.if1.true,
+    let h = c.loop-i-test.false in (
+      surveys_more base _ _ _ _ l.loop-i.invariant.0 h c.if-at-log.true,
       (
-        fills_end base _ _ _ _ _ l.loop.invariant.1 h,
+        fills_end base _ _ _ _ _ l.loop-i.invariant.1 h,
         (
-          fills_end base _ _ _ _ _ l.loop.invariant.2 h,
+          fills_end base _ _ _ _ _ l.loop-i.invariant.2 h,
           (
-            fills_end base _ _ _ _ _ l.loop.invariant.3 h,
+            fills_end base _ _ _ _ _ l.loop-i.invariant.3 h,
             (
-              fills_end base _ _ _ _ _ l.loop.invariant.4 h,
-              fills_end base _ _ _ _ _ l.loop.invariant.5 h,
+              fills_end base _ _ _ _ _ l.loop-i.invariant.4 h,
+              fills_end base _ _ _ _ _ l.loop-i.invariant.5 h,
             ),
           ),
         ),
       ),
     )
 
-same_length_11 : tie.Need-same-length-11 invariant-loop decreases-loop
-same_length_11 c = c.before.before.loop.invariant.1.long
+same_length_11 : tie.Need-shape_of-calls invariant-loop decreases-loop
+same_length_11 c = c.loop-i.invariant.1.long
 
-same_length_12 : tie.Need-same-length-12 invariant-loop decreases-loop
-same_length_12 c = c.before.before.loop.invariant.2.long
+same_length_12 : tie.Need-shape_of-exchanges invariant-loop decreases-loop
+same_length_12 c = c.loop-i.invariant.2.long
 
-same_length_13 : tie.Need-same-length-13 invariant-loop decreases-loop
-same_length_13 c = c.before.before.loop.invariant.3.long
+same_length_13 : tie.Need-shape_of-points invariant-loop decreases-loop
+same_length_13 c = c.loop-i.invariant.3.long
 
-same_length_14 : tie.Need-same-length-14 invariant-loop decreases-loop
-same_length_14 c = c.before.before.loop.invariant.4.long
+same_length_14 : tie.Need-shape_of-pointsends invariant-loop decreases-loop
+same_length_14 c = c.loop-i.invariant.4.long
 
-same_length_15 : tie.Need-same-length-15 invariant-loop decreases-loop
-same_length_15 c = c.before.before.loop.invariant.5.long
+same_length_15 : tie.Need-shape_of-ends invariant-loop decreases-loop
+same_length_15 c = c.loop-i.invariant.5.long
 
-returns_3 : tie.Need-returns-3 invariant-loop decreases-loop
+returns_3 : tie.Need-returns invariant-loop decreases-loop
 returns_3 c =
     let l = c.before.before in
-    let h = c.before.loop-test.false in (
-      surveys_end base _ _ _ _ l.loop.invariant.0 h c.if1.false,
+    let h = c.loop-i-test.false in (
+      surveys_end base _ _ _ _ l.loop-i.invariant.0 h c.if-at-log.false,
       (
-        fills_end base _ _ _ _ _ l.loop.invariant.1 h,
+        fills_end base _ _ _ _ _ l.loop-i.invariant.1 h,
         (
-          fills_end base _ _ _ _ _ l.loop.invariant.2 h,
+          fills_end base _ _ _ _ _ l.loop-i.invariant.2 h,
           (
-            fills_end base _ _ _ _ _ l.loop.invariant.3 h,
+            fills_end base _ _ _ _ _ l.loop-i.invariant.3 h,
             (
-              fills_end base _ _ _ _ _ l.loop.invariant.4 h,
-              fills_end base _ _ _ _ _ l.loop.invariant.5 h,
+              fills_end base _ _ _ _ _ l.loop-i.invariant.4 h,
+              fills_end base _ _ _ _ _ l.loop-i.invariant.5 h,
             ),
           ),
         ),

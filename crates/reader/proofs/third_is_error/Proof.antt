@@ -7,43 +7,44 @@ use Rattle.reader.proofs.FirstLaws.{end_near, error_known, error_unknown, third_
 use Rattle.reader.proofs.third_is_error.Statement.{statement}
 use Rattle.reader.proofs.third_is_error.Tie as tie
 
-field_end_requires : tie.Need-field_end-requires
+
+field_end_requires : tie.Need-field_end-first-requires
 field_end_requires c κs = search rules
 
-add_field_end : tie.Need-overflow-add-field_end
-add_field_end c = omega (arith, end_near c.before.before.args.s.now c.before.before.args.at c.field_end.result c.field_end.ensures)
+add_field_end : tie.Need-overflow_add-first
+add_field_end c = omega (arith, end_near c.args.s.now c.args.at c.field_end-first.result c.field_end-first.ensures)
 
-field_end_requires_2 : tie.Need-field_end-requires-2
+field_end_requires_2 : tie.Need-field_end-second-requires
 field_end_requires_2 c κs = search rules
 
-add_call : tie.Need-overflow-add-call
+add_call : tie.Need-overflow_add-second
 add_call c =
     omega (
       arith,
-      end_near c.before.before.before.args.s.now c.before.before.before.args.at c.before.field_end.result c.before.field_end.ensures,
-      end_near c.before.before.before.args.s.now (c.before.field_end.result + 1) c.field-end2.result c.field-end2.ensures,
+      end_near c.args.s.now c.args.at c.field_end-first.result c.field_end-first.ensures,
+      end_near c.args.s.now (c.field_end-first.result + 1) c.field_end-second.result c.field_end-second.ensures,
     )
 
 call_requires : tie.Need-call-requires
 call_requires c κs = search rules
 
-enum_known_error : tie.Need-enum-known-error
+enum_known_error : tie.Need-enum_known-error
 enum_known_error c = search rules
 
-enum_told : tie.Need-enum-told
+enum_told : tie.Need-enum_told-1
 enum_told c = search rules
 
-returns : tie.Need-returns
+returns : tie.Need-returns-in_default
 returns c =
     error_unknown _ _ 2
-    (third_start _ _ _ _ c.before.before.before.before.field_end.ensures c.before.before.before.field-end2.ensures)
-    (sym c.before.before.call.ensures ∙ c.enum_told.given.1)
+    (third_start _ _ _ _ c.field_end-first.ensures c.field_end-second.ensures)
+    (sym c.call.ensures ∙ c.in_default.is)
 
-returns_2 : tie.Need-returns-2
+returns_2 : tie.Need-returns
 returns_2 c =
     error_known _ _ 2
-    (third_start _ _ _ _ c.before.before.before.before.before.field_end.ensures c.before.before.before.before.field-end2.ensures)
-    (sym c.before.before.before.call.ensures ∙ c.before.error.given.1)
+    (third_start _ _ _ _ c.field_end-first.ensures c.field_end-second.ensures)
+    (sym c.call.ensures ∙ c.in-Call.is)
 
 pub third_is_error_spec : {M : Type 1} → statement M
 third_is_error_spec =
