@@ -5,20 +5,21 @@ use Rattle.reader.proofs.PlaceLaws.{value_none, value_read}
 use Rattle.places.proofs.bonus_at.Statement.{statement}
 use Rattle.places.proofs.bonus_at.Tie as tie
 
+
 bonus_of_requires : tie.Need-bonus_of-requires
 bonus_of_requires c κs = search rules
 
-enum_known_value : tie.Need-enum-known-value
+enum_known_value : tie.Need-enum_known-value
 enum_known_value c = search rules
 
-enum_told : tie.Need-enum-told
+enum_told : tie.Need-enum_told-1
 enum_told c = search rules
 
-returns : tie.Need-returns
-returns c = value_none _ _ _ (sym c.before.before.bonus_of.ensures ∙ c.enum_told.given.1)
+returns : tie.Need-returns-in_default
+returns c = value_none _ _ _ (sym c.bonus_of.ensures ∙ c.in_default.is)
 
-returns_2 : tie.Need-returns-2
-returns_2 c = value_read _ _ _ (sym c.before.before.before.bonus_of.ensures ∙ c.before.value.given.1)
+returns_2 : tie.Need-returns
+returns_2 c = value_read _ _ _ (sym c.bonus_of.ensures ∙ c.in-Number.is)
 
 pub bonus_at_spec : {M : Type 1} → statement M
 bonus_at_spec = tie.close (tie.spec bonus_of_requires enum_known_value enum_told returns returns_2)

@@ -5,10 +5,11 @@ use Rattle.rules.specs.Text.{Text, begins}
 use Rattle.places.proofs.is_listed.Statement.{statement}
 use Rattle.places.proofs.is_listed.Tie as tie
 
-listed_requires : tie.Need-listed-requires
+
+listed_requires : tie.Need-listed-word-requires
 listed_requires c κs = search rules
 
-slice_aggregate_begins_with : tie.Need-slice-aggregate-begins_with
+slice_aggregate_begins_with : tie.Need-slice_bounds-begins_with-end
 slice_aggregate_begins_with c = search rules
 
 begins_with_requires : tie.Need-begins_with-requires
@@ -16,7 +17,7 @@ begins_with_requires c κs = search rules
 
 returns : tie.Need-returns
 returns c =
-    c.begins_with.ensures ∙ ap (λ (word : Text). begins word c.before.before.before.before.args.line.now) c.before.before.listed.ensures
+    c.begins_with.ensures ∙ ap (λ (word : Text). begins word c.args.line.now) c.listed-word.ensures
 
 pub is_listed_spec : {M : Type 1} → statement M
 is_listed_spec =

@@ -13,19 +13,20 @@ use Rattle.places.proofs.LineStarts.{line_by_end}
 use Rattle.places.proofs.rates_at.Statement.{statement}
 use Rattle.places.proofs.rates_at.Tie as tie
 
-allowed_run_requires : tie.Need-allowed_run-requires
+
+allowed_run_requires : tie.Need-allowed_run-end-requires
 allowed_run_requires c κs = search rules
 
-sub_rates_of : tie.Need-overflow-sub-rates_of
+sub_rates_of : tie.Need-slice_bounds-rates_of-count
 sub_rates_of c = search rules
 
-part_rates_of_start : tie.Need-slice-bounds-rates_of-start
+part_rates_of_start : tie.Need-slice_bounds-rates_of-start
 part_rates_of_start c = search rules
 
-part_rates_of_end : tie.Need-slice-bounds-rates_of-end
+part_rates_of_end : tie.Need-slice_bounds-rates_of-end
 part_rates_of_end c =
-    let s = c.before.before.args.s.now in
-    let h : c.allowed_run.result ≤ length s = omega (arith, run_within s allowed c.before.before.args.at) in
+    let s = c.args.s.now in
+    let h : c.allowed_run-end.result ≤ length s = omega (arith, run_within s allowed c.args.at) in
     h
 
 rates_of_requires : tie.Need-rates_of-requires
@@ -33,7 +34,7 @@ rates_of_requires c κs = search rules
 
 returns : tie.Need-returns
 returns c =
-    let line = line_by_end _ _ c.before.before.allowed_run.ensures in (
+    let line = line_by_end _ _ c.allowed_run-end.ensures in (
       c.rates_of.ensures.0 ∙ ap (λ (t : Text). value_by (bonus base) (part 1 (drop 6 t))) line,
       c.rates_of.ensures.1 ∙ ap (λ (t : Text). value_by (multiplier base) (part 2 (drop 6 t))) line,
     )

@@ -8,12 +8,13 @@ use Rattle.words.proofs.NumberLaws.{dash_within, first_text}
 use Rattle.words.proofs.first_number.Statement.{statement}
 use Rattle.words.proofs.first_number.Tie as tie
 
-run_to_requires : tie.Need-run_to-requires
+
+run_to_requires : tie.Need-run_to-end-requires
 run_to_requires c κs = tt
 
-slice_aggregate_record_number : tie.Need-slice-aggregate-record_number
+slice_aggregate_record_number : tie.Need-slice_bounds-record_number-end
 slice_aggregate_record_number c =
-    sym (length-take-le c.before.run_to.result _ (dash_within _ c.before.run_to.ensures))
+    sym (length-take-le c.run_to-end.result _ (dash_within _ c.run_to-end.ensures))
 
 record_number_requires : tie.Need-record_number-requires
 record_number_requires c κs = tt
@@ -21,7 +22,7 @@ record_number_requires c κs = tt
 returns : tie.Need-returns
 returns c =
     c.record_number.ensures
-    ∙ ap (λ (t : Text). number_named base c.before.before.before.before.args.room t) (first_text _ c.before.before.run_to.ensures)
+    ∙ ap (λ (t : Text). number_named base c.args.room t) (first_text _ c.run_to-end.ensures)
 
 pub first_number_spec : {M : Type 1} → statement M
 first_number_spec =

@@ -11,65 +11,66 @@ use Rattle.words.proofs.KeywordLaws.{keyword_apart, five_line, keyword_here, key
 use Rattle.words.proofs.keyword_number.Statement.{statement}
 use Rattle.words.proofs.keyword_number.Tie as tie
 
-abbrev invariant-loop : tie.invariant-loop
+
+abbrev invariant-loop : tie.invariant-loop-k
 invariant-loop word line k₀ k =
     (length word ≡ 5) × (line ≡ word ++ bytes "=") × (keyword_from 1 entries word ≡ keyword_from (k + 1) (drop k entries) word)
 
-abbrev decreases-loop : tie.decreases-loop
+abbrev decreases-loop : tie.decreases-loop-k
 decreases-loop word line k₀ k = 36 - k
 
-returns : tie.Need-returns invariant-loop decreases-loop
-returns c = keyword_apart _ c.if1.true
+returns : tie.Need-returns-then-word-ne5 invariant-loop decreases-loop
+returns c = keyword_apart _ c.if-word-ne5.true
 
-shared_slice_read_t7 : tie.Need-shared-slice-read-t7 invariant-loop decreases-loop
+shared_slice_read_t7 : tie.Need-bounds-word-0 invariant-loop decreases-loop
 shared_slice_read_t7 c = search rules
 
-shared_slice_read_t9 : tie.Need-shared-slice-read-t9 invariant-loop decreases-loop
+shared_slice_read_t9 : tie.Need-bounds-word-1 invariant-loop decreases-loop
 shared_slice_read_t9 c = search rules
 
-shared_slice_read_t11 : tie.Need-shared-slice-read-t11 invariant-loop decreases-loop
+shared_slice_read_t11 : tie.Need-bounds-word-2 invariant-loop decreases-loop
 shared_slice_read_t11 c = search rules
 
-shared_slice_read_t13 : tie.Need-shared-slice-read-t13 invariant-loop decreases-loop
+shared_slice_read_t13 : tie.Need-bounds-word-3 invariant-loop decreases-loop
 shared_slice_read_t13 c = search rules
 
-shared_slice_read_t15 : tie.Need-shared-slice-read-t15 invariant-loop decreases-loop
+shared_slice_read_t15 : tie.Need-bounds-word-4 invariant-loop decreases-loop
 shared_slice_read_t15 c = search rules
 
-loop_holds : tie.Need-loop-init invariant-loop decreases-loop
+loop_holds : tie.Need-loop-k-init invariant-loop decreases-loop
 loop_holds c =
     let d = c.before.before.before.before.before in
-    (d.if1.false, five_line d.before.before.args.word.now d.if1.false, refl)
+    (d.if-word-ne5.false, five_line d.args.word.now d.if-word-ne5.false, refl)
 
-slice_aggregate_has_keyword : tie.Need-slice-aggregate-has_keyword invariant-loop decreases-loop
+slice_aggregate_has_keyword : tie.Need-slice_bounds-has_keyword-end invariant-loop decreases-loop
 slice_aggregate_has_keyword c = search rules
 
 has_keyword_requires : tie.Need-has_keyword-requires invariant-loop decreases-loop
 has_keyword_requires c κs = search rules
 
-add_result : tie.Need-overflow-add-result invariant-loop decreases-loop
+add_result : tie.Need-overflow_add-result invariant-loop decreases-loop
 add_result c = search rules
 
-returns_2 : tie.Need-returns-2 invariant-loop decreases-loop
+returns_2 : tie.Need-returns-then-has_keyword invariant-loop decreases-loop
 returns_2 c =
     let l = c.before.before.before.before in
-    let inv = l.loop.invariant in
-    sym (inv.2 ∙ keyword_here _ inv.0 inv.1 l.loop.k (sym c.before.has_keyword.ensures ∙ c.if2.true))
+    let inv = l.loop-k.invariant in
+    sym (inv.2 ∙ keyword_here _ inv.0 inv.1 l.loop-k.k (sym c.has_keyword.ensures ∙ c.if-has_keyword.true))
 
-add_k : tie.Need-overflow-add-k invariant-loop decreases-loop
+add_k : tie.Need-overflow_add-k invariant-loop decreases-loop
 add_k c = search rules
 
-loop_less : tie.Need-loop-smaller invariant-loop decreases-loop
+loop_less : tie.Need-loop-k-smaller invariant-loop decreases-loop
 loop_less c = search rules
 
-loop_again : tie.Need-loop-preserved invariant-loop decreases-loop
+loop_again : tie.Need-loop-k-preserved invariant-loop decreases-loop
 loop_again c =
     let l = c.before.before.before.before in
-    let inv = l.loop.invariant in
-    (inv.0, inv.1, inv.2 ∙ keyword_later _ inv.0 inv.1 l.loop.k (sym c.before.has_keyword.ensures ∙ c.if2.false))
+    let inv = l.loop-k.invariant in
+    (inv.0, inv.1, inv.2 ∙ keyword_later _ inv.0 inv.1 l.loop-k.k (sym c.has_keyword.ensures ∙ c.if-has_keyword.false))
 
-returns_3 : tie.Need-returns-3 invariant-loop decreases-loop
-returns_3 c = sym (c.before.loop.invariant.2 ∙ keyword_none _ _ c.before.loop.k (search rules))
+returns_3 : tie.Need-returns invariant-loop decreases-loop
+returns_3 c = sym (c.loop-k.invariant.2 ∙ keyword_none _ _ c.loop-k.k (search rules))
 
 pub keyword_number_spec : {M : Type 1} → statement M
 keyword_number_spec =

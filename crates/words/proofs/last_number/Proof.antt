@@ -8,38 +8,39 @@ use Rattle.words.proofs.NumberLaws.{last_same, last_behind}
 use Rattle.words.proofs.last_number.Statement.{statement}
 use Rattle.words.proofs.last_number.Tie as tie
 
-run_to_requires : tie.Need-run_to-requires
+
+run_to_requires : tie.Need-run_to-end-requires
 run_to_requires c κs = tt
 
 record_number_requires : tie.Need-record_number-requires
 record_number_requires c κs = tt
 
-returns : tie.Need-returns
+returns : tie.Need-returns-then-word-end
 returns c =
     c.record_number.ensures
-    ∙ ap (λ (t : Text). number_named base c.before.before.before.before.args.room t)
-    (last_same _ c.before.before.run_to.ensures c.before.if1.true)
+    ∙ ap (λ (t : Text). number_named base c.args.room t)
+    (last_same _ c.run_to-end.ensures c.if-word-end.true)
 
-add_record_number : tie.Need-overflow-add_record-number
+add_record_number : tie.Need-overflow_add-end
 add_record_number c = search rules
 
-sub_record_number : tie.Need-overflow-sub-record_number
+sub_record_number : tie.Need-slice_bounds-record_number-count
 sub_record_number c = search rules
 
-part_record_number_start : tie.Need-slice-bounds-record_number-start
+part_record_number_start : tie.Need-slice_bounds-record_number-start
 part_record_number_start c = search rules
 
-part_record_number_end : tie.Need-slice-bounds-record_number-end
+part_record_number_end : tie.Need-slice_bounds-record_number-end
 part_record_number_end c = search rules
 
 record_number_requires_2 : tie.Need-record_number-requires-2
 record_number_requires_2 c κs = tt
 
-returns_2 : tie.Need-returns-2
+returns_2 : tie.Need-returns
 returns_2 c =
-    c.record-number2.ensures
-    ∙ ap (λ (t : Text). number_named base c.before.before.before.before.before.args.room t)
-    (last_behind _ c.before.before.before.run_to.ensures c.before.before.if1.false)
+    c.record_number-2.ensures
+    ∙ ap (λ (t : Text). number_named base c.args.room t)
+    (last_behind _ c.run_to-end.ensures c.if-word-end.false)
 
 pub last_number_spec : {M : Type 1} → statement M
 last_number_spec =

@@ -9,41 +9,42 @@ use Rattle.words.proofs.MarkLaws.{mark_none, mark_turn}
 use Rattle.words.proofs.set_from.Statement.{statement}
 use Rattle.words.proofs.set_from.Tie as tie
 
-abbrev invariant-loop : tie.invariant-loop
+
+abbrev invariant-loop : tie.invariant-loop-i
 invariant-loop struck₀ from to i₀ struck i =
     (from ≤ i) × (i ≤ to) × (length struck ≡ length struck₀) × (struck ≡ marked_from from i struck₀)
 
-abbrev decreases-loop : tie.decreases-loop
+abbrev decreases-loop : tie.decreases-loop-i
 decreases-loop struck₀ from to i₀ struck i = to - i
 
-loop_holds : tie.Need-loop-init invariant-loop decreases-loop
+loop_holds : tie.Need-loop-i-init invariant-loop decreases-loop
 loop_holds c = (search rules, search rules, refl, mark_none _ _)
 
-slice_write_struck : tie.Need-slice-write-struck invariant-loop decreases-loop
+slice_write_struck : tie.Need-bounds-struck-i invariant-loop decreases-loop
 slice_write_struck c = search rules
 
-add_i : tie.Need-overflow-add-i invariant-loop decreases-loop
+add_i : tie.Need-overflow_add-i invariant-loop decreases-loop
 add_i c = search rules
 
-loop_less : tie.Need-loop-smaller invariant-loop decreases-loop
+loop_less : tie.Need-loop-i-smaller invariant-loop decreases-loop
 loop_less c = search rules
 
-loop_again : tie.Need-loop-preserved invariant-loop decreases-loop
+loop_again : tie.Need-loop-i-preserved invariant-loop decreases-loop
 loop_again c =
     let begun = c.before.before in
-    let i = c.before.loop.i in (
+    let i = c.loop-i.i in (
       search rules,
       search rules,
       simp length-set (search rules),
       cc (mark_turn begun.args.from i begun.args.struck.now (search rules) (search rules)),
     )
 
-same_length : tie.Need-same-length invariant-loop decreases-loop
+same_length : tie.Need-shape_of-struck invariant-loop decreases-loop
 same_length c = search rules
 
 returns : tie.Need-returns invariant-loop decreases-loop
 returns c =
-    let e : c.before.loop.i ≡ c.before.before.args.to = omega arith in
+    let e : c.loop-i.i ≡ c.args.to = omega arith in
     cc
 
 pub set_from_spec : {M : Type 1} → statement M
