@@ -45,6 +45,7 @@ module _ (rule found : Text → Bool) (there : (t : Text) → T (rule t) → T (
   old t n f h = rw (← same→equal (of q) t h) (by (of q) (rw (same→equal (of q) t h) n) f)
     where
       by : (u : Text) → T (not (empty u)) → (not (empty u) && not (some (λ e. same (of e) u) credited)) ≡ false → some (λ e. same (of e) u) credited ≡ true
+      by [] m g = elim m [ ]
       by (d ∷ u) m g = not-false (some (λ e. same (of e) (d ∷ u)) credited) g
 
   serves_more : (found' : Text → Bool) → ((t : Text) → T (rule t) → found' t ≡ cond (is_new of credited q) (same (of q) t || found t) (found t)) → Serves rule found' of (q ∷ credited)

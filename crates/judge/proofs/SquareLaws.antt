@@ -129,6 +129,7 @@ square_stands (a ∷ b ∷ c ∷ d ∷ t) h n =
     let l = and_r size first (and_l (size && first) second three) in
     let m = and_r (size && first) second three in
     (omega arith, rw (l, m))
+square_stands [] h n = elim n [ ]
 
 -- # The search
 

@@ -12,37 +12,38 @@ use Rattle.judge.proofs.SumLaws.{not_few}
 use Rattle.judge.proofs.are_few.Statement.{statement}
 use Rattle.judge.proofs.are_few.Tie as tie
 
+
 -- Where the most records were asked for, from where each count is looked at.
-abbrev look1 : tie.After-struct-known → tie.After-most_records
+abbrev look1 : tie.After-struct_known-1 → tie.After-most_records-most
 look1 c = c.before
 
-abbrev look2 : tie.After-struct-known2 → tie.After-most_records
+abbrev look2 : tie.After-struct_known-2-1 → tie.After-most_records-most
 look2 c = look1 c.before.before
 
-abbrev look3 : tie.After-struct-known3 → tie.After-most_records
+abbrev look3 : tie.After-struct_known-3-1 → tie.After-most_records-most
 look3 c = look2 c.before.before
 
-abbrev look4 : tie.After-struct-known4 → tie.After-most_records
+abbrev look4 : tie.After-struct_known-4-1 → tie.After-most_records-most
 look4 c = look3 c.before.before
 
 -- One of the counts is more than there may be records, so all together are.
-over : (c : tie.After-most_records) → c.most_records.result < records_counted c.before.args.t → false ≡ leb (records_counted c.before.args.t) base.most_records
-over c h = not_few (records_counted c.before.args.t) base.most_records (omega (arith, h, c.most_records.ensures))
+over : (c : tie.After-most_records-most) → c.most_records-most.result < records_counted c.args.t → false ≡ leb (records_counted c.args.t) base.most_records
+over c h = not_few (records_counted c.args.t) base.most_records (omega (arith, h, c.most_records-most.ensures))
 
-most_records_requires : tie.Need-most_records-requires
+most_records_requires : tie.Need-most_records-most-requires
 most_records_requires c κs = search rules
 
-returns : tie.Need-returns
-returns c = over (look1 c.before) (omega (arith, c.if1.true))
+returns : tie.Need-returns-then-most-t
+returns c = over (look1 c.before) (omega (arith, c.if-most-t.true))
 
-returns_2 : tie.Need-returns-2
-returns_2 c = over (look2 c.before) (omega (arith, c.if2.true))
+returns_2 : tie.Need-returns-then-most-t-2
+returns_2 c = over (look2 c.before) (omega (arith, c.if-most-t-2.true))
 
-returns_3 : tie.Need-returns-3
-returns_3 c = over (look3 c.before) (omega (arith, c.if3.true))
+returns_3 : tie.Need-returns-then-most-t-3
+returns_3 c = over (look3 c.before) (omega (arith, c.if-most-t-3.true))
 
-returns_4 : tie.Need-returns-4
-returns_4 c = over (look4 c.before) (omega (arith, c.if4.true))
+returns_4 : tie.Need-returns-then-most-t-4
+returns_4 c = over (look4 c.before) (omega (arith, c.if-most-t-4.true))
 
 -- Each of the four is small by now.
 record Small-counts (t : Tally) : Type 0 where
@@ -51,33 +52,33 @@ record Small-counts (t : Tally) : Type 0 where
   pub duplicates : t.duplicates ≤ 999
   pub errors : t.errors ≤ 999
 
-abbrev looked : tie.After-struct-known5 → tie.After-struct-known4
+abbrev looked : tie.After-struct_known-5-1 → tie.After-struct_known-4-1
 looked c = c.before.before
 
-small : (c : tie.After-struct-known5) → Small-counts (look4 (looked c)).before.args.t
+small : (c : tie.After-struct_known-5-1) → Small-counts (look4 (looked c)).args.t
 unfolding base
 small c =
-    let most = (look4 (looked c)).most_records.ensures in
+    let most = (look4 (looked c)).most_records-most.ensures in
     let third = (looked c).before in
-    let second = third.before.before in
+    let second = third in
     record {
-      credited = omega (arith, most, second.before.before.if1.left);
-      voids = omega (arith, most, second.if2.left);
-      duplicates = omega (arith, most, third.if3.left);
-      errors = omega (arith, most, c.before.if4.false);
+      credited = omega (arith, most, second.if-most-t.false);
+      voids = omega (arith, most, second.if-most-t-2.false);
+      duplicates = omega (arith, most, third.if-most-t-3.false);
+      errors = omega (arith, most, c.if-most-t-4.false);
     }
 
-add_result : tie.Need-overflow-add-result
+add_result : tie.Need-overflow_add-result
 add_result c = omega (arith, small c)
 
-add_result_2 : tie.Need-overflow-add-result-2
+add_result_2 : tie.Need-overflow_add-result-2
 add_result_2 c = omega (arith, small c.before)
 
-add_result_3 : tie.Need-overflow-add-result-3
+add_result_3 : tie.Need-overflow_add-result-3
 add_result_3 c = omega (arith, small c.before.before)
 
-returns_5 : tie.Need-returns-5
-returns_5 c = ap (leb _) (look4 (looked c.before.before)).most_records.ensures
+returns_5 : tie.Need-returns
+returns_5 c = ap (leb _) (look4 (looked c.before.before)).most_records-most.ensures
 
 pub are_few_spec : {M : Type 1} → statement M
 are_few_spec =

@@ -15,6 +15,7 @@ use Rattle.judge.proofs.StepLaws.{noted_error, noted_points, noted_void, noted_m
 use Rattle.judge.proofs.class_of.Statement.{statement}
 use Rattle.judge.proofs.class_of.Tie as tie
 
+
 -- The call lies within the log.
 from : (c : tie.Start) → c.args.p.call ≤ end_of c.args.s.now c.args.p.call
 from c = omega (arith, end_by_span c.args.s.now c.args.p.call)
@@ -37,75 +38,75 @@ sought c = part_by_lem c.args.s.now c.args.p.call (end_of c.args.s.now c.args.p.
 abbrev start : tie.After-is_error → tie.Start
 start c = c.before.before.before.before
 
-abbrev tested : tie.Else1 → tie.After-is_error
+abbrev tested : tie.Else-is_error → tie.After-is_error
 tested c = c.before
 
-abbrev with_points : tie.Then2 → tie.Else1
+abbrev with_points : tie.Then-s-points-ne48 → tie.Else-is_error
 with_points c = c.before.before
 
-abbrev with_none : tie.After-claims_duplicate → tie.Else1
+abbrev with_none : tie.After-claims_duplicate → tie.Else-is_error
 with_none c = c.before.before.before
 
 is_error_requires : tie.Need-is_error-requires
 is_error_requires c κs =
-    let begin = c.before.before.before in
+    let begin = c in
     let h = end_by_span begin.args.s.now begin.args.p.call in
     (omega (arith, begin.requires.ends), omega (arith, begin.requires.within))
 
 class_by_requires : tie.Need-class_by-requires
 class_by_requires c κs = search rules
 
-returns : tie.Need-returns
+returns : tie.Need-returns-then-is_error
 returns c =
     let asked = c.before.before in
     let a = (start asked).args in
-    noted_error (kept (start asked)) a.s.now a.p (start asked).requires.ends asked.is_error.ensures c.before.if1.true c.class_by.ensures
+    noted_error (kept (start asked)) a.s.now a.p (start asked).requires.ends asked.is_error.ensures c.if-is_error.true c.class_by.ensures
 
-shared_slice_read_if2 : tie.Need-shared-slice-read-if2
+shared_slice_read_if2 : tie.Need-bounds-s-points
 shared_slice_read_if2 c = search rules
 
 is_kept_requires : tie.Need-is_kept-requires
-is_kept_requires c κs = let begin = start (tested (with_points c)) in (begin.pre.lies, key begin)
+is_kept_requires c κs = let begin = start (tested (with_points c)) in (begin.requires.lies, key begin)
 
-class_by_requires_2 : tie.Need-class_by-requires-2
+class_by_requires_2 : tie.Need-class_by-requires-then-s-points-ne48
 class_by_requires_2 c κs = search rules
 
-returns_2 : tie.Need-returns-2
+returns_2 : tie.Need-returns-then-s-points-ne48
 returns_2 c =
     let looked = c.before in
     let other = with_points looked.before in
     let begin = start (tested other) in
     let a = begin.args in
-    noted_points (kept begin) a.s.now a.p begin.pre.ends (tested other).is_error.ensures other.if1.left looked.before.if2.true looked.is_kept.ensures (sought begin) c.class-by2.ensures
+    noted_points (kept begin) a.s.now a.p begin.requires.ends (tested other).is_error.ensures other.if-is_error.false looked.if-s-points-ne48.true looked.is_kept.ensures (sought begin) c.class_by-then-s-points-ne48.ensures
 
 claims_duplicate_requires : tie.Need-claims_duplicate-requires
 claims_duplicate_requires c κs = search rules
 
-class_by_requires_3 : tie.Need-class_by-requires-3
+class_by_requires_3 : tie.Need-class_by-requires-then-not-claims_duplicate
 class_by_requires_3 c κs = search rules
 
-returns_3 : tie.Need-returns-3
+returns_3 : tie.Need-returns-then-not-claims_duplicate
 returns_3 c =
     let marked = c.before.before in
     let other = with_none marked in
     let begin = start (tested other) in
     let a = begin.args in
-    noted_void (kept begin) a.s.now a.p begin.pre.ends (tested other).is_error.ensures other.if1.left marked.before.if2.false marked.claims_duplicate.ensures c.before.if3.true c.class-by3.ensures
+    noted_void (kept begin) a.s.now a.p begin.requires.ends (tested other).is_error.ensures other.if-is_error.false marked.if-s-points-ne48.false marked.claims_duplicate.ensures c.if-not-claims_duplicate.true-raw c.class_by-then-not-claims_duplicate.ensures
 
 is_kept_requires_2 : tie.Need-is_kept-requires-2
-is_kept_requires_2 c κs = let begin = start (tested (with_none c.before)) in (begin.pre.lies, key begin)
+is_kept_requires_2 c κs = let begin = start (tested (with_none c.before)) in (begin.requires.lies, key begin)
 
-class_by_requires_4 : tie.Need-class_by-requires-4
+class_by_requires_4 : tie.Need-class_by-requires-2
 class_by_requires_4 c κs = search rules
 
-returns_4 : tie.Need-returns-4
+returns_4 : tie.Need-returns
 returns_4 c =
     let looked = c.before in
     let marked = looked.before.before in
     let other = with_none marked in
     let begin = start (tested other) in
     let a = begin.args in
-    noted_marked (kept begin) a.s.now a.p begin.pre.ends (tested other).is_error.ensures other.if1.left marked.before.if2.false marked.claims_duplicate.ensures looked.before.if3.false looked.is-kept2.ensures (sought begin) c.class-by4.ensures
+    noted_marked (kept begin) a.s.now a.p begin.requires.ends (tested other).is_error.ensures other.if-is_error.false marked.if-s-points-ne48.false marked.claims_duplicate.ensures looked.if-not-claims_duplicate.false-raw looked.is_kept-2.ensures (sought begin) c.class_by-2.ensures
 
 pub class_of_spec : {M : Type 1} → statement M
 class_of_spec =

@@ -8,54 +8,55 @@ use Rattle.judge.proofs.SumLaws.{together, come_begun, come_on, come_over, come_
 use Rattle.judge.proofs.come_to.Statement.{statement}
 use Rattle.judge.proofs.come_to.Tie as tie
 
-abbrev invariant-loop : tie.invariant-loop
+
+abbrev invariant-loop : tie.invariant-loop-mode
 invariant-loop n list left₀ mode₀ left mode =
     (mode ≤ 11) × (eqb (together list 11 0) n ≡ eqb (together list (11 - mode) mode) left)
 
-abbrev decreases-loop : tie.decreases-loop
+abbrev decreases-loop : tie.decreases-loop-mode
 decreases-loop n list left₀ mode₀ left mode = 11 - mode
 
-mode_numbers_requires : tie.Need-mode_numbers-requires invariant-loop decreases-loop
+mode_numbers_requires : tie.Need-mode_numbers-list-requires invariant-loop decreases-loop
 mode_numbers_requires c κs = search rules
 
-loop_holds : tie.Need-loop-init invariant-loop decreases-loop
+loop_holds : tie.Need-loop-mode-init invariant-loop decreases-loop
 loop_holds c = (omega arith, refl)
 
-mul_if1 : tie.Need-overflow-mul-if1 invariant-loop decreases-loop
+mul_if1 : tie.Need-offset_bounds-list-mode invariant-loop decreases-loop
 mul_if1 c = search rules
 
-array_read_if1 : tie.Need-array-read-if1 invariant-loop decreases-loop
+array_read_if1 : tie.Need-bounds-list-mode invariant-loop decreases-loop
 array_read_if1 c = search rules
 
-returns : tie.Need-returns invariant-loop decreases-loop
+returns : tie.Need-returns-then-left-list invariant-loop decreases-loop
 returns c =
-    let begun = c.before.before.before in
-    come_over _ 11 _ _ c.before.loop-test.true c.if1.true
-    ∙ sym (come_begun begun.before.args.m begun.mode_numbers.result begun.before.args.n begun.mode_numbers.ensures ∙ c.before.before.loop.invariant.1)
+    let begun = c in
+    come_over _ 11 _ _ c.loop-mode-test.true c.if-left-list.true
+    ∙ sym (come_begun begun.args.m begun.mode_numbers-list.result begun.args.n begun.mode_numbers-list.ensures ∙ c.loop-mode.invariant.1)
 
-mul_left : tie.Need-overflow-mul-left invariant-loop decreases-loop
+mul_left : tie.Need-offset_bounds-list-mode-in-loop-mode invariant-loop decreases-loop
 mul_left c = search rules
 
-array_read_left : tie.Need-array-read-left invariant-loop decreases-loop
+array_read_left : tie.Need-bounds-list-mode-in-loop-mode invariant-loop decreases-loop
 array_read_left c = search rules
 
-sub_left : tie.Need-overflow-sub-left invariant-loop decreases-loop
+sub_left : tie.Need-overflow_sub-left invariant-loop decreases-loop
 sub_left c = search rules
 
-add_mode_lem : tie.Need-overflow-add-mode invariant-loop decreases-loop
+add_mode_lem : tie.Need-overflow_add-mode invariant-loop decreases-loop
 add_mode_lem c = search rules
 
-loop_less : tie.Need-loop-smaller invariant-loop decreases-loop
+loop_less : tie.Need-loop-mode-smaller invariant-loop decreases-loop
 loop_less c = search rules
 
-loop_again : tie.Need-loop-preserved invariant-loop decreases-loop
-loop_again c = (omega arith, c.before.before.loop.invariant.1 ∙ come_on _ 11 _ _ c.before.loop-test.true c.if1.false)
+loop_again : tie.Need-loop-mode-preserved invariant-loop decreases-loop
+loop_again c = (omega arith, c.loop-mode.invariant.1 ∙ come_on _ 11 _ _ c.loop-mode-test.true c.if-left-list.false)
 
-returns_2 : tie.Need-returns-2 invariant-loop decreases-loop
+returns_2 : tie.Need-returns invariant-loop decreases-loop
 returns_2 c =
-    let begun = c.before.before in
-    come_all _ 11 _ _ c.loop-test.false
-    ∙ sym (come_begun begun.before.args.m begun.mode_numbers.result begun.before.args.n begun.mode_numbers.ensures ∙ c.before.loop.invariant.1)
+    let begun = c in
+    come_all _ 11 _ _ c.loop-mode-test.false
+    ∙ sym (come_begun begun.args.m begun.mode_numbers-list.result begun.args.n begun.mode_numbers-list.ensures ∙ c.loop-mode.invariant.1)
 
 pub come_to_spec : {M : Type 1} → statement M
 come_to_spec =

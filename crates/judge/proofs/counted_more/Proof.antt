@@ -18,7 +18,8 @@ use Rattle.judge.proofs.modes_of.Reads as modes-of-reads
 use Rattle.judge.proofs.tally_of.Reads as tally-of-reads
 use Rattle.judge.proofs.verdict_in.Reads as verdict-in-reads
 
-modes_of_requires : tie.Need-modes_of-requires
+
+modes_of_requires : tie.Need-modes_of-list-requires
 modes_of_requires c κs = search rules
 
 tally_of_requires : tie.Need-tally_of-requires
@@ -30,15 +31,15 @@ mode_place_requires c κs = search rules
 verdict_in_requires : tie.Need-verdict_in-requires
 verdict_in_requires c κs = search rules
 
-add_record_requires : tie.Need-add_record-requires
+add_record_requires : tie.Need-add_record-tally-requires
 add_record_requires c κs =
-    let a = c.before.before.before.before.before.args in
-    let modes = c.before.before.before.before.modes_of.ensures in
-    let tally = c.before.before.before.tally_of.ensures in
-    rw (tally.0, modes.0, c.before.mode_place.ensures, c.verdict_in.ensures)
+    let a = c.args in
+    let modes = c.modes_of-list.ensures in
+    let tally = c.tally_of.ensures in
+    rw (tally.0, modes.0, c.mode_place.ensures, c.verdict_in.ensures)
     (narrow_addable a.points a.c (subst SmallTally tally.0 tally.1) (subst SmallModes modes.0 modes.1) a.worth a.mode a.number (omega arith))
 
-cast_t14 : tie.Need-overflow-cast-t14
+cast_t14 : tie.Need-overflow_cast-result
 cast_t14 c = search rules
 
 counts_of_requires : tie.Need-counts_of-requires
@@ -48,12 +49,12 @@ returns : tie.Need-returns
 unfolding counted_more totals_in
 returns c =
     let told = c.before.before.before in
-    let asked = told.before in
-    let a = asked.before.before.before.before.before.args in
-    let sums : tallied told.add_record.result _ ≡ add_record (totals_in a.points a.c) a.worth (mode_place a.mode) (verdict_in a.number) =
-    told.add_record.ensures.0
-    ∙ (λ i. add_record (tallied (asked.before.before.before.tally_of.ensures.0 i) (asked.before.before.before.before.modes_of.ensures.0 i)) a.worth (asked.before.mode_place.ensures i) (asked.verdict_in.ensures i)) in
-    λ i. record { points = low_four (sums i).points; counts = (c.Counts-of.ensures ∙ ap counts_of sums) i }
+    let asked = told in
+    let a = asked.args in
+    let sums : tallied told.add_record-tally.result _ ≡ add_record (totals_in a.points a.c) a.worth (mode_place a.mode) (verdict_in a.number) =
+    told.add_record-tally.ensures.0
+    ∙ (λ i. add_record (tallied (asked.tally_of.ensures.0 i) (asked.modes_of-list.ensures.0 i)) a.worth (asked.mode_place.ensures i) (asked.verdict_in.ensures i)) in
+    λ i. record { points = low_four (sums i).points; counts = (c.counts_of.ensures ∙ ap counts_of sums) i }
 
 pub counted_more_spec : {M : Type 1} → statement M
 counted_more_spec =

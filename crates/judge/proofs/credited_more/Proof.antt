@@ -7,60 +7,61 @@ use Rattle.judge.proofs.ModeLaws.{one_counted}
 use Rattle.judge.proofs.credited_more.Statement.{statement}
 use Rattle.judge.proofs.credited_more.Tie as tie
 
--- Where the code begins, from where the mode is known and from where the squares are raised.
-abbrev placed : tie.After-struct-known → tie.Start
-placed c = c.before.before
 
-abbrev squared : tie.After-struct-known3 → tie.Start
+-- Where the code begins, from where the mode is known and from where the squares are raised.
+abbrev placed : tie.After-struct_known-1 → tie.Start
+placed c = c.before.before.before
+
+abbrev squared : tie.After-struct_known-3-1 → tie.Start
 squared c = placed c.before.before.before
 
-mul_modes : tie.Need-overflow-mul-modes
+mul_modes : tie.Need-offset_bounds-modes-mode
 mul_modes c = omega (arith, mode_placed c.requires.0 c.requires.1)
 
-element_copy_out_modes : tie.Need-element-copy-out-modes
+element_copy_out_modes : tie.Need-bounds-modes-mode
 element_copy_out_modes c = mode_placed c.requires.0 c.requires.1
 
-add_modes : tie.Need-overflow-add-modes
-add_modes c = let start = c.before in omega (arith, start.requires.0.modes_small start.args.mode)
+add_modes : tie.Need-overflow_add-modes
+add_modes c = let start = c in omega (arith, start.requires.0.modes_small start.args.mode)
 
-mul_modes_2 : tie.Need-overflow-mul-modes-2
-mul_modes_2 c = omega (arith, mode_placed c.before.requires.0 c.before.requires.1)
+mul_modes_2 : tie.Need-offset_bounds-modes-mode-2
+mul_modes_2 c = omega (arith, mode_placed c.requires.0 c.requires.1)
 
-element_write_modes : tie.Need-element-write-modes
-element_write_modes c = mode_placed c.before.requires.0 c.before.requires.1
+element_write_modes : tie.Need-bounds-modes-mode-2
+element_write_modes c = mode_placed c.requires.0 c.requires.1
 
-add_sums : tie.Need-overflow-add-sums
+add_sums : tie.Need-overflow_add-sums
 add_sums c = omega (arith, (placed c).requires.0.credited)
 
-add_sums_2 : tie.Need-overflow-add-sums-2
-add_sums_2 c = let start = placed c.before in omega (arith, start.pre.0.points, start.pre.0.worth_small)
+add_sums_2 : tie.Need-overflow_add-sums-2
+add_sums_2 c = let start = placed c.before in omega (arith, start.requires.0.points, start.requires.0.worth_small)
 
 one_if_requires : tie.Need-one_if-requires
 one_if_requires c κs = search rules
 
-add_sums_3 : tie.Need-overflow-add-sums-3
-add_sums_3 c = let start = squared c in omega (arith, start.pre.0.squares, c.before.one_if.ensures, worth_most start.args.v.square 1)
+add_sums_3 : tie.Need-overflow_add-sums-3
+add_sums_3 c = let start = squared c in omega (arith, start.requires.0.squares, c.one_if.ensures, worth_most start.args.v.square 1)
 
 one_if_requires_2 : tie.Need-one_if-requires-2
 one_if_requires_2 c κs = search rules
 
-add_sums_4 : tie.Need-overflow-add-sums-4
-add_sums_4 c = let start = squared c.before.before in omega (arith, start.pre.0.exchanges, c.before.one-if2.ensures, worth_most start.args.v.exchange 1)
+add_sums_4 : tie.Need-overflow_add-sums-4
+add_sums_4 c = let start = squared c.before.before in omega (arith, start.requires.0.exchanges, c.one_if-2.ensures, worth_most start.args.v.exchange 1)
 
 one_if_requires_3 : tie.Need-one_if-requires-3
 one_if_requires_3 c κs = search rules
 
-add_sums_5 : tie.Need-overflow-add-sums-5
-add_sums_5 c = let start = squared c.before.before.before.before in omega (arith, start.pre.0.countries, c.before.one-if3.ensures, worth_most start.args.v.country 1)
+add_sums_5 : tie.Need-overflow_add-sums-5
+add_sums_5 c = let start = squared c.before.before.before.before in omega (arith, start.requires.0.countries, c.one_if-3.ensures, worth_most start.args.v.country 1)
 
 returns : tie.Need-returns
 returns c =
     let start = squared c.before.before.before.before in
     let modes = start.args.modes.now in
     let mode = start.args.mode in (
-      credited_sums (tallied start.args.t modes) start.args.worth mode start.args.v start.pre.1 c.before.before.before.before.before.one_if.ensures c.before.before.before.one-if2.ensures c.before.one-if3.ensures
-          (one_counted modes mode (omega (arith, start.pre.0.long, mode_placed start.pre.0 start.pre.1))),
-      credited_list modes mode start.args.v start.pre.1,
+      credited_sums (tallied start.args.t modes) start.args.worth mode start.args.v start.requires.1 c.one_if.ensures c.one_if-2.ensures c.one_if-3.ensures
+          (one_counted modes mode (omega (arith, start.requires.0.long, mode_placed start.requires.0 start.requires.1))),
+      credited_list modes mode start.args.v start.requires.1,
     )
 
 pub credited_more_spec : {M : Type 1} → statement M

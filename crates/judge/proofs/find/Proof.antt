@@ -1,7 +1,6 @@
 -- The search goes from one equal key to the next, and ends at the first part that is the same.
 use Prim.Native.Nat.{◌+◌, ◌-◌, ◌≤◌}
 use native.Mathlib.Omega.{arith}
-use mathlib.Core.Logic.{⊎_elim}
 use mathlib.Core.Path.{◌≡◌, refl, sym, ap, ◌∙◌}
 use lib.ListN.{get_or}
 use borrow.Author.Rules.{rules}
@@ -9,7 +8,9 @@ use Rattle.judge.specs.declared.Found.TheVariants.{At}
 use Rattle.judge.specs.Parts.{seek, part_by}
 use Rattle.judge.proofs.PartLaws.{compared, first_most, seek_all, seek_none, seek_here, seek_later, seek_over}
 use Rattle.judge.proofs.find.Statement.{statement}
+use Rattle.judge.proofs.find.Lts.{then-m-k, else-m-k+then-same_run}
 use Rattle.judge.proofs.find.Tie as tie
+
 
 abbrev invariant_look : tie.invariant-look
 invariant_look s places keys m place key n k₀ k =
@@ -22,90 +23,89 @@ decreases_look s places keys m place key n k₀ k = m + 1 - k
 abbrev start : tie.At-look invariant_look decreases_look → tie.Start invariant_look decreases_look
 start c = c.before.before.before.before.before.before
 
-onward : (c : tie.After-next_key invariant_look decreases_look) →
+onward : (c : tie.After-next_key-k invariant_look decreases_look) →
     let a = (start c.before).args in
     let t = part_by a.s.now a.place (get_or a.keys.now a.m 0) in
-    (c.next_key.result ≤ a.m) × (seek a.s.now a.places.now a.keys.now t a.m 0 ≡ seek a.s.now a.places.now a.keys.now t (a.m - c.next_key.result) c.next_key.result)
+    (c.next_key-k.result ≤ a.m) × (seek a.s.now a.places.now a.keys.now t a.m 0 ≡ seek a.s.now a.places.now a.keys.now t (a.m - c.next_key-k.result) c.next_key-k.result)
 onward c =
     let begun = start c.before in
     let a = begun.args in
-    let first = c.next_key.ensures in
-    let inv = c.before.look.invariant in
+    let first = c.next_key-k.ensures in
+    let inv = c.look.invariant in
     let most = first_most a.keys.now a.m first inv.0 in
-    (most, inv.1 ∙ seek_over a.s.now a.places.now a.keys.now (part_by a.s.now a.place (get_or a.keys.now a.m 0)) a.place a.m c.before.look.k c.next_key.result begun.pre.0 begun.pre.1 refl first.behind most first.none)
+    (most, inv.1 ∙ seek_over a.s.now a.places.now a.keys.now (part_by a.s.now a.place (get_or a.keys.now a.m 0)) a.place a.m c.look.k c.next_key-k.result begun.requires.0 begun.requires.1 refl first.behind most first.none)
 
-mul_key : tie.Need-overflow-mul-key invariant_look decreases_look
-mul_key c = omega (arith, c.before.before.before.requires.0.many_keys)
+mul_key : tie.Need-offset_bounds-keys-m invariant_look decreases_look
+mul_key c = omega (arith, c.requires.0.many_keys)
 
-shared_slice_read_key : tie.Need-shared-slice-read-key invariant_look decreases_look
-shared_slice_read_key c = c.before.before.before.before.requires.0.many_keys
+shared_slice_read_key : tie.Need-bounds-keys-m invariant_look decreases_look
+shared_slice_read_key c = c.requires.0.many_keys
 
-wide_requires : tie.Need-wide-requires invariant_look decreases_look
+wide_requires : tie.Need-wide-n-requires invariant_look decreases_look
 wide_requires c κs = search rules
 
 look_holds : tie.Need-look-init invariant_look decreases_look
 look_holds c = (omega arith, seek_all _ _ _ _ _)
 
-next_key_requires : tie.Need-next_key-requires invariant_look decreases_look
+next_key_requires : tie.Need-next_key-k-requires invariant_look decreases_look
 next_key_requires c κs =
     record { there = (start c).args.m; behind = c.look.invariant.0; within = (start c).requires.0.many_keys; stands = refl }
 
-mul_wide : tie.Need-overflow-mul-wide invariant_look decreases_look
-mul_wide c = omega (arith, (start c.before.before).pre.0.many_places, c.if1.false)
+mul_wide : tie.Need-offset_bounds-places-k invariant_look decreases_look
+mul_wide c = omega (arith, (start c.before.before).requires.0.many_places, c.if-m-k.false)
 
-shared_slice_read_wide : tie.Need-shared-slice-read-wide invariant_look decreases_look
-shared_slice_read_wide c = omega (arith, (start c.before.before.before).pre.0.many_places, c.before.if1.false)
+shared_slice_read_wide : tie.Need-bounds-places-k invariant_look decreases_look
+shared_slice_read_wide c = omega (arith, (start c.before.before.before).requires.0.many_places, c.if-m-k.false)
 
-wide_requires_2 : tie.Need-wide-requires-2 invariant_look decreases_look
+wide_requires_2 : tie.Need-wide-requires invariant_look decreases_look
 wide_requires_2 c κs = search rules
 
 same_run_requires : tie.Need-same_run-requires invariant_look decreases_look
 same_run_requires c κs =
     let after = c.before.before.before in
     let begun = start after.before in
-    let size = after.before.before.wide.ensures.0 in
-    let inside = begun.pre.0.inside after.next_key.result c.before.before.if1.false in
-    (λ z. omega (arith, size, c.wide2.ensures.0, inside.within, after.next_key.ensures.stands), λ z. omega (arith, size, begun.pre.1.within))
+    let size = after.wide-n.ensures.0 in
+    let inside = begun.requires.0.inside after.next_key-k.result c.if-m-k.false in
+    (λ z. omega (arith, size, c.wide.ensures.0, inside.within, after.next_key-k.ensures.stands), λ z. omega (arith, size, begun.requires.1.within))
 
-add_k : tie.Need-overflow-add-k invariant_look decreases_look
+add_k : tie.Need-overflow_add-k invariant_look decreases_look
 add_k c =
     let after = c.before.before.before.before.before in
-    omega (arith, (start after.before).pre.0.many_keys, c.before.before.before.before.if1.false)
+    omega (arith, (start after.before).requires.0.many_keys, c.if-m-k.false)
 
 look_less : tie.Need-look-smaller invariant_look decreases_look
 look_less c =
-    let after = c.before.before.before.before.before in
-    omega (arith, after.next_key.ensures.behind, c.before.before.before.before.if1.false)
+    let after = c in
+    omega (arith, after.next_key-k.ensures.behind, c.if-m-k.false)
 
 look_again : tie.Need-look-preserved invariant_look decreases_look
 look_again c =
     let after = c.before.before.before.before.before in
     let begun = start after.before in
     let a = begun.args in
-    let small = c.before.before.before.before.if1.false in
-    let unlike = compared a.s.now a.places.now a.keys.now a.place a.m after.next_key.result after.before.before.wide.ensures.0 c.before.before.wide2.ensures.0 after.next_key.ensures.stands c.before.same_run.ensures c.if2.false in
-    (omega arith, (onward after).1 ∙ seek_later a.s.now a.places.now a.keys.now _ a.m after.next_key.result small unlike)
+    let small = c.if-m-k.false in
+    let unlike = compared a.s.now a.places.now a.keys.now a.place a.m after.next_key-k.result after.wide-n.ensures.0 c.wide.ensures.0 after.next_key-k.ensures.stands c.same_run.ensures c.if-same_run.false in
+    (omega arith, (onward after).1 ∙ seek_later a.s.now a.places.now a.keys.now _ a.m after.next_key-k.result small unlike)
 
-returns : tie.Need-returns invariant_look decreases_look
+returns : tie.Need-returns-then-at-m invariant_look decreases_look
 returns c =
     let after = c.before.before in
-    let begun = start after.before in
-    let a = begun.args in
-    ⊎_elim (λ w. absurd (omega arith))
-    (λ w.
-    ap At w.5
-    ∙ sym
-    ((onward after).1
-    ∙ seek_here a.s.now a.places.now a.keys.now _ a.m after.next_key.result w.0.left
-    (compared a.s.now a.places.now a.keys.now a.place a.m after.next_key.result after.before.before.wide.ensures.0 w.2.ensures.0 after.next_key.ensures.stands w.3.ensures w.4.taken)))
-    c.before.if1.branch
+    let a = c.args in
+    elim c.if-m-k.branch
+    [ then-m-k w ↦ let h = w.if-m-k.true in let k = w.at-is in absurd (omega arith)
+    | else-m-k+then-same_run w ↦
+        ap At w.at-is
+        ∙ sym
+        ((onward after).1
+        ∙ seek_here a.s.now a.places.now a.keys.now _ a.m after.next_key-k.result w.if-m-k.false
+        (compared a.s.now a.places.now a.keys.now a.place a.m after.next_key-k.result after.wide-n.ensures.0 w.wide.ensures.0 after.next_key-k.ensures.stands w.same_run.ensures w.if-same_run.true)) ]
 
-returns_2 : tie.Need-returns-2 invariant_look decreases_look
+returns_2 : tie.Need-returns invariant_look decreases_look
 returns_2 c =
     let after = c.before.before in
-    ⊎_elim (λ w. seek_none _ _ _ _ _ _ w.0.taken ∙ sym (onward after).1)
-    (λ w. let h = w.0.left in let k = w.5 in absurd (omega arith))
-    c.before.if1.branch
+    elim c.if-m-k.branch
+    [ then-m-k w ↦ seek_none _ _ _ _ _ _ w.if-m-k.true ∙ sym (onward after).1
+    | else-m-k+then-same_run w ↦ let h = w.if-m-k.false in let k = w.at-is in absurd (omega arith) ]
 
 pub find_spec : {M : Type 1} → statement M
 find_spec =

@@ -5,28 +5,26 @@ use Rattle.judge.proofs.PartLaws.{error_short}
 use Rattle.judge.proofs.is_error.Statement.{statement}
 use Rattle.judge.proofs.is_error.Tie as tie
 
-sub_if1 : tie.Need-overflow-sub-if1
+
+sub_if1 : tie.Need-overflow_sub-e
 sub_if1 c = search rules
 
-returns : tie.Need-returns
-returns c = let a = c.before.before.args in error_short a.s.now a.a a.e c.before.before.requires.0 c.before.before.requires.1 c.if1.true
+returns : tie.Need-returns-then-e-a-ne5
+returns c = let a = c.args in error_short a.s.now a.a a.e c.requires.0 c.requires.1 c.if-e-a-ne5.true
 
-sub_same_text : tie.Need-overflow-sub-same_text
+sub_same_text : tie.Need-slice_bounds-same_text-count
 sub_same_text c = search rules
 
-part_same_text_start : tie.Need-slice-bounds-same_text-start
+part_same_text_start : tie.Need-slice_bounds-same_text-start
 part_same_text_start c = search rules
 
-part_same_text_end : tie.Need-slice-bounds-same_text-end
+part_same_text_end : tie.Need-slice_bounds-same_text-end
 part_same_text_end c = search rules
-
-slice_aggregate_same_text : tie.Need-slice-aggregate-same_text
-slice_aggregate_same_text c = search rules
 
 same_text_requires : tie.Need-same_text-requires
 same_text_requires c κs = search rules
 
-returns_2 : tie.Need-returns-2
+returns_2 : tie.Need-returns
 unfolding error_call
 returns_2 c = c.same_text.ensures
 
@@ -39,6 +37,5 @@ is_error_spec =
     sub_same_text
     part_same_text_start
     part_same_text_end
-    slice_aggregate_same_text
     same_text_requires
     returns_2)

@@ -8,21 +8,22 @@ use Rattle.judge.proofs.SumLaws.{not_rate, rate_by}
 use Rattle.judge.proofs.is_rate.Statement.{statement}
 use Rattle.judge.proofs.is_rate.Tie as tie
 
+
 most_bonus_requires : tie.Need-most_bonus-requires
 most_bonus_requires c κs = search rules
 
-returns : tie.Need-returns
+returns : tie.Need-returns-then-most_bonus-bonus
 unfolding base
-returns c = not_rate base _ _ (λ h. omega (arith, h.0, c.before.most_bonus.ensures, c.if1.true))
+returns c = not_rate base _ _ (λ h. omega (arith, h.0, c.most_bonus.ensures, c.if-most_bonus-bonus.true))
 
-returns_2 : tie.Need-returns-2
-returns_2 c = not_rate base _ _ (λ h. omega (arith, h.1, c.if2.true))
+returns_2 : tie.Need-returns-then-multiplier-lt1
+returns_2 c = not_rate base _ _ (λ h. omega (arith, h.1, c.if-multiplier-lt1.true))
 
 most_multiplier_requires : tie.Need-most_multiplier-requires
 most_multiplier_requires c κs = search rules
 
-returns_3 : tie.Need-returns-3
-returns_3 c = ap (leb _) c.most_multiplier.ensures ∙ rate_by base _ _ (omega (arith, c.before.before.before.most_bonus.ensures, c.before.before.if1.false)) (omega (arith, c.before.if2.false))
+returns_3 : tie.Need-returns
+returns_3 c = ap (leb _) c.most_multiplier.ensures ∙ rate_by base _ _ (omega (arith, c.most_bonus.ensures, c.if-most_bonus-bonus.false)) (omega (arith, c.if-multiplier-lt1.false))
 
 pub is_rate_spec : {M : Type 1} → statement M
 is_rate_spec =

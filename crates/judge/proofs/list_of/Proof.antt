@@ -8,6 +8,7 @@ use Rattle.judge.proofs.list_of.Tie as tie
 use Rattle.judge.proofs.list_of.Reads as reads
 use Rattle.judge.proofs.list_of.Lts as lts
 
+
 returns : tie.Need-returns
 returns c = (refl, small_cons (omega arith) (small_cons (omega arith) (small_cons (omega arith) (small_cons (omega arith) (small_cons (omega arith) (small_cons (omega arith) (small_cons (omega arith) (small_cons (omega arith) (small_cons (omega arith) (small_cons (omega arith) (small_cons (omega arith) small_none)))))))))))
 

@@ -5,37 +5,38 @@ use Rattle.judge.specs.Count.{modes_in}
 use Rattle.judge.proofs.modes_in.Statement.{statement}
 use Rattle.judge.proofs.modes_in.Tie as tie
 
-element_copy_out_t4 : tie.Need-element-copy-out-t4
+
+element_copy_out_t4 : tie.Need-bounds-n-0
 element_copy_out_t4 c = search rules
 
-element_copy_out_t7 : tie.Need-element-copy-out-t7
+element_copy_out_t7 : tie.Need-bounds-n-1
 element_copy_out_t7 c = search rules
 
-element_copy_out_t10 : tie.Need-element-copy-out-t10
+element_copy_out_t10 : tie.Need-bounds-n-2
 element_copy_out_t10 c = search rules
 
-element_copy_out_t13 : tie.Need-element-copy-out-t13
+element_copy_out_t13 : tie.Need-bounds-n-3
 element_copy_out_t13 c = search rules
 
-element_copy_out_t16 : tie.Need-element-copy-out-t16
+element_copy_out_t16 : tie.Need-bounds-n-4
 element_copy_out_t16 c = search rules
 
-element_copy_out_t19 : tie.Need-element-copy-out-t19
+element_copy_out_t19 : tie.Need-bounds-n-5
 element_copy_out_t19 c = search rules
 
-element_copy_out_t22 : tie.Need-element-copy-out-t22
+element_copy_out_t22 : tie.Need-bounds-n-6
 element_copy_out_t22 c = search rules
 
-element_copy_out_t25 : tie.Need-element-copy-out-t25
+element_copy_out_t25 : tie.Need-bounds-n-7
 element_copy_out_t25 c = search rules
 
-element_copy_out_t28 : tie.Need-element-copy-out-t28
+element_copy_out_t28 : tie.Need-bounds-n-8
 element_copy_out_t28 c = search rules
 
-element_copy_out_t31 : tie.Need-element-copy-out-t31
+element_copy_out_t31 : tie.Need-bounds-n-9
 element_copy_out_t31 c = search rules
 
-element_copy_out_t34 : tie.Need-element-copy-out-t34
+element_copy_out_t34 : tie.Need-bounds-n-10
 element_copy_out_t34 c = search rules
 
 returns : tie.Need-returns

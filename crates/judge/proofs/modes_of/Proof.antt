@@ -8,6 +8,7 @@ use Rattle.judge.proofs.modes_of.Reads as reads
 use Rattle.judge.proofs.modes_of.Lts as lts
 use Rattle.judge.proofs.list_of.Reads as list-of-reads
 
+
 list_of_requires : tie.Need-list_of-requires
 list_of_requires c κs = search rules
 

@@ -9,40 +9,41 @@ use Rattle.judge.proofs.PartLaws.{ahead_more, none_more}
 use Rattle.judge.proofs.next_key.Statement.{statement}
 use Rattle.judge.proofs.next_key.Tie as tie
 
-abbrev invariant-loop : tie.invariant-loop
+
+abbrev invariant-loop : tie.invariant-loop-k
 invariant-loop keys from key k₀ k = (from ≤ k) × Ahead keys k key × ((j : ℕ) → from ≤ j → j < k → get_or keys j 0 ≡ key → ⊥)
 
-abbrev decreases-loop : tie.decreases-loop
+abbrev decreases-loop : tie.decreases-loop-k
 decreases-loop keys from key k₀ k = length keys - k
 
-loop_holds : tie.Need-loop-init invariant-loop decreases-loop
+loop_holds : tie.Need-loop-k-init invariant-loop decreases-loop
 loop_holds c = (omega arith, c.requires, λ j h l e. absurd (omega arith))
 
-mul_if1 : tie.Need-overflow-mul-if1 invariant-loop decreases-loop
+mul_if1 : tie.Need-offset_bounds-keys-k invariant-loop decreases-loop
 mul_if1 c = search rules
 
-shared_slice_read_if1 : tie.Need-shared-slice-read-if1 invariant-loop decreases-loop
-shared_slice_read_if1 c = omega (arith, c.before.loop.invariant.1.behind, c.before.loop.invariant.1.within)
+shared_slice_read_if1 : tie.Need-bounds-keys-k invariant-loop decreases-loop
+shared_slice_read_if1 c = omega (arith, c.loop-k.invariant.1.behind, c.loop-k.invariant.1.within)
 
-add_k : tie.Need-overflow-add-k invariant-loop decreases-loop
-add_k c = omega (arith, c.before.before.loop.invariant.1.behind, c.before.before.loop.invariant.1.within)
+add_k : tie.Need-overflow_add-k invariant-loop decreases-loop
+add_k c = omega (arith, c.loop-k.invariant.1.behind, c.loop-k.invariant.1.within)
 
-loop_less : tie.Need-loop-smaller invariant-loop decreases-loop
-loop_less c = omega (arith, c.before.before.loop.invariant.1.behind, c.before.before.loop.invariant.1.within)
+loop_less : tie.Need-loop-k-smaller invariant-loop decreases-loop
+loop_less c = omega (arith, c.loop-k.invariant.1.behind, c.loop-k.invariant.1.within)
 
-loop_again : tie.Need-loop-preserved invariant-loop decreases-loop
+loop_again : tie.Need-loop-k-preserved invariant-loop decreases-loop
 loop_again c =
-    let a = c.before.before.before.args in
-    let inv = c.before.before.loop.invariant in
-    (omega arith, ahead_more a.keys.now a.key c.before.before.loop.k inv.1 c.if1.true, none_more a.keys.now a.key c.before.before.loop.k a.from inv.2 c.if1.true)
+    let a = c.args in
+    let inv = c.loop-k.invariant in
+    (omega arith, ahead_more a.keys.now a.key c.loop-k.k inv.1 c.loop-k-test.true, none_more a.keys.now a.key c.loop-k.k a.from inv.2 c.loop-k-test.true)
 
 returns : tie.Need-returns invariant-loop decreases-loop
 returns c =
-    let inv = c.before.before.loop.invariant in
+    let inv = c.loop-k.invariant in
     record {
       behind = inv.0;
       within = omega (arith, inv.1.behind, inv.1.within);
-      stands = c.if1.false;
+      stands = c.loop-k-test.false;
       none = inv.2;
     }
 

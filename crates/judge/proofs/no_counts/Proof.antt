@@ -7,6 +7,7 @@ use Rattle.judge.proofs.no_counts.Tie as tie
 use Rattle.judge.proofs.no_counts.Reads as reads
 use Rattle.judge.proofs.no_counts.Lts as lts
 
+
 returns : tie.Need-returns
 unfolding no_counts
 returns c = refl

@@ -12,40 +12,41 @@ use Rattle.judge.proofs.PartLaws.{run_inside}
 use Rattle.judge.proofs.part_end.Statement.{statement}
 use Rattle.judge.proofs.part_end.Tie as tie
 
-abbrev invariant-loop : tie.invariant-loop
+
+abbrev invariant-loop : tie.invariant-loop-i
 invariant-loop s at i₀ i = Within in_field s at i
 
-abbrev decreases-loop : tie.decreases-loop
+abbrev decreases-loop : tie.decreases-loop-i
 decreases-loop s at i₀ i = length s - i
 
-loop_holds : tie.Need-loop-init invariant-loop decreases-loop
+loop_holds : tie.Need-loop-i-init invariant-loop decreases-loop
 loop_holds c = run_starts in_field _ _
 
-shared_slice_read_if1 : tie.Need-shared-slice-read-if1 invariant-loop decreases-loop
+shared_slice_read_if1 : tie.Need-bounds-s-i invariant-loop decreases-loop
 shared_slice_read_if1 c =
-    let start = c.before.before in run_inside start.args.s.now start.args.at c.before.loop.i start.requires c.before.loop.invariant
+    let start = c in run_inside start.args.s.now start.args.at c.loop-i.i start.requires c.loop-i.invariant
 
-add_i : tie.Need-overflow-add-i invariant-loop decreases-loop
+add_i : tie.Need-overflow_add-i invariant-loop decreases-loop
 add_i c =
-    let start = c.before.before.before in
-    omega (arith, run_inside start.args.s.now start.args.at c.before.before.loop.i start.requires c.before.before.loop.invariant)
+    let start = c in
+    omega (arith, run_inside start.args.s.now start.args.at c.loop-i.i start.requires c.loop-i.invariant)
 
-loop_less : tie.Need-loop-smaller invariant-loop decreases-loop
+loop_less : tie.Need-loop-i-smaller invariant-loop decreases-loop
 loop_less c =
-    let start = c.before.before.before in
-    omega (arith, run_inside start.args.s.now start.args.at c.before.before.loop.i start.requires c.before.before.loop.invariant)
+    let start = c in
+    omega (arith, run_inside start.args.s.now start.args.at c.loop-i.i start.requires c.loop-i.invariant)
 
-loop_again : tie.Need-loop-preserved invariant-loop decreases-loop
+loop_again : tie.Need-loop-i-preserved invariant-loop decreases-loop
 loop_again c =
-    let start = c.before.before.before in
-    let inside = run_inside start.args.s.now start.args.at c.before.before.loop.i start.requires c.before.before.loop.invariant in
-    run_more c.before.before.loop.invariant inside refl (ap (λ (b : Bool). not (not b)) (ne_eqb _ _ c.if1.true))
+    let start = c in
+    let inside = run_inside start.args.s.now start.args.at c.loop-i.i start.requires c.loop-i.invariant in
+    run_more c.loop-i.invariant inside refl (ap (λ (b : Bool). not (not b)) (ne_eqb _ _ c.loop-i-test.true))
 
 returns : tie.Need-returns invariant-loop decreases-loop
 returns c =
-    let start = c.before.before.before in
-    let inside = run_inside start.args.s.now start.args.at c.before.before.loop.i start.requires c.before.before.loop.invariant in
-    run_stops c.before.before.loop.invariant inside refl (ap (λ (b : Bool). not (not b)) (eq-eqb _ _ c.if1.false))
+    let start = c in
+    let inside = run_inside start.args.s.now start.args.at c.loop-i.i start.requires c.loop-i.invariant in
+    run_stops c.loop-i.invariant inside refl (ap (λ (b : Bool). not (not b)) (eq-eqb _ _ c.loop-i-test.false))
     ∙ sym (end_by_span start.args.s.now start.args.at)
 
 pub part_end_spec : {M : Type 1} → statement M

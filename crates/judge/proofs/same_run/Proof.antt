@@ -9,41 +9,42 @@ use Rattle.judge.proofs.PartLaws.{same_from, run_begins, run_ends, run_more, run
 use Rattle.judge.proofs.same_run.Statement.{statement}
 use Rattle.judge.proofs.same_run.Tie as tie
 
-abbrev invariant-loop : tie.invariant-loop
+
+abbrev invariant-loop : tie.invariant-loop-i
 invariant-loop s a b n i₀ i = same (take n (drop a s)) (take n (drop b s)) ≡ same_from s a b n i
 
-abbrev decreases-loop : tie.decreases-loop
+abbrev decreases-loop : tie.decreases-loop-i
 decreases-loop s a b n i₀ i = n - i
 
-loop_holds : tie.Need-loop-init invariant-loop decreases-loop
+loop_holds : tie.Need-loop-i-init invariant-loop decreases-loop
 loop_holds c = run_begins c.args.s.now c.args.a c.args.b c.args.n
 
-add_if1 : tie.Need-overflow-add-if1 invariant-loop decreases-loop
-add_if1 c = let k = c.before.before.requires.0 (omega arith) in omega arith
+add_if1 : tie.Need-overflow_add-a invariant-loop decreases-loop
+add_if1 c = let k = c.requires.0 (omega arith) in omega arith
 
-shared_slice_read_if1 : tie.Need-shared-slice-read-if1 invariant-loop decreases-loop
-shared_slice_read_if1 c = let k = c.before.before.before.requires.0 (omega arith) in omega arith
+shared_slice_read_if1 : tie.Need-bounds-s-a invariant-loop decreases-loop
+shared_slice_read_if1 c = let k = c.requires.0 (omega arith) in omega arith
 
-add_if1_2 : tie.Need-overflow-add-if1-2 invariant-loop decreases-loop
-add_if1_2 c = let k = c.before.before.before.requires.1 (omega arith) in omega arith
+add_if1_2 : tie.Need-overflow_add-b invariant-loop decreases-loop
+add_if1_2 c = let k = c.requires.1 (omega arith) in omega arith
 
-shared_slice_read_if1_2 : tie.Need-shared-slice-read-if1-2 invariant-loop decreases-loop
-shared_slice_read_if1_2 c = let k = c.before.before.before.before.requires.1 (omega arith) in omega arith
+shared_slice_read_if1_2 : tie.Need-bounds-s-b invariant-loop decreases-loop
+shared_slice_read_if1_2 c = let k = c.requires.1 (omega arith) in omega arith
 
-returns : tie.Need-returns invariant-loop decreases-loop
-returns c = sym (c.before.before.before.before.loop.invariant ∙ run_differs c.before.before.before.before.before.args.s.now c.before.before.before.before.before.args.a c.before.before.before.before.before.args.b c.before.before.before.before.before.args.n c.before.before.before.before.loop.i c.before.before.before.loop-test.true c.before.before.before.before.before.requires.0 c.before.before.before.before.before.requires.1 c.if1.true)
+returns : tie.Need-returns-then-s-a invariant-loop decreases-loop
+returns c = sym (c.loop-i.invariant ∙ run_differs c.args.s.now c.args.a c.args.b c.args.n c.loop-i.i c.loop-i-test.true c.requires.0 c.requires.1 c.if-s-a.true)
 
-add_i : tie.Need-overflow-add-i invariant-loop decreases-loop
+add_i : tie.Need-overflow_add-i invariant-loop decreases-loop
 add_i c = search rules
 
-loop_less : tie.Need-loop-smaller invariant-loop decreases-loop
+loop_less : tie.Need-loop-i-smaller invariant-loop decreases-loop
 loop_less c = search rules
 
-loop_again : tie.Need-loop-preserved invariant-loop decreases-loop
-loop_again c = c.before.before.before.before.loop.invariant ∙ run_more c.before.before.before.before.before.args.s.now c.before.before.before.before.before.args.a c.before.before.before.before.before.args.b c.before.before.before.before.before.args.n c.before.before.before.before.loop.i c.before.before.before.loop-test.true c.before.before.before.before.before.requires.0 c.before.before.before.before.before.requires.1 c.if1.false
+loop_again : tie.Need-loop-i-preserved invariant-loop decreases-loop
+loop_again c = c.loop-i.invariant ∙ run_more c.args.s.now c.args.a c.args.b c.args.n c.loop-i.i c.loop-i-test.true c.requires.0 c.requires.1 c.if-s-a.false
 
-returns_2 : tie.Need-returns-2 invariant-loop decreases-loop
-returns_2 c = sym (c.before.loop.invariant ∙ run_ends c.before.before.args.s.now c.before.before.args.a c.before.before.args.b c.before.before.args.n c.before.loop.i c.loop-test.false)
+returns_2 : tie.Need-returns invariant-loop decreases-loop
+returns_2 c = sym (c.loop-i.invariant ∙ run_ends c.args.s.now c.args.a c.args.b c.args.n c.loop-i.i c.loop-i-test.false)
 
 pub same_run_spec : {M : Type 1} → statement M
 same_run_spec =

@@ -12,7 +12,8 @@ use Rattle.judge.proofs.modes_in.Reads as modes-in-reads
 use Rattle.judge.proofs.modes_of.Reads as modes-of-reads
 use Rattle.judge.proofs.tally_of.Reads as tally-of-reads
 
-modes_of_requires : tie.Need-modes_of-requires
+
+modes_of_requires : tie.Need-modes_of-list-requires
 modes_of_requires c κs = search rules
 
 tally_of_requires : tie.Need-tally_of-requires
@@ -23,7 +24,7 @@ modes_in_requires c κs = search rules
 
 returns : tie.Need-returns
 unfolding sums_in
-returns c = λ i. record { tally = c.before.before.tally_of.ensures.0 i; modes = (c.modes_in.ensures ∙ ap modes_in c.before.before.before.modes_of.ensures.0) i }
+returns c = λ i. record { tally = c.tally_of.ensures.0 i; modes = (c.modes_in.ensures ∙ ap modes_in c.modes_of-list.ensures.0) i }
 
 pub sums_of_spec : {M : Type 1} → statement M
 sums_of_spec = tie.close (tie.spec modes_of_requires tally_of_requires modes_in_requires returns)

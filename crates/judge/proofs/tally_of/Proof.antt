@@ -8,6 +8,7 @@ use Rattle.judge.proofs.tally_of.Reads as reads
 use Rattle.judge.proofs.tally_of.Lts as lts
 use Rattle.judge.proofs.tally_from.Reads as tally-from-reads
 
+
 tally_from_requires : tie.Need-tally_from-requires
 tally_from_requires c κs = search rules
 

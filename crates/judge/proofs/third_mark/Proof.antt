@@ -10,6 +10,7 @@ use Rattle.judge.proofs.ToldLaws.{two_inside, third_inside, two_on}
 use Rattle.judge.proofs.third_mark.Statement.{statement}
 use Rattle.judge.proofs.third_mark.Tie as tie
 
+
 -- The fields behind the points lie within the log.
 inside : (c : tie.Start) →
     let s = c.args.s.now in
@@ -17,31 +18,31 @@ inside : (c : tie.Start) →
     (end_of s x < length s) × (end_of s (end_of s x + 1) < length s)
 inside c = two_inside c.args.s.now (c.args.pointsend + 1) c.requires
 
-add_part_end : tie.Need-overflow-add-part_end
-add_part_end c = omega (arith, inside c.before, end_by_span c.before.args.s.now (c.before.args.pointsend + 1))
+add_part_end : tie.Need-overflow_add-pointsend
+add_part_end c = omega (arith, inside c.before, end_by_span c.args.s.now (c.args.pointsend + 1))
 
-part_end_requires : tie.Need-part_end-requires
+part_end_requires : tie.Need-part_end-second-requires
 part_end_requires c κs = (inside c.before).0
 
-add_second : tie.Need-overflow-add-second
-add_second c = omega (arith, inside c.before.before, c.part_end.ensures)
+add_second : tie.Need-overflow_add-second
+add_second c = omega (arith, inside c.before.before, c.part_end-second.ensures)
 
-part_end_requires_2 : tie.Need-part_end-requires-2
-part_end_requires_2 c κs = rw c.part_end.ensures (inside c.before.before).1
+part_end_requires_2 : tie.Need-part_end-requires
+part_end_requires_2 c κs = rw c.part_end-second.ensures (inside c.before.before).1
 
-add_result : tie.Need-overflow-add-result
+add_result : tie.Need-overflow_add-result
 add_result c =
     let start = c.before.before.before in
     let s = start.args.s.now in
-    omega (arith, c.part-end2.ensures, (inside start).1, ap (λ (n : ℕ). end_of s (n + 1)) c.before.part_end.ensures)
+    omega (arith, c.part_end.ensures, (inside start).1, ap (λ (n : ℕ). end_of s (n + 1)) c.part_end-second.ensures)
 
 returns : tie.Need-returns
 returns c =
-    let start = c.before.before.before in
+    let start = c in
     let a = start.args in
     let s = a.s.now in
-    let third : c.part-end2.result + 1 ≡ field_start s (a.pointsend + 1) 2 =
-    ap (λ (n : ℕ). n + 1) (c.part-end2.ensures ∙ ap (λ (n : ℕ). end_of s (n + 1)) c.before.part_end.ensures) ∙ two_on s (a.pointsend + 1) in
+    let third : c.part_end.result + 1 ≡ field_start s (a.pointsend + 1) 2 =
+    ap (λ (n : ℕ). n + 1) (c.part_end.ensures ∙ ap (λ (n : ℕ). end_of s (n + 1)) c.part_end-second.ensures) ∙ two_on s (a.pointsend + 1) in
     (third, third_inside s (a.pointsend + 1) start.requires third)
 
 pub third_mark_spec : {M : Type 1} → statement M

@@ -4,14 +4,15 @@ use Rattle.judge.proofs.SaidLaws.{verdict_credited, verdict_other}
 use Rattle.judge.proofs.verdict_by.Statement.{statement}
 use Rattle.judge.proofs.verdict_by.Tie as tie
 
+
 class_number_requires : tie.Need-class_number-requires
 class_number_requires c κs = search rules
 
-returns : tie.Need-returns
-returns c = verdict_credited _ _ _ _ c.before.class_number.ensures c.if1.true
+returns : tie.Need-returns-then-class_number-eq0
+returns c = verdict_credited _ _ _ _ c.class_number.ensures c.if-class_number-eq0.true
 
-returns_2 : tie.Need-returns-2
-returns_2 c = verdict_other _ _ _ _ c.before.class_number.ensures c.if1.false
+returns_2 : tie.Need-returns
+returns_2 c = verdict_other _ _ _ _ c.class_number.ensures c.if-class_number-eq0.false
 
 pub verdict_by_spec : {M : Type 1} → statement M
 verdict_by_spec = tie.close (tie.spec class_number_requires returns returns_2)

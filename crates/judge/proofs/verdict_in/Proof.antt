@@ -9,6 +9,7 @@ use Rattle.judge.specs.Sums.{verdict_in}
 use Rattle.judge.proofs.verdict_in.Statement.{statement}
 use Rattle.judge.proofs.verdict_in.Tie as tie
 
+
 class_in_requires : tie.Need-class_in-requires
 class_in_requires c κs = search rules
 
@@ -18,9 +19,9 @@ verdict_by_requires c κs = search rules
 returns : tie.Need-returns
 unfolding verdict_in
 returns c =
-    let n = c.before.before.args.number in
+    let n = c.args.number in
     c.verdict_by.ensures
-    ∙ ap (λ (k : Class). verdict_by k (eqb (n / 16 % 2) 1) (eqb (n / 32 % 2) 1) (eqb (n / 64 % 2) 1)) c.before.class_in.ensures
+    ∙ ap (λ (k : Class). verdict_by k (eqb (n / 16 % 2) 1) (eqb (n / 32 % 2) 1) (eqb (n / 64 % 2) 1)) c.class_in.ensures
 
 pub verdict_in_spec : {M : Type 1} → statement M
 verdict_in_spec = tie.close (tie.spec class_in_requires verdict_by_requires returns)

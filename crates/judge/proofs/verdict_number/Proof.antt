@@ -6,26 +6,27 @@ use Rattle.judge.proofs.CountLaws.{class_number_most, worth_most}
 use Rattle.judge.proofs.verdict_number.Statement.{statement}
 use Rattle.judge.proofs.verdict_number.Tie as tie
 
+
 class_number_requires : tie.Need-class_number-requires
 class_number_requires c κs = search rules
 
 mark_number_requires : tie.Need-mark_number-requires
 mark_number_requires c κs = search rules
 
-add_result : tie.Need-overflow-add-result
-add_result c = omega (arith, class_number_most c.before.before.args.v.class, worth_most c.before.before.args.v.exchange 16)
+add_result : tie.Need-overflow_add-result
+add_result c = omega (arith, class_number_most c.args.v.class, worth_most c.args.v.exchange 16)
 
 mark_number_requires_2 : tie.Need-mark_number-requires-2
 mark_number_requires_2 c κs = search rules
 
-add_result_2 : tie.Need-overflow-add-result-2
-add_result_2 c = omega (arith, class_number_most c.before.before.before.args.v.class, worth_most c.before.before.before.args.v.exchange 16, worth_most c.before.before.before.args.v.square 32)
+add_result_2 : tie.Need-overflow_add-result-2
+add_result_2 c = omega (arith, class_number_most c.args.v.class, worth_most c.args.v.exchange 16, worth_most c.args.v.square 32)
 
 mark_number_requires_3 : tie.Need-mark_number-requires-3
 mark_number_requires_3 c κs = search rules
 
-add_result_3 : tie.Need-overflow-add-result-3
-add_result_3 c = omega (arith, class_number_most c.before.before.before.before.args.v.class, worth_most c.before.before.before.before.args.v.exchange 16, worth_most c.before.before.before.before.args.v.square 32, worth_most c.before.before.before.before.args.v.country 64)
+add_result_3 : tie.Need-overflow_add-result-3
+add_result_3 c = omega (arith, class_number_most c.args.v.class, worth_most c.args.v.exchange 16, worth_most c.args.v.square 32, worth_most c.args.v.country 64)
 
 returns : tie.Need-returns
 unfolding verdict_number

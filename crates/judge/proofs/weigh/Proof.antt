@@ -11,35 +11,36 @@ use Rattle.judge.proofs.JudgeLaws.{accepts, all_listed, contacts_are, few_record
 use Rattle.judge.proofs.weigh.Statement.{statement}
 use Rattle.judge.proofs.weigh.Tie as tie
 
-slice_aggregate_survey : tie.Need-slice-aggregate-survey
+
+slice_aggregate_survey : tie.Need-slice_bounds-survey-end
 slice_aggregate_survey c = search rules
 
-slice_aggregate_survey_2 : tie.Need-slice-aggregate-survey-2
+slice_aggregate_survey_2 : tie.Need-slice_bounds-survey-end-2
 slice_aggregate_survey_2 c = search rules
 
 survey_requires : tie.Need-survey-requires
 survey_requires c κs = search rules
 
-enum_known_records : tie.Need-enum-known-records
+enum_known_records : tie.Need-enum_known-records
 enum_known_records c = search rules
 
-slice_aggregate_weigh_accepted : tie.Need-slice-aggregate-weigh_accepted
+slice_aggregate_weigh_accepted : tie.Need-slice_bounds-weigh_accepted-end
 slice_aggregate_weigh_accepted c = search rules
 
-slice_aggregate_weigh_accepted_2 : tie.Need-slice-aggregate-weigh_accepted-2
+slice_aggregate_weigh_accepted_2 : tie.Need-slice_bounds-weigh_accepted-end-in-Accepted
 slice_aggregate_weigh_accepted_2 c = search rules
 
 weigh_accepted_requires : tie.Need-weigh_accepted-requires
 unfolding read_of base
 weigh_accepted_requires c κs =
     let known = c.before.before.before.before in
-    let answer = known.before.before.before.before in
-    let surveyed = answer.before.before.before.before in
+    let answer = known.before.before.before in
+    let surveyed = answer.before.before.before in
     let back = surveyed.before.before.before.before in
-    let start = back.before.before.before.before in
+    let start = back in
     let s = start.args.log.now in
     let survey = surveyed.survey.ensures in
-    let accept : Accepts base s answer.records.given.0.0 answer.records.given.0.1.0 answer.records.given.0.1.1.0 = accepts base s (sym survey.0 ∙ answer.records.given.1) in
+    let accept : Accepts base s answer.in-Accepted.records answer.in-Accepted.first answer.in-Accepted.heading = accepts base s (sym survey.0 ∙ answer.in-Accepted.is) in
     let contacts = contacts_are accept (contacts_accepted base s accept.log accept.is_read) in
     let few = few_records accept in (
       accept,
@@ -51,29 +52,29 @@ weigh_accepted_requires c κs =
       },
     )
 
-enum_known_r : tie.Need-enum-known-r
+enum_known_r : tie.Need-enum_known-r
 enum_known_r c = search rules
 
-same_length : tie.Need-same-length
+same_length : tie.Need-shape_of-verdicts
 same_length c = search rules
 
-returns : tie.Need-returns
+returns : tie.Need-returns-in-Accepted
 returns c =
     let weighed = c.before.before.before.before in
     let known = weighed.before.before.before.before.before in
-    let answer = known.before.before.before.before in
-    let surveyed = answer.before.before.before.before in
+    let answer = known.before.before.before in
+    let surveyed = answer in
     (weighed.weigh_accepted.ensures.0, (weighed.weigh_accepted.ensures.1, surveyed.survey.ensures.1.1.1))
 
-returns_2 : tie.Need-returns-2
+returns_2 : tie.Need-returns-in-Refused
 unfolding read_of
 returns_2 c =
-    let surveyed = c.before.before.before.before.before in
+    let surveyed = c.before.before.before in
     let back = surveyed.before.before.before.before in
-    let start = back.before.before.before.before in
+    let start = back in
     let s = start.args.log.now in
     let slice = start.args.verdicts.now in
-    let unread = sym surveyed.survey.ensures.0 ∙ c.before.r.given.1 in
+    let unread = sym surveyed.survey.ensures.0 ∙ c.in-Refused.is in
     (refused_unread base s slice unread, (kept_unread base s slice unread, surveyed.survey.ensures.1.1.1))
 
 pub weigh_spec : {M : Type 1} → statement M

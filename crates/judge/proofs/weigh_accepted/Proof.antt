@@ -5,53 +5,54 @@ use Rattle.judge.proofs.JudgeLaws.{closable, done, kept_short, refused_short, we
 use Rattle.judge.proofs.weigh_accepted.Statement.{statement}
 use Rattle.judge.proofs.weigh_accepted.Tie as tie
 
+
 -- The places of the code: where it begins, from where the slices are known; where there is room, from where the records are walked over; and
 -- where they were, from where the declared is known.
-abbrev start : tie.After-shared-slice-known3 → tie.Start
+abbrev start : tie.After-shared_slice_known-3-1 → tie.Start
 start c = c.before.before.before.before.before.before
 
-abbrev room : tie.After-modes → tie.Else1
+abbrev room : tie.After-modes-1 → tie.Else-verdicts-records
 room c = c.before.before.before.before
 
-abbrev modes_back : tie.After-declared_at → tie.After-exchanges
+abbrev modes_back : tie.After-declared_at → tie.After-exchanges-1
 modes_back c = c.before.before.before
 
-abbrev walked : tie.After-declared_at → tie.After-walk_records
+abbrev walked : tie.After-declared_at → tie.After-walk_records-sums
 walked c = (modes_back c).before.before.before.before.before
 
-returns : tie.Need-returns
+returns : tie.Need-returns-then-verdicts-records
 returns c =
     let pre = (start c.before).requires in
     let slice = (start c.before).args.verdicts.now in
-    (refused_short pre.0 slice c.if1.true, kept_short pre.0 slice c.if1.true)
+    (refused_short pre.0 slice c.if-verdicts-records.true, kept_short pre.0 slice c.if-verdicts-records.true)
 
-walk_records_requires : tie.Need-walk_records-requires
+walk_records_requires : tie.Need-walk_records-sums-requires
 walk_records_requires c κs =
     let pre = (start (room c).before).requires in
-    (weighable pre.0 (room c).if1.false pre.1, refl)
+    (weighable pre.0 (room c).if-verdicts-records.false pre.1, refl)
 
 declared_at_requires : tie.Need-declared_at-requires
 declared_at_requires c κs = search rules
 
-closed_requires : tie.Need-closed-requires
-closed_requires c κs = closable _ (walked c).walk_records.ensures c.declared_at.ensures
+closed_requires : tie.Need-closed-totals-requires
+closed_requires c κs = closable _ (walked c).walk_records-sums.ensures c.declared_at.ensures
 
-same_length : tie.Need-same-length
+same_length : tie.Need-shape_of-verdicts
 same_length c = search rules
 
-same_length_2 : tie.Need-same-length-2
+same_length_2 : tie.Need-shape_of-calls
 same_length_2 c = search rules
 
-same_length_3 : tie.Need-same-length-3
+same_length_3 : tie.Need-shape_of-exchanges
 same_length_3 c = search rules
 
-returns_2 : tie.Need-returns-2
+returns_2 : tie.Need-returns
 returns_2 c =
-    let weighed = (walked c.before).walk_records.ensures in
+    let weighed = (walked c.before).walk_records-sums.ensures in
     let enough = room (walked c.before).before in
     let begun = start enough.before in
     let slice = begun.args.verdicts.now in
-    (done begun.pre.0 slice enough.if1.left weighed c.before.declared_at.ensures c.closed.ensures, written_done begun.pre.0 slice enough.if1.left weighed)
+    (done begun.requires.0 slice enough.if-verdicts-records.false weighed c.declared_at.ensures c.closed-totals.ensures, written_done begun.requires.0 slice enough.if-verdicts-records.false weighed)
 
 pub weigh_accepted_spec : {M : Type 1} → statement M
 weigh_accepted_spec =
