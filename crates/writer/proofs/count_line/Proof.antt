@@ -7,17 +7,14 @@ use Rattle.writer.proofs.WrittenLaws.{puts_as, front_end, front_laid}
 use Rattle.writer.proofs.count_line.Statement.{statement}
 use Rattle.writer.proofs.count_line.Tie as tie
 
-slice_aggregate_put_word : tie.Need-slice-aggregate-put_word
-slice_aggregate_put_word c = search rules
-
 put_word_requires : tie.Need-put_word-requires
 put_word_requires c κs = search rules
 
 returns : tie.Need-returns
 unfolding count_start
 returns c =
-    let p = puts_as c.put_word.ensures.0 (count_parts c.before.before.before.args.n) in
+    let p = puts_as c.put_word.ensures.0 (count_parts c.args.n) in
     (front_end p, front_laid p)
 
 pub count_line_spec : {M : Type 1} → statement M
-count_line_spec = tie.close (tie.spec slice_aggregate_put_word put_word_requires returns)
+count_line_spec = tie.close (tie.spec put_word_requires returns)

@@ -10,11 +10,12 @@ use Rattle.writer.specs.ClaimsText.{line_behind}
 use Rattle.writer.proofs.line_behind.Statement.{statement}
 use Rattle.writer.proofs.line_behind.Tie as tie
 
+
 allowed_run_requires : tie.Need-allowed_run-requires
 allowed_run_requires c κs = search rules
 
-add_result : tie.Need-overflow-add-result
-add_result c = omega (arith, run_within c.before.before.args.s.now allowed c.before.before.args.at, c.before.before.requires)
+add_result : tie.Need-overflow_add-result
+add_result c = omega (arith, run_within c.args.s.now allowed c.args.at, c.requires)
 
 returns : tie.Need-returns
 unfolding line_behind

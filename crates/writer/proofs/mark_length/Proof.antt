@@ -7,13 +7,14 @@ use Rattle.writer.specs.RecordText.{mark_text}
 use Rattle.writer.proofs.mark_length.Statement.{statement}
 use Rattle.writer.proofs.mark_length.Tie as tie
 
-returns : tie.Need-returns
-unfolding mark_text new_mark duplicate_mark
-returns c = rw c.if1.true (refl, refl, search rules)
 
-returns_2 : tie.Need-returns-2
+returns : tie.Need-returns-then-marked
 unfolding mark_text new_mark duplicate_mark
-returns_2 c = rw c.if1.false (refl, refl, search rules)
+returns c = rw c.if-marked.true (refl, refl, search rules)
+
+returns_2 : tie.Need-returns
+unfolding mark_text new_mark duplicate_mark
+returns_2 c = rw c.if-marked.false (refl, refl, search rules)
 
 pub mark_length_spec : {M : Type 1} → statement M
 mark_length_spec = tie.close (tie.spec returns returns_2)

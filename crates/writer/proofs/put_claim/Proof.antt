@@ -11,14 +11,15 @@ use Rattle.writer.proofs.WrittenLaws.{puts_room, puts_then, part_length}
 use Rattle.writer.proofs.put_claim.Statement.{statement}
 use Rattle.writer.proofs.put_claim.Tie as tie
 
+
 -- The place where the code begins, and what is copied.
-abbrev begun : tie.After-put_part → tie.Start
+abbrev begun : tie.After-put_part-start → tie.Start
 begun c = c.before.before.before.before
 
 abbrev part : tie.Start → Text
 part c = let a = c.args in between a.s.now a.from a.to
 
-put_part_requires : tie.Need-put_part-requires
+put_part_requires : tie.Need-put_part-start-requires
 put_part_requires c κs =
     let b = c.before.before.before in
     let a = b.args in
@@ -29,13 +30,13 @@ put_number_requires : tie.Need-put_number-requires
 put_number_requires c κs =
     let p = c.before.before.before in
     let b = begun p in
-    puts_room p.put_part.ensures (digits b.args.n) (omega (arith, length-append (part b) (digits b.args.n), b.pre.2))
+    puts_room p.put_part-start.ensures (digits b.args.n) (omega (arith, length-append (part b) (digits b.args.n), b.requires.2))
 
-same_length : tie.Need-same-length
+same_length : tie.Need-shape_of-out
 same_length c = search rules
 
 returns : tie.Need-returns
-returns c = let n = c.before.before in puts_then n.before.before.before.before.put_part.ensures n.put_number.ensures
+returns c = let n = c in puts_then n.put_part-start.ensures n.put_number.ensures
 
 pub put_claim_spec : {M : Type 1} → statement M
 put_claim_spec = tie.close (tie.spec put_part_requires put_number_requires same_length returns)

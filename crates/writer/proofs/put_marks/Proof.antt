@@ -14,26 +14,27 @@ use Rattle.writer.proofs.WrittenLaws.{puts_room, puts_then}
 use Rattle.writer.proofs.put_marks.Statement.{statement}
 use Rattle.writer.proofs.put_marks.Tie as tie
 
+
 -- The places of the code, each by the one before it.
-abbrev begun : tie.After-put_mark → tie.Start
+abbrev begun : tie.After-put_mark-second → tie.Start
 begun c = c.before.before.before
 
-abbrev exchanged : tie.After-put-mark2 → tie.After-put_mark
+abbrev exchanged : tie.After-put_mark-third → tie.After-put_mark-second
 exchanged c = c.before.before.before.before
 
-abbrev squared : tie.After-put-mark3 → tie.After-put-mark2
+abbrev squared : tie.After-put_mark-fourth → tie.After-put_mark-third
 squared c = c.before.before.before.before
 
-abbrev counted : tie.After-put-mark4 → tie.After-put-mark3
+abbrev counted : tie.After-put_mark-end → tie.After-put_mark-fourth
 counted c = c.before.before.before.before
 
-abbrev second : tie.After-put-mark2 → tie.Start
+abbrev second : tie.After-put_mark-third → tie.Start
 second c = begun (exchanged c)
 
-abbrev third : tie.After-put-mark3 → tie.Start
+abbrev third : tie.After-put_mark-fourth → tie.Start
 third c = second (squared c)
 
-abbrev fourth : tie.After-put-mark4 → tie.Start
+abbrev fourth : tie.After-put_mark-end → tie.Start
 fourth c = third (counted c)
 
 -- The fields up to one of the four.
@@ -47,48 +48,48 @@ abbrev upto_duplicate : tie.Start → Text
 upto_duplicate b = upto_country b ++ mark_text b.args.duplicate duplicate_mark
 
 -- They are written.
-upto_square_lem : (c : tie.After-put-mark2) → let b = second c in Puts b.args.out.now b.args.at (upto_square b) c.put-mark2.new.0 c.put-mark2.result
+upto_square_lem : (c : tie.After-put_mark-third) → let b = second c in Puts b.args.out.now b.args.at (upto_square b) c.put_mark-third.new.out c.put_mark-third.result
 unfolding new_mark duplicate_mark
-upto_square_lem c = puts_then (exchanged c).put_mark.ensures c.put-mark2.ensures
+upto_square_lem c = puts_then (exchanged c).put_mark-second.ensures c.put_mark-third.ensures
 
-upto_country_lem : (c : tie.After-put-mark3) → let b = third c in Puts b.args.out.now b.args.at (upto_country b) c.put-mark3.new.0 c.put-mark3.result
+upto_country_lem : (c : tie.After-put_mark-fourth) → let b = third c in Puts b.args.out.now b.args.at (upto_country b) c.put_mark-fourth.new.out c.put_mark-fourth.result
 unfolding new_mark duplicate_mark
-upto_country_lem c = puts_then (upto_square_lem (squared c)) c.put-mark3.ensures
+upto_country_lem c = puts_then (upto_square_lem (squared c)) c.put_mark-fourth.ensures
 
-upto_duplicate_lem : (c : tie.After-put-mark4) → let b = fourth c in Puts b.args.out.now b.args.at (upto_duplicate b) c.put-mark4.new.0 c.put-mark4.result
+upto_duplicate_lem : (c : tie.After-put_mark-end) → let b = fourth c in Puts b.args.out.now b.args.at (upto_duplicate b) c.put_mark-end.new.out c.put_mark-end.result
 unfolding new_mark duplicate_mark
-upto_duplicate_lem c = puts_then (upto_country_lem (counted c)) c.put-mark4.ensures
+upto_duplicate_lem c = puts_then (upto_country_lem (counted c)) c.put_mark-end.ensures
 
-put_mark_requires : tie.Need-put_mark-requires
+put_mark_requires : tie.Need-put_mark-second-requires
 unfolding new_mark duplicate_mark
 put_mark_requires c κs =
-    let b = c.before.before in
+    let b = c in
     let a = b.args in
     room_exchange a.exchange a.square a.country a.duplicate a.at (length a.out.now) b.requires
 
-put_mark_requires_2 : tie.Need-put_mark-requires-2
+put_mark_requires_2 : tie.Need-put_mark-third-requires
 unfolding new_mark duplicate_mark
 put_mark_requires_2 c κs =
     let p = c.before.before.before in
     let b = begun p in
     let a = b.args in
-    puts_room p.put_mark.ensures (mark_text a.square new_mark) (room_square a.exchange a.square a.country a.duplicate a.at (length a.out.now) b.pre)
+    puts_room p.put_mark-second.ensures (mark_text a.square new_mark) (room_square a.exchange a.square a.country a.duplicate a.at (length a.out.now) b.requires)
 
-put_mark_requires_3 : tie.Need-put_mark-requires-3
+put_mark_requires_3 : tie.Need-put_mark-fourth-requires
 unfolding new_mark duplicate_mark
 put_mark_requires_3 c κs =
     let p = c.before.before.before in
     let b = second p in
     let a = b.args in
-    puts_room (upto_square_lem p) (mark_text a.country new_mark) (room_country a.exchange a.square a.country a.duplicate a.at (length a.out.now) b.pre)
+    puts_room (upto_square_lem p) (mark_text a.country new_mark) (room_country a.exchange a.square a.country a.duplicate a.at (length a.out.now) b.requires)
 
-put_mark_requires_4 : tie.Need-put_mark-requires-4
+put_mark_requires_4 : tie.Need-put_mark-end-requires
 unfolding new_mark duplicate_mark
 put_mark_requires_4 c κs =
     let p = c.before.before.before in
     let b = third p in
     let a = b.args in
-    puts_room (upto_country_lem p) (mark_text a.duplicate duplicate_mark) (room_duplicate a.exchange a.square a.country a.duplicate a.at (length a.out.now) b.pre)
+    puts_room (upto_country_lem p) (mark_text a.duplicate duplicate_mark) (room_duplicate a.exchange a.square a.country a.duplicate a.at (length a.out.now) b.requires)
 
 put_end_requires : tie.Need-put_end-requires
 unfolding new_mark duplicate_mark
@@ -96,9 +97,9 @@ put_end_requires c κs =
     let p = c.before.before.before in
     let b = fourth p in
     let a = b.args in
-    puts_room (upto_duplicate_lem p) crlf (room_end a.exchange a.square a.country a.duplicate a.at (length a.out.now) b.pre)
+    puts_room (upto_duplicate_lem p) crlf (room_end a.exchange a.square a.country a.duplicate a.at (length a.out.now) b.requires)
 
-same_length : tie.Need-same-length
+same_length : tie.Need-shape_of-out
 same_length c = search rules
 
 returns : tie.Need-returns

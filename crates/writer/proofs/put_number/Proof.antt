@@ -12,72 +12,73 @@ use Rattle.writer.proofs.WrittenLaws.{count_more, count_some, digit_turn, digit_
 use Rattle.writer.proofs.put_number.Statement.{statement}
 use Rattle.writer.proofs.put_number.Tie as tie
 
-abbrev invariant-loop : tie.invariant-loop
+
+abbrev invariant-loop : tie.invariant-loop-rest
 invariant-loop out₀ at n end rest₀ i₀ out rest i =
     (i + 1 ≡ at + length (digits rest)) × (length out ≡ length out₀) × (at + length (digits rest) ≤ length out₀)
     × (written out at (digits rest) ≡ written out₀ at (digits n))
 
-abbrev decreases-loop : tie.decreases-loop
+abbrev decreases-loop : tie.decreases-loop-rest
 decreases-loop out₀ at n end rest₀ i₀ out rest i = rest
 
 digit_count_requires : tie.Need-digit_count-requires invariant-loop decreases-loop
 digit_count_requires c κs = search rules
 
-add_end : tie.Need-overflow-add-end invariant-loop decreases-loop
+add_end : tie.Need-overflow_add-end invariant-loop decreases-loop
 add_end c = search rules
 
-sub_i : tie.Need-overflow-sub-i invariant-loop decreases-loop
-sub_i c = omega (arith, count_some c.before.before.args.n)
+sub_i : tie.Need-overflow_sub-i invariant-loop decreases-loop
+sub_i c = omega (arith, count_some c.args.n)
 
-loop_holds : tie.Need-loop-init invariant-loop decreases-loop
-loop_holds c = (omega (arith, count_some c.before.before.args.n), refl, c.before.before.requires, refl)
+loop_holds : tie.Need-loop-rest-init invariant-loop decreases-loop
+loop_holds c = (omega (arith, count_some c.args.n), refl, c.requires, refl)
 
-cast_out : tie.Need-overflow-cast-out invariant-loop decreases-loop
+cast_out : tie.Need-overflow_cast-out invariant-loop decreases-loop
 cast_out c = search rules
 
-add_out : tie.Need-overflow-add-out invariant-loop decreases-loop
+add_out : tie.Need-overflow_add-out invariant-loop decreases-loop
 add_out c = search rules
 
-slice_write_out : tie.Need-slice-write-out invariant-loop decreases-loop
+slice_write_out : tie.Need-bounds-out-i invariant-loop decreases-loop
 slice_write_out c = search rules
 
-sub_i_2 : tie.Need-overflow-sub-i-2 invariant-loop decreases-loop
+sub_i_2 : tie.Need-overflow_sub-i-in-loop-rest invariant-loop decreases-loop
 sub_i_2 c =
-    omega (arith, count_more c.before.loop.rest c.loop-test.true, count_some (c.before.loop.rest / 10))
+    omega (arith, count_more c.loop-rest.rest c.loop-rest-test.true, count_some (c.loop-rest.rest / 10))
 
-loop_less : tie.Need-loop-smaller invariant-loop decreases-loop
+loop_less : tie.Need-loop-rest-smaller invariant-loop decreases-loop
 loop_less c = search rules
 
-loop_again : tie.Need-loop-preserved invariant-loop decreases-loop
+loop_again : tie.Need-loop-rest-preserved invariant-loop decreases-loop
 loop_again c =
-    let rest = c.before.loop.rest in
-    let inv = c.before.loop.invariant in
-    let more : length (digits rest) ≡ length (digits (rest / 10)) + 1 = count_more rest c.loop-test.true in
+    let rest = c.loop-rest.rest in
+    let inv = c.loop-rest.invariant in
+    let more : length (digits rest) ≡ length (digits (rest / 10)) + 1 = count_more rest c.loop-rest-test.true in
     let some : 1 ≤ length (digits (rest / 10)) = count_some (rest / 10) in (
       omega arith,
       simp length-set (omega arith),
       omega arith,
-      digit_turn c.before.loop.out _ c.before.loop.i rest inv.0 (omega arith) c.loop-test.true ∙ inv.3,
+      digit_turn c.loop-rest.out _ c.loop-rest.i rest inv.0 (omega arith) c.loop-rest-test.true ∙ inv.3,
     )
 
-cast_out_2 : tie.Need-overflow-cast-out-2 invariant-loop decreases-loop
+cast_out_2 : tie.Need-overflow_cast-out-2 invariant-loop decreases-loop
 cast_out_2 c = search rules
 
-add_out_2 : tie.Need-overflow-add-out-2 invariant-loop decreases-loop
+add_out_2 : tie.Need-overflow_add-out-2 invariant-loop decreases-loop
 add_out_2 c = search rules
 
-slice_write_out_2 : tie.Need-slice-write-out-2 invariant-loop decreases-loop
+slice_write_out_2 : tie.Need-bounds-out-i-2 invariant-loop decreases-loop
 slice_write_out_2 c = search rules
 
-same_length : tie.Need-same-length invariant-loop decreases-loop
+same_length : tie.Need-shape_of-out invariant-loop decreases-loop
 same_length c = search rules
 
 returns : tie.Need-returns invariant-loop decreases-loop
 returns c =
-    let inv = c.before.loop.invariant in
+    let inv = c.loop-rest.invariant in
     record {
       fits = search rules;
-      list = digit_first c.before.loop.out _ c.before.loop.i c.before.loop.rest inv.0 (omega arith) (omega arith) ∙ inv.3;
+      list = digit_first c.loop-rest.out _ c.loop-rest.i c.loop-rest.rest inv.0 (omega arith) (omega arith) ∙ inv.3;
       place = search rules;
     }
 

@@ -12,35 +12,36 @@ use Rattle.writer.proofs.WrittenLaws.{part_length, part_none, part_turn}
 use Rattle.writer.proofs.put_part.Statement.{statement}
 use Rattle.writer.proofs.put_part.Tie as tie
 
-abbrev invariant-loop : tie.invariant-loop
+
+abbrev invariant-loop : tie.invariant-loop-i
 invariant-loop out₀ at s from to i₀ end₀ out i end =
     (from ≤ i) × (i ≤ to) × (end ≡ at + (i - from)) × (length out ≡ length out₀) × (out ≡ written out₀ at (between s from i))
 
-abbrev decreases-loop : tie.decreases-loop
+abbrev decreases-loop : tie.decreases-loop-i
 decreases-loop out₀ at s from to i₀ end₀ out i end = to - i
 
-loop_holds : tie.Need-loop-init invariant-loop decreases-loop
+loop_holds : tie.Need-loop-i-init invariant-loop decreases-loop
 loop_holds c = (search rules, search rules, search rules, refl, part_none _ c.args.s.now _ c.args.from)
 
-shared_slice_read_out : tie.Need-shared-slice-read-out invariant-loop decreases-loop
+shared_slice_read_out : tie.Need-bounds-s-i invariant-loop decreases-loop
 shared_slice_read_out c = search rules
 
-slice_write_out : tie.Need-slice-write-out invariant-loop decreases-loop
+slice_write_out : tie.Need-bounds-out-end invariant-loop decreases-loop
 slice_write_out c = search rules
 
-add_i : tie.Need-overflow-add-i invariant-loop decreases-loop
+add_i : tie.Need-overflow_add-i invariant-loop decreases-loop
 add_i c = search rules
 
-add_end : tie.Need-overflow-add-end invariant-loop decreases-loop
+add_end : tie.Need-overflow_add-end invariant-loop decreases-loop
 add_end c = search rules
 
-loop_less : tie.Need-loop-smaller invariant-loop decreases-loop
+loop_less : tie.Need-loop-i-smaller invariant-loop decreases-loop
 loop_less c = search rules
 
-loop_again : tie.Need-loop-preserved invariant-loop decreases-loop
+loop_again : tie.Need-loop-i-preserved invariant-loop decreases-loop
 loop_again c =
     let at-start = c.before.before.before in
-    let i = c.before.before.loop.i in (
+    let i = c.loop-i.i in (
       search rules,
       search rules,
       search rules,
@@ -48,13 +49,13 @@ loop_again c =
       cc (part_turn at-start.args.out.now at-start.args.s.now at-start.args.at at-start.args.from i (search rules) (search rules) (search rules)),
     )
 
-same_length : tie.Need-same-length invariant-loop decreases-loop
+same_length : tie.Need-shape_of-out invariant-loop decreases-loop
 same_length c = search rules
 
 returns : tie.Need-returns invariant-loop decreases-loop
 returns c =
     let at-start = c.before.before in
-    let e : c.before.loop.i ≡ at-start.args.to = omega arith in
+    let e : c.loop-i.i ≡ at-start.args.to = omega arith in
     let l : length (between at-start.args.s.now at-start.args.from at-start.args.to) ≡ at-start.args.to - at-start.args.from =
     part_length at-start.args.s.now at-start.args.from at-start.args.to (omega arith) (omega arith) in
     record { fits = omega arith; list = cc; place = omega arith }

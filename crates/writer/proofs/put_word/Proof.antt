@@ -11,14 +11,15 @@ use Rattle.writer.proofs.WrittenLaws.{puts_as, puts_room, puts_then, count_most,
 use Rattle.writer.proofs.put_word.Statement.{statement}
 use Rattle.writer.proofs.put_word.Tie as tie
 
+
 -- The places of the code, each by the one before it.
-abbrev begun : tie.After-put_part → tie.Start
+abbrev begun : tie.After-put_part-number → tie.Start
 begun c = c.before.before.before.before
 
-abbrev worded : tie.After-put_number → tie.After-put_part
+abbrev worded : tie.After-put_number-end → tie.After-put_part-number
 worded c = c.before.before.before.before
 
-abbrev numbered : tie.After-put_byte → tie.After-put_number
+abbrev numbered : tie.After-put_byte → tie.After-put_number-end
 numbered c = c.before.before.before.before
 
 abbrev word : tie.Start → Text
@@ -28,30 +29,30 @@ few : (b : tie.Start) → length (digits b.args.n) ≤ 20
 few b = count_most b.args.n b.ranges.n.fits
 
 -- The word is written, and then the number.
-upto_word : (c : tie.After-put_part) → let b = begun c in Puts b.args.out.now b.args.at (word b) c.put_part.new.0 c.put_part.result
-upto_word c = puts_as c.put_part.ensures (part_whole (word (begun c)))
+upto_word : (c : tie.After-put_part-number) → let b = begun c in Puts b.args.out.now b.args.at (word b) c.put_part-number.new.out c.put_part-number.result
+upto_word c = puts_as c.put_part-number.ensures (part_whole (word (begun c)))
 
-upto_number : (c : tie.After-put_number)
+upto_number : (c : tie.After-put_number-end)
     → let b = begun (worded c) in
-    Puts b.args.out.now b.args.at (word b ++ digits b.args.n) c.put_number.new.0 c.put_number.result
-upto_number c = puts_then (upto_word (worded c)) c.put_number.ensures
+    Puts b.args.out.now b.args.at (word b ++ digits b.args.n) c.put_number-end.new.out c.put_number-end.result
+upto_number c = puts_then (upto_word (worded c)) c.put_number-end.ensures
 
-put_part_requires : tie.Need-put_part-requires
+put_part_requires : tie.Need-put_part-number-requires
 put_part_requires c κs = search rules
 
-put_number_requires : tie.Need-put_number-requires
+put_number_requires : tie.Need-put_number-end-requires
 put_number_requires c κs =
     let p = c.before.before.before in
     let b = begun p in
-    puts_room (upto_word p) (digits b.args.n) (omega (arith, few b, b.pre))
+    puts_room (upto_word p) (digits b.args.n) (omega (arith, few b, b.requires))
 
 put_byte_requires : tie.Need-put_byte-requires
 put_byte_requires c κs =
     let p = c.before.before.before in
     let b = begun (worded p) in
-    omega (arith, puts_room (upto_number p) (b.args.last ∷ []) (omega (arith, few b, length-append (word b) (digits b.args.n), b.pre)))
+    omega (arith, puts_room (upto_number p) (b.args.last ∷ []) (omega (arith, few b, length-append (word b) (digits b.args.n), b.requires)))
 
-same_length : tie.Need-same-length
+same_length : tie.Need-shape_of-out
 same_length c = search rules
 
 returns : tie.Need-returns

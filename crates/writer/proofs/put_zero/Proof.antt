@@ -9,21 +9,22 @@ use Rattle.writer.proofs.WrittenLaws.{puts_as, puts_nothing}
 use Rattle.writer.proofs.put_zero.Statement.{statement}
 use Rattle.writer.proofs.put_zero.Tie as tie
 
-returns : tie.Need-returns
-returns c = puts_nothing (no_zero_lem c.before.before.args.duplicate c.if1.true) (omega (arith, c.before.before.requires))
+
+returns : tie.Need-returns-then-not-duplicate
+returns c = puts_nothing (no_zero_lem c.args.duplicate c.if-not-duplicate.true-raw) (omega (arith, c.requires))
 
 put_byte_requires : tie.Need-put_byte-requires
 put_byte_requires c κs =
-    let b = c.before.before.before in
-    omega (arith, b.requires, ap length (a_zero b.args.duplicate c.before.if1.false))
+    let b = c in
+    omega (arith, b.requires, ap length (a_zero b.args.duplicate c.if-not-duplicate.false-raw))
 
-same_length : tie.Need-same-length
+same_length : tie.Need-shape_of-out
 same_length c = search rules
 
-returns_2 : tie.Need-returns-2
+returns_2 : tie.Need-returns
 returns_2 c =
-    puts_as c.before.before.put_byte.ensures
-    (sym (a_zero c.before.before.before.before.before.before.args.duplicate c.before.before.before.before.if1.false))
+    puts_as c.put_byte.ensures
+    (sym (a_zero c.args.duplicate c.if-not-duplicate.false-raw))
 
 pub put_zero_spec : {M : Type 1} → statement M
 put_zero_spec =

@@ -10,59 +10,42 @@ use Rattle.writer.proofs.WrittenLaws.{puts_as, puts_then}
 use Rattle.writer.proofs.show_totals.Statement.{statement}
 use Rattle.writer.proofs.show_totals.Tie as tie
 
+
 -- The places of the code, each by the one before it.
-abbrev first : tie.After-put-word2 → tie.After-put_word
-first c = c.before.before.before
+abbrev first : tie.After-put_word-third → tie.After-put_word-second
+first c = c.before.before.before.before
 
-abbrev second : tie.After-put-word3 → tie.After-put-word2
-second c = c.before.before.before
+abbrev second : tie.After-put_word-fourth → tie.After-put_word-third
+second c = c.before.before.before.before
 
-abbrev third : tie.After-put-word4 → tie.After-put-word3
-third c = c.before.before.before
+abbrev third : tie.After-put_word-fifth → tie.After-put_word-fourth
+third c = c.before.before.before.before
 
-abbrev fourth : tie.After-put-word5 → tie.After-put-word4
-fourth c = c.before.before.before
+abbrev fourth : tie.After-put_word-sixth → tie.After-put_word-fifth
+fourth c = c.before.before.before.before
 
-abbrev fifth : tie.After-put-word6 → tie.After-put-word5
-fifth c = c.before.before.before
+abbrev fifth : tie.After-put_word-seventh → tie.After-put_word-sixth
+fifth c = c.before.before.before.before
 
-abbrev sixth : tie.After-put_modes-arg2 → tie.After-put-word6
+abbrev sixth : tie.After-put_modes-arg-2-1 → tie.After-put_word-seventh
 sixth c = c.before.before.before.before
 
-slice_aggregate_put_word : tie.Need-slice-aggregate-put_word
-slice_aggregate_put_word c = search rules
-
-put_word_requires : tie.Need-put_word-requires
+put_word_requires : tie.Need-put_word-second-requires
 put_word_requires c κs = search rules
 
-slice_aggregate_put_word_2 : tie.Need-slice-aggregate-put_word-2
-slice_aggregate_put_word_2 c = search rules
-
-put_word_requires_2 : tie.Need-put_word-requires-2
+put_word_requires_2 : tie.Need-put_word-third-requires
 put_word_requires_2 c κs = search rules
 
-slice_aggregate_put_word_3 : tie.Need-slice-aggregate-put_word-3
-slice_aggregate_put_word_3 c = search rules
-
-put_word_requires_3 : tie.Need-put_word-requires-3
+put_word_requires_3 : tie.Need-put_word-fourth-requires
 put_word_requires_3 c κs = search rules
 
-slice_aggregate_put_word_4 : tie.Need-slice-aggregate-put_word-4
-slice_aggregate_put_word_4 c = search rules
-
-put_word_requires_4 : tie.Need-put_word-requires-4
+put_word_requires_4 : tie.Need-put_word-fifth-requires
 put_word_requires_4 c κs = search rules
 
-slice_aggregate_put_word_5 : tie.Need-slice-aggregate-put_word-5
-slice_aggregate_put_word_5 c = search rules
-
-put_word_requires_5 : tie.Need-put_word-requires-5
+put_word_requires_5 : tie.Need-put_word-sixth-requires
 put_word_requires_5 c κs = search rules
 
-slice_aggregate_put_word_6 : tie.Need-slice-aggregate-put_word-6
-slice_aggregate_put_word_6 c = search rules
-
-put_word_requires_6 : tie.Need-put_word-requires-6
+put_word_requires_6 : tie.Need-put_word-seventh-requires
 put_word_requires_6 c κs = search rules
 
 mode_numbers_requires : tie.Need-mode_numbers-requires
@@ -77,13 +60,13 @@ put_modes_requires c κs =
     let p2 = second p3 in
     omega (
       arith,
-      p6.put-word6.ensures.1,
-      p5.put-word5.ensures.1,
-      p4.put-word4.ensures.1,
-      p3.put-word3.ensures.1,
-      p2.put-word2.ensures.1,
-      (first p2).put_word.ensures.1,
-      c.before.before.put_modes-arg.given,
+      p6.put_word-seventh.ensures.1,
+      p5.put_word-sixth.ensures.1,
+      p4.put_word-fifth.ensures.1,
+      p3.put_word-fourth.ensures.1,
+      p2.put_word-third.ensures.1,
+      (first p2).put_word-second.ensures.1,
+      c.put_modes-arg-1.given,
     )
 
 returns : tie.Need-returns
@@ -94,26 +77,20 @@ returns c =
     let p4 = fourth p5 in
     let p3 = third p4 in
     let p2 = second p3 in
-    let two = puts_then (first p2).put_word.ensures.0 p2.put-word2.ensures.0 in
-    let four = puts_then (puts_then two p3.put-word3.ensures.0) p4.put-word4.ensures.0 in
-    let six = puts_then (puts_then four p5.put-word5.ensures.0) p6.put-word6.ensures.0 in
-    puts_then six (puts_as c.put_modes.ensures (ap mode_lines c.before.before.mode_numbers.ensures ∙ modes_shown _))
+    let two = puts_then (first p2).put_word-second.ensures.0 p2.put_word-third.ensures.0 in
+    let four = puts_then (puts_then two p3.put_word-fourth.ensures.0) p4.put_word-fifth.ensures.0 in
+    let six = puts_then (puts_then four p5.put_word-sixth.ensures.0) p6.put_word-seventh.ensures.0 in
+    puts_then six (puts_as c.put_modes.ensures (ap mode_lines c.mode_numbers.ensures ∙ modes_shown _))
 
 pub show_totals_spec : {M : Type 1} → statement M
 show_totals_spec =
     tie.close
     (tie.spec
-    slice_aggregate_put_word
     put_word_requires
-    slice_aggregate_put_word_2
     put_word_requires_2
-    slice_aggregate_put_word_3
     put_word_requires_3
-    slice_aggregate_put_word_4
     put_word_requires_4
-    slice_aggregate_put_word_5
     put_word_requires_5
-    slice_aggregate_put_word_6
     put_word_requires_6
     mode_numbers_requires
     put_modes_requires

@@ -15,69 +15,70 @@ use Rattle.writer.proofs.WeighedLaws.{Noted, many_numbers, many_places_lem, writ
 use Rattle.writer.proofs.write.Statement.{statement}
 use Rattle.writer.proofs.write.Tie as tie
 
+
 -- The places of the code, each by the one before it.
-abbrev empty : tie.After-weigh → tie.After-verdicts
+abbrev empty : tie.After-weigh → tie.After-verdicts-1
 empty c = c.before.before.before.before
 
 abbrev begun : tie.After-weigh → tie.Start
 begun c = (empty c).before.before.before
 
-abbrev weighed : tie.After-known-told → tie.After-weigh
-weighed c = c.before.before.before.before
+abbrev weighed : tie.In-Done → tie.After-weigh
+weighed c = c.before.before
 
 -- The records that were noted while the log was read are its records.
 noted : (c : tie.After-weigh) → Noted base (begun c).args.log.now
 noted c = contacts_accepted base (begun c).args.log.now
 
 -- What the judge has told.
-told : (c : tie.After-known-told)
-    → let t = c.before.totals.given.0 in
-    weighed_of base base.most_records (begun (weighed c)).args.log.now ≡ Weighed.Done t.0 t.1.0 t.1.1.0 t.1.1.1.0
+told : (c : tie.In-Done)
+    → let t = c.in-Done in
+    weighed_of base base.most_records (begun (weighed c)).args.log.now ≡ Weighed.Done t.totals t.records t.first t.heading
 unfolding base
-told c = sym (weighed c).weigh.ensures.0 ∙ c.before.totals.given.1
+told c = sym (weighed c).weigh.ensures.0 ∙ c.in-Done.is
 
-slice_aggregate_weigh : tie.Need-slice-aggregate-weigh
+slice_aggregate_weigh : tie.Need-slice_bounds-weigh-end
 slice_aggregate_weigh c = search rules
 
 weigh_requires : tie.Need-weigh-requires
 weigh_requires c κs = search rules
 
-enum_known_totals : tie.Need-enum-known-totals
+enum_known_totals : tie.Need-enum_known-totals
 enum_known_totals c = search rules
 
-array_share_prefix_points : tie.Need-array-share-prefix-points
+array_share_prefix_points : tie.Need-slice_bounds-points-end
 unfolding base
 array_share_prefix_points c =
     many_places_lem base _ (told c) (noted (weighed c)) (λ (c : Contact). c.points) (replicate base.most_records 0) refl (weighed c).weigh.ensures.1.1.0
 
-slice_aggregate_write_weighed : tie.Need-slice-aggregate-write_weighed
+slice_aggregate_write_weighed : tie.Need-slice_bounds-write_weighed-end
 slice_aggregate_write_weighed c = sym (length-take-le _ _ (array_share_prefix_points c.before))
 
-array_share_prefix_pointsends : tie.Need-array-share-prefix-pointsends
+array_share_prefix_pointsends : tie.Need-slice_bounds-pointsends-end
 unfolding base
 array_share_prefix_pointsends c =
     let k = c.before in
     many_places_lem base _ (told k) (noted (weighed k)) (λ (c : Contact). c.pointsend) (replicate base.most_records 0) refl (weighed k).weigh.ensures.1.1.1.0
 
-slice_aggregate_write_weighed_2 : tie.Need-slice-aggregate-write_weighed-2
+slice_aggregate_write_weighed_2 : tie.Need-slice_bounds-write_weighed-end-in-Done
 slice_aggregate_write_weighed_2 c = sym (length-take-le _ _ (array_share_prefix_pointsends c.before))
 
-array_share_prefix_ends : tie.Need-array-share-prefix-ends
+array_share_prefix_ends : tie.Need-slice_bounds-ends-end
 unfolding base
 array_share_prefix_ends c =
     let k = c.before.before in
     many_places_lem base _ (told k) (noted (weighed k)) (λ (c : Contact). c.end) (replicate base.most_records 0) refl (weighed k).weigh.ensures.1.1.1.1
 
-slice_aggregate_write_weighed_3 : tie.Need-slice-aggregate-write_weighed-3
+slice_aggregate_write_weighed_3 : tie.Need-slice_bounds-write_weighed-end-in-Done-2
 slice_aggregate_write_weighed_3 c = sym (length-take-le _ _ (array_share_prefix_ends c.before))
 
-array_share_prefix_verdicts : tie.Need-array-share-prefix-verdicts
+array_share_prefix_verdicts : tie.Need-slice_bounds-verdicts-end
 unfolding base
 array_share_prefix_verdicts c =
     let k = c.before.before.before in
     many_numbers base _ (told k) (replicate base.most_records 0) refl (weighed k).weigh.ensures.1.0
 
-slice_aggregate_write_weighed_4 : tie.Need-slice-aggregate-write_weighed-4
+slice_aggregate_write_weighed_4 : tie.Need-slice_bounds-write_weighed-end-in-Done-3
 slice_aggregate_write_weighed_4 c = sym (length-take-le _ _ (array_share_prefix_verdicts c.before))
 
 write_weighed_requires : tie.Need-write_weighed-requires
@@ -88,21 +89,21 @@ write_weighed_requires c κs =
     let list : List ℕ = replicate base.most_records 0 in
     writable base _ (told k) (noted (weighed k)) list list list list refl refl refl refl e.1.0 e.1.1.0 e.1.1.1.0 e.1.1.1.1
 
-enum_known_r : tie.Need-enum-known-r
+enum_known_r : tie.Need-enum_known-r
 enum_known_r c = search rules
 
-same_length : tie.Need-same-length
+same_length : tie.Need-shape_of-out
 same_length c = search rules
 
-returns : tie.Need-returns
-returns c = c.before.before.write_weighed.ensures
+returns : tie.Need-returns-in-Done
+returns c = c.write_weighed.ensures
 
-returns_2 : tie.Need-returns-2
+returns_2 : tie.Need-returns-in-Refused
 unfolding base
 returns_2 c =
-    let w = c.before.before.before.before in
+    let w = c.before.before in
     let out = (begun w).args.out.now in
-    let unread : weighed_of base base.most_records (begun w).args.log.now ≡ Weighed.Refused c.before.r.given.0.0 = sym w.weigh.ensures.0 ∙ c.before.r.given.1 in
+    let unread : weighed_of base base.most_records (begun w).args.log.now ≡ Weighed.Refused c.in-Refused.r = sym w.weigh.ensures.0 ∙ c.in-Refused.is in
     (unread_answer base _ unread out, unread_slice base _ unread out)
 
 pub write_spec : {M : Type 1} → statement M
