@@ -16,7 +16,8 @@ use Rattle.mender.proofs.TurnLaws.{Walks, walks_from, walks_some, walks_on, walk
 use Rattle.mender.proofs.check.Statement.{statement}
 use Rattle.mender.proofs.check.Tie as tie
 
-abbrev invariant-loop : tie.invariant-loop
+
+abbrev invariant-loop : tie.invariant-loop-at
 invariant-loop s total due₀ region₀ at₀ line₀ follow₀ bytes₀ listed₀ due region at line follow bytes listed =
     Walks s at follow
     × (checked_of base s ≡ checked_from base due line bytes listed (mended_at region s at))
@@ -26,124 +27,124 @@ invariant-loop s total due₀ region₀ at₀ line₀ follow₀ bytes₀ listed�
     × (follow ≤ length s)
     × (length s ≤ base.longest_log)
 
-abbrev decreases-loop : tie.decreases-loop
+abbrev decreases-loop : tie.decreases-loop-at
 decreases-loop s total due₀ region₀ at₀ line₀ follow₀ bytes₀ listed₀ due region at line follow bytes listed = length s + 1 - at
 
 -- The places of a turn: its start, and behind the line that is laid.
-abbrev text : tie.At-loop invariant-loop decreases-loop → Text
-text l = l.before.before.args.s.now
+abbrev text : tie.At-loop-at invariant-loop decreases-loop → Text
+text l = l.args.s.now
 
-abbrev looped : tie.After-lay invariant-loop decreases-loop → tie.At-loop invariant-loop decreases-loop
+abbrev looped : tie.After-lay-l invariant-loop decreases-loop → tie.At-loop-at invariant-loop decreases-loop
 looped k = k.before.before
 
-laid : (k : tie.After-lay invariant-loop decreases-loop) → let l = looped k in Lays l.loop.region (text l) l.loop.at (l.loop.follow - 1) k.lay.result
-laid k = k.lay.ensures
+laid : (k : tie.After-lay-l invariant-loop decreases-loop) → let l = looped k in Lays l.loop-at.region (text l) l.loop-at.at (l.loop-at.follow - 1) k.lay-l.result
+laid k = k.lay-l.ensures
 
 -- What is laid, and what follows from it, behind the step.
-abbrev stepped : tie.After-known-told2 invariant-loop decreases-loop → tie.After-laid_next invariant-loop decreases-loop
-stepped g = g.before.before.before
+abbrev stepped : tie.In-Goes invariant-loop decreases-loop → tie.After-laid_next-after invariant-loop decreases-loop
+stepped g = g.before
 
-goes : (g : tie.After-known-told2 invariant-loop decreases-loop) → let k = (stepped g).before in let l = looped k in line_next base l.loop.due (text_laid (text l) l.loop.at (l.loop.follow - 1) k.lay.result) ≡ Next.Goes g.before.after2.given.0.0
-goes g = sym (stepped g).Laid-next.ensures ∙ g.before.after2.given.1
+goes : (g : tie.In-Goes invariant-loop decreases-loop) → let k = (stepped g).before in let l = looped k in line_next base l.loop-at.due (text_laid (text l) l.loop-at.at (l.loop-at.follow - 1) k.lay-l.result) ≡ Next.Goes g.in-Goes.next
+goes g = sym (stepped g).laid_next-after.ensures ∙ g.in-Goes.is
 
 -- The lines that are left: the one that is laid, and those behind it.
-turned : (k : tie.After-lay invariant-loop decreases-loop) → let l = looped k in checked_of base (text l) ≡ checked_from base l.loop.due l.loop.line l.loop.bytes l.loop.listed (line_laid (text l) l.loop.at (l.loop.follow - 1) k.lay.result ∷ mended_at k.lay.result.region (text l) k.lay.result.next)
+turned : (k : tie.After-lay-l invariant-loop decreases-loop) → let l = looped k in checked_of base (text l) ≡ checked_from base l.loop-at.due l.loop-at.line l.loop-at.bytes l.loop-at.listed (line_laid (text l) l.loop-at.at (l.loop-at.follow - 1) k.lay-l.result ∷ mended_at k.lay-l.result.region (text l) k.lay-l.result.next)
 turned k =
     let l = looped k in
-    l.loop.inv.1 ∙ ap (checked_from base l.loop.due l.loop.line l.loop.bytes l.loop.listed) (walks_turn l.loop.inv.0 (laid k))
+    l.loop-at.invariant.1 ∙ ap (checked_from base l.loop-at.due l.loop-at.line l.loop-at.bytes l.loop-at.listed) (walks_turn l.loop-at.invariant.0 (laid k))
 
-loop_holds : tie.Need-loop-init invariant-loop decreases-loop
+loop_holds : tie.Need-loop-at-init invariant-loop decreases-loop
 loop_holds c =
-    let b = c.before in
+    let b = c in
     (walks_from b.args.s.now b.requires.0, checked_from_lem base b.args.s.now, omega arith, omega arith, omega arith, b.requires.2, b.requires.1)
 
-sub_follow : tie.Need-overflow-sub-follow invariant-loop decreases-loop
-sub_follow c = walks_some c.before.loop.invariant.0 c.loop-test.true
+sub_follow : tie.Need-overflow_sub-follow invariant-loop decreases-loop
+sub_follow c = walks_some c.loop-at.invariant.0 c.loop-at-test.true
 
-lay_requires : tie.Need-lay-requires invariant-loop decreases-loop
+lay_requires : tie.Need-lay-l-requires invariant-loop decreases-loop
 lay_requires c κs = search rules
 
-laid_next_requires : tie.Need-laid_next-requires invariant-loop decreases-loop
+laid_next_requires : tie.Need-laid_next-after-requires invariant-loop decreases-loop
 laid_next_requires c κs =
     let l = looped c in
-    ((laid c).spans, (laid c).clean, omega (arith, l.loop.inv.5, l.loop.inv.6))
+    ((laid c).spans, (laid c).clean, omega (arith, l.loop-at.invariant.5, l.loop-at.invariant.6))
 
-enum_known_after : tie.Need-enum-known-after invariant-loop decreases-loop
+enum_known_after : tie.Need-enum_known-after invariant-loop decreases-loop
 enum_known_after c = search rules
 
-returns : tie.Need-returns invariant-loop decreases-loop
+returns : tie.Need-returns-in-Stops invariant-loop decreases-loop
 returns c =
-    let n = c.before.before.before in
+    let n = c.before in
     let k = n.before in
     let l = looped k in
-    sym (turned k ∙ checked_stop base _ _ _ _ (text l) l.loop.at (l.loop.follow - 1) k.lay.result _ (sym n.Laid-next.ensures ∙ c.before.after.given.1))
+    sym (turned k ∙ checked_stop base _ _ _ _ (text l) l.loop-at.at (l.loop-at.follow - 1) k.lay-l.result _ (sym n.laid_next-after.ensures ∙ c.in-Stops.is))
 
-enum_known_after_2 : tie.Need-enum-known-after-2 invariant-loop decreases-loop
+enum_known_after_2 : tie.Need-enum_known-after-in-Goes-1 invariant-loop decreases-loop
 enum_known_after_2 c = search rules
 
-line_length_requires : tie.Need-line_length-requires invariant-loop decreases-loop
+line_length_requires : tie.Need-line_length-bytes-requires invariant-loop decreases-loop
 line_length_requires c κs = (laid (stepped c).before).spans
 
-add_bytes : tie.Need-overflow-add-bytes invariant-loop decreases-loop
+add_bytes : tie.Need-overflow_add-bytes invariant-loop decreases-loop
 add_bytes c =
     let k = (stepped c.before).before in
     let l = looped k in
-    let small : l.loop.bytes + c.line_length.result ≤ 2400000 =
-    omega (arith, log_small, l.loop.inv.3, l.loop.inv.6, c.line_length.ensures.1, (laid k).spans.forth, (laid k).spans.within) in
+    let small : l.loop-at.bytes + c.line_length-bytes.result ≤ 2400000 =
+    omega (arith, log_small, l.loop-at.invariant.3, l.loop-at.invariant.6, c.line_length-bytes.ensures.1, (laid k).spans.forth, (laid k).spans.within) in
     search rules
 
 one_if_requires : tie.Need-one_if-requires invariant-loop decreases-loop
 one_if_requires c κs = search rules
 
-one_if_requires_2 : tie.Need-one_if-requires-2 invariant-loop decreases-loop
+one_if_requires_2 : tie.Need-one_if-requires-in-Goes invariant-loop decreases-loop
 one_if_requires_2 c κs = search rules
 
-add_listed : tie.Need-overflow-add-listed invariant-loop decreases-loop
+add_listed : tie.Need-overflow_add-listed invariant-loop decreases-loop
 add_listed c =
-    let few : c.before.one_if.result + c.one-if2.result ≤ 2 = omega (arith, c.before.one_if.ensures.1, c.one-if2.ensures.1) in
+    let few : c.one_if.result + c.one_if-in-Goes.result ≤ 2 = omega (arith, c.one_if.ensures.1, c.one_if-in-Goes.ensures.1) in
     search rules
 
-add_listed_2 : tie.Need-overflow-add-listed-2 invariant-loop decreases-loop
+add_listed_2 : tie.Need-overflow_add-listed-in-Goes invariant-loop decreases-loop
 add_listed_2 c =
     let l = looped (stepped c.before.before.before).before in
-    let few : l.loop.listed + (c.before.one_if.result + c.one-if2.result) ≤ 200000 =
-    omega (arith, log_small, l.loop.inv.4, l.loop.inv.6, l.loop.inv.0.near, c.before.one_if.ensures.1, c.one-if2.ensures.1) in
+    let few : l.loop-at.listed + (c.one_if.result + c.one_if-in-Goes.result) ≤ 200000 =
+    omega (arith, log_small, l.loop-at.invariant.4, l.loop-at.invariant.6, l.loop-at.invariant.0.near, c.one_if.ensures.1, c.one_if-in-Goes.ensures.1) in
     search rules
 
-add_line : tie.Need-overflow-add-line invariant-loop decreases-loop
+add_line : tie.Need-overflow_add-line invariant-loop decreases-loop
 add_line c =
     let l = looped (stepped c.before.before.before).before in
-    let few : l.loop.line + 1 ≤ 70000 = omega (arith, log_small, l.loop.inv.2, l.loop.inv.6, l.loop.inv.0.near) in
+    let few : l.loop-at.line + 1 ≤ 70000 = omega (arith, log_small, l.loop-at.invariant.2, l.loop-at.invariant.6, l.loop-at.invariant.0.near) in
     search rules
 
-loop_less : tie.Need-loop-smaller invariant-loop decreases-loop
+loop_less : tie.Need-loop-at-smaller invariant-loop decreases-loop
 loop_less c =
     let k = laid (stepped c.before.before.before).before in
     omega (arith, k.spans.forth, k.spans.behind, k.spans.near)
 
-loop_again : tie.Need-loop-preserved invariant-loop decreases-loop
+loop_again : tie.Need-loop-at-preserved invariant-loop decreases-loop
 loop_again c =
     let g = c.before.before.before in
-    let b = c.before.before.line_length.ensures in
+    let b = c.line_length-bytes.ensures in
     let k = (stepped g).before in
     let l = looped k in
     let p = (laid k).spans in (
-      walks_on l.loop.inv.0 (laid k),
-      turned k ∙ checked_go base _ _ _ _ (text l) l.loop.at (l.loop.follow - 1) k.lay.result _ (goes g) b.0 c.before.one_if.ensures.0 c.one-if2.ensures.0,
-      omega (arith, l.loop.inv.2, p.forth, p.behind),
-      omega (arith, l.loop.inv.3, b.1, p.forth, p.behind),
-      omega (arith, l.loop.inv.4, c.before.one_if.ensures.1, c.one-if2.ensures.1, p.forth, p.behind),
-      omega (arith, l.loop.inv.5),
-      l.loop.inv.6,
+      walks_on l.loop-at.invariant.0 (laid k),
+      turned k ∙ checked_go base _ _ _ _ (text l) l.loop-at.at (l.loop-at.follow - 1) k.lay-l.result _ (goes g) b.0 c.one_if.ensures.0 c.one_if-in-Goes.ensures.0,
+      omega (arith, l.loop-at.invariant.2, p.forth, p.behind),
+      omega (arith, l.loop-at.invariant.3, b.1, p.forth, p.behind),
+      omega (arith, l.loop-at.invariant.4, c.one_if.ensures.1, c.one_if-in-Goes.ensures.1, p.forth, p.behind),
+      omega (arith, l.loop-at.invariant.5),
+      l.loop-at.invariant.6,
     )
 
 rest_told_requires : tie.Need-rest_told-requires invariant-loop decreases-loop
 rest_told_requires c κs = search rules
 
-returns_2 : tie.Need-returns-2 invariant-loop decreases-loop
+returns_2 : tie.Need-returns invariant-loop decreases-loop
 returns_2 c =
-    let l = c.before.before in
-    c.rest_told.ensures ∙ checked_end base _ _ _ _ _ (walks_end l.loop.invariant.0 l.loop.region c.before.loop-test.false) ∙ sym l.loop.invariant.1
+    let l = c in
+    c.rest_told.ensures ∙ checked_end base _ _ _ _ _ (walks_end l.loop-at.invariant.0 l.loop-at.region c.loop-at-test.false) ∙ sym l.loop-at.invariant.1
 
 pub check_spec : {M : Type 1} → statement M
 check_spec =

@@ -7,24 +7,25 @@ use Rattle.mender.proofs.CutLaws.{cuts, feed_forth, feed_within}
 use Rattle.mender.proofs.cut_at.Statement.{statement}
 use Rattle.mender.proofs.cut_at.Tie as tie
 
-allowed_run_requires : tie.Need-allowed_run-requires
+
+allowed_run_requires : tie.Need-allowed_run-run-requires
 allowed_run_requires c κs = search rules
 
-run_to_requires : tie.Need-run_to-requires
+run_to_requires : tie.Need-run_to-feed-requires
 run_to_requires c κs = search rules
 
-text_end_requires : tie.Need-text_end-requires
+text_end_requires : tie.Need-text_end-end-requires
 text_end_requires c κs =
-    let b = c.before.before.before in (
-      feed_forth b.args.s.now b.args.at b.requires c.before.allowed_run.ensures c.run_to.ensures,
-      feed_within b.args.s.now b.args.at b.requires c.before.allowed_run.ensures c.run_to.ensures,
+    let b = c in (
+      feed_forth b.args.s.now b.args.at b.requires c.allowed_run-run.ensures c.run_to-feed.ensures,
+      feed_within b.args.s.now b.args.at b.requires c.allowed_run-run.ensures c.run_to-feed.ensures,
     )
 
-add_t6 : tie.Need-overflow-add-t6
+add_t6 : tie.Need-overflow_add-result
 add_t6 c =
     let f = c.before in
-    let b = f.before.before.before in
-    let within : f.run_to.result ≤ length b.args.s.now = feed_within b.args.s.now b.args.at b.requires f.before.allowed_run.ensures f.run_to.ensures in
+    let b = f in
+    let within : f.run_to-feed.result ≤ length b.args.s.now = feed_within b.args.s.now b.args.at b.requires f.allowed_run-run.ensures f.run_to-feed.ensures in
     search rules
 
 end_done_requires : tie.Need-end_done-requires
@@ -33,8 +34,8 @@ end_done_requires c κs = search rules
 returns : tie.Need-returns
 returns c =
     let f = c.before.before in
-    let b = f.before.before.before in
-    cuts b.args.s.now b.args.at b.requires f.before.allowed_run.ensures f.run_to.ensures c.before.text_end.ensures c.end_done.ensures
+    let b = f in
+    cuts b.args.s.now b.args.at b.requires f.allowed_run-run.ensures f.run_to-feed.ensures c.text_end-end.ensures c.end_done.ensures
 
 pub cut_at_spec : {M : Type 1} → statement M
 cut_at_spec =

@@ -5,29 +5,27 @@ use Rattle.mender.proofs.CountLaws.{run_within, no_digits, some_digits}
 use Rattle.mender.proofs.digits_then_end.Statement.{statement}
 use Rattle.mender.proofs.digits_then_end.Tie as tie
 
-digit_run_requires : tie.Need-digit_run-requires
+
+digit_run_requires : tie.Need-digit_run-n-requires
 digit_run_requires c κs = search rules
 
-returns : tie.Need-returns
-returns c = no_digits _ c.before.digit_run.ensures c.if1.true
+returns : tie.Need-returns-then-n-eq0
+returns c = no_digits _ c.digit_run-n.ensures c.if-n-eq0.true
 
-sub_same_text : tie.Need-overflow-sub-same_text
-sub_same_text c = run_within _ c.before.digit_run.ensures
+sub_same_text : tie.Need-slice_bounds-same_text-count
+sub_same_text c = run_within _ c.digit_run-n.ensures
 
-part_same_text_start : tie.Need-slice-bounds-same_text-start
-part_same_text_start c = run_within _ c.before.digit_run.ensures
+part_same_text_start : tie.Need-slice_bounds-same_text-start
+part_same_text_start c = run_within _ c.digit_run-n.ensures
 
-part_same_text_end : tie.Need-slice-bounds-same_text-end
+part_same_text_end : tie.Need-slice_bounds-same_text-end
 part_same_text_end c = search rules
-
-slice_aggregate_same_text : tie.Need-slice-aggregate-same_text
-slice_aggregate_same_text c = search rules
 
 same_text_requires : tie.Need-same_text-requires
 same_text_requires c κs = search rules
 
-returns_2 : tie.Need-returns-2
-returns_2 c = some_digits _ c.before.before.before.before.digit_run.ensures c.before.before.before.if1.false c.same_text.ensures
+returns_2 : tie.Need-returns
+returns_2 c = some_digits _ c.digit_run-n.ensures c.if-n-eq0.false c.same_text.ensures
 
 pub digits_then_end_spec : {M : Type 1} → statement M
 digits_then_end_spec =
@@ -38,6 +36,5 @@ digits_then_end_spec =
     sub_same_text
     part_same_text_start
     part_same_text_end
-    slice_aggregate_same_text
     same_text_requires
     returns_2)

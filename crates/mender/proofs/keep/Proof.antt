@@ -8,25 +8,26 @@ use Rattle.mender.proofs.AnswerLaws.{keep_none, keep_laid}
 use Rattle.mender.proofs.keep.Statement.{statement}
 use Rattle.mender.proofs.keep.Tie as tie
 
+
 refuse_requires : tie.Need-refuse-requires
 refuse_requires c κs = search rules
 
-returns : tie.Need-returns
+returns : tie.Need-returns-then-out-log
 returns c =
-    let b = c.before.before.before.before in
-    keep_none b.args.log.now b.args.out.now c.before.if1.true c.refuse.ensures
+    let b = c in
+    keep_none b.args.log.now b.args.out.now c.if-out-log.true c.refuse.ensures
 
 put_text_requires : tie.Need-put_text-requires
 put_text_requires c κs = search rules
 
-same_length : tie.Need-same-length
+same_length : tie.Need-shape_of-out
 same_length c = search rules
 
-returns_2 : tie.Need-returns-2
+returns_2 : tie.Need-returns
 returns_2 c =
     let p = c.before.before in
-    let b = p.before.before.before.before.before in
-    let room = p.before.before.if1.false in
+    let b = p in
+    let room = p.if-out-log.false in
     keep_laid b.args.log.now b.args.out.now room (laid_text refl (omega (arith, room)) p.put_text.ensures)
 
 pub keep_spec : {M : Type 1} → statement M

@@ -11,42 +11,40 @@ use Rattle.mender.proofs.LayLaws.{lays_as, head_remarks, head_other, remark_othe
 use Rattle.mender.proofs.lay.Statement.{statement}
 use Rattle.mender.proofs.lay.Tie as tie
 
+
 -- The places of the code: where the line is cut, and behind what is asked in each of the three regions.
-abbrev begun : tie.After-cut_at → tie.Start
+abbrev begun : tie.After-cut_at-c → tie.Start
 begun k = k.before.before
 
-abbrev in_head : tie.After-same_text → tie.After-cut_at
+abbrev in_head : tie.After-same_text → tie.After-cut_at-c
 in_head t = t.before.before.before.before.before
 
-abbrev in_remarks : tie.After-begins_with → tie.After-cut_at
+abbrev in_remarks : tie.After-begins_with → tie.After-cut_at-c
 in_remarks t = t.before.before.before.before.before
 
-abbrev in_records : tie.After-trimmed_end → tie.After-cut_at
-in_records t = t.before.before.before
+abbrev in_records : tie.After-trimmed_end-last → tie.After-cut_at-c
+in_records t = t.before.before
 
-abbrev follow : tie.After-cut_at → ℕ
+abbrev follow : tie.After-cut_at-c → ℕ
 follow k = (begun k).args.follow
 
-cut : (k : tie.After-cut_at) → Cuts (begun k).args.s.now (begun k).args.at k.cut_at.result
-cut k = k.cut_at.ensures
+cut : (k : tie.After-cut_at-c) → Cuts (begun k).args.s.now (begun k).args.at k.cut_at-c.result
+cut k = k.cut_at-c.ensures
 
-cut_at_requires : tie.Need-cut_at-requires
+cut_at_requires : tie.Need-cut_at-c-requires
 cut_at_requires c κs = search rules
 
-enum_told : tie.Need-enum-told
+enum_told : tie.Need-enum_told-1
 enum_told c = search rules
 
-sub_same_text : tie.Need-overflow-sub-same_text
-sub_same_text c = (cut c.before.before).spans.forth
+sub_same_text : tie.Need-slice_bounds-same_text-count
+sub_same_text c = (cut c.before).spans.forth
 
-part_same_text_start : tie.Need-slice-bounds-same_text-start
-part_same_text_start c = (cut c.before.before).spans.forth
+part_same_text_start : tie.Need-slice_bounds-same_text-start
+part_same_text_start c = (cut c.before).spans.forth
 
-part_same_text_end : tie.Need-slice-bounds-same_text-end
-part_same_text_end c = (cut c.before.before).spans.within
-
-slice_aggregate_same_text : tie.Need-slice-aggregate-same_text
-slice_aggregate_same_text c = search rules
+part_same_text_end : tie.Need-slice_bounds-same_text-end
+part_same_text_end c = (cut c.before).spans.within
 
 same_text_requires : tie.Need-same_text-requires
 same_text_requires c κs = search rules
@@ -54,40 +52,37 @@ same_text_requires c κs = search rules
 laid_as_requires : tie.Need-laid_as-requires
 laid_as_requires c κs = search rules
 
-returns : tie.Need-returns
+returns : tie.Need-returns-then-same_text
 returns c =
     let t = c.before.before in
     let k = in_head t in
-    lays_as (head_remarks (cut k) (follow k) t.same_text.ensures c.before.if1.true) t.before.before.before.enum_told.given.1 c.Laid-as.ensures
+    lays_as (head_remarks (cut k) (follow k) t.same_text.ensures c.if-same_text.true) t.in-Head.is c.laid_as.ensures
 
-laid_as_requires_2 : tie.Need-laid_as-requires-2
+laid_as_requires_2 : tie.Need-laid_as-requires-in-Head
 laid_as_requires_2 c κs = search rules
 
-enum_told_2 : tie.Need-enum-told-2
+enum_told_2 : tie.Need-enum_told-in-Remarks
 enum_told_2 c = search rules
 
-slice_aggregate_begins_with : tie.Need-slice-aggregate-begins_with
-slice_aggregate_begins_with c = search rules
-
-sub_begins_with : tie.Need-overflow-sub-begins_with
+sub_begins_with : tie.Need-slice_bounds-begins_with-count
 sub_begins_with c = (cut c.before.before.before).spans.forth
 
-part_begins_with_start : tie.Need-slice-bounds-begins_with-start
+part_begins_with_start : tie.Need-slice_bounds-begins_with-start
 part_begins_with_start c = (cut c.before.before.before).spans.forth
 
-part_begins_with_end : tie.Need-slice-bounds-begins_with-end
+part_begins_with_end : tie.Need-slice_bounds-begins_with-end-in-Remarks
 part_begins_with_end c = (cut c.before.before.before).spans.within
 
 begins_with_requires : tie.Need-begins_with-requires
 begins_with_requires c κs = search rules
 
-sub_count_done : tie.Need-overflow-sub-count_done
+sub_count_done : tie.Need-slice_bounds-count_done-count
 sub_count_done c = (cut c.before.before.before.before.before.before).spans.forth
 
-part_count_done_start : tie.Need-slice-bounds-count_done-start
+part_count_done_start : tie.Need-slice_bounds-count_done-start
 part_count_done_start c = (cut c.before.before.before.before.before.before).spans.forth
 
-part_count_done_end : tie.Need-slice-bounds-count_done-end
+part_count_done_end : tie.Need-slice_bounds-count_done-end
 part_count_done_end c = (cut c.before.before.before.before.before.before).spans.within
 
 count_done_requires : tie.Need-count_done-requires
@@ -95,57 +90,57 @@ unfolding count_start
 count_done_requires c κs =
     let t = c.before.before in
     let k = in_remarks t in
-    count_long (cut k) (follow k) (sym t.begins_with.ensures ∙ c.before.if2.true)
+    count_long (cut k) (follow k) (sym t.begins_with.ensures ∙ c.if-begins_with.true)
 
-laid_as_requires_3 : tie.Need-laid_as-requires-3
+laid_as_requires_3 : tie.Need-laid_as-requires-then-begins_with
 laid_as_requires_3 c κs = search rules
 
-returns_2 : tie.Need-returns-2
+returns_2 : tie.Need-returns-then-begins_with
 unfolding count_start
 returns_2 c =
     let t = c.before.before.before.before in
     let k = in_remarks t in
-    lays_as (count_lays (cut k) (follow k) (sym t.begins_with.ensures ∙ c.before.before.before.if2.true) c.before.count_done.ensures) t.before.before.before.enum-told2.given.1 c.laid-as3.ensures
+    lays_as (count_lays (cut k) (follow k) (sym t.begins_with.ensures ∙ c.if-begins_with.true) c.count_done.ensures) t.in-Remarks.is c.laid_as-then-begins_with.ensures
 
-laid_as_requires_4 : tie.Need-laid_as-requires-4
+laid_as_requires_4 : tie.Need-laid_as-requires-in-Remarks
 laid_as_requires_4 c κs = search rules
 
-enum_told_3 : tie.Need-enum-told-3
+enum_told_3 : tie.Need-enum_told-in-Records
 enum_told_3 c = search rules
 
-trimmed_end_requires : tie.Need-trimmed_end-requires
-trimmed_end_requires c κs = ((cut c.before.before).spans.forth, (cut c.before.before).spans.within)
+trimmed_end_requires : tie.Need-trimmed_end-last-requires
+trimmed_end_requires c κs = ((cut c.before).spans.forth, (cut c.before).spans.within)
 
-laid_as_requires_5 : tie.Need-laid_as-requires-5
+laid_as_requires_5 : tie.Need-laid_as-requires-then-last-end
 laid_as_requires_5 c κs = search rules
 
-returns_3 : tie.Need-returns-3
+returns_3 : tie.Need-returns-then-last-end
 returns_3 c =
     let t = c.before.before in
     let k = in_records t in
-    lays_as (record_trimmed (cut k) (follow k) t.trimmed_end.ensures c.before.if3.true) t.before.enum-told3.given.1 c.laid-as5.ensures
+    lays_as (record_trimmed (cut k) (follow k) t.trimmed_end-last.ensures c.if-last-end.true) t.in-Records.is c.laid_as-then-last-end.ensures
 
-laid_as_requires_6 : tie.Need-laid_as-requires-6
+laid_as_requires_6 : tie.Need-laid_as-requires-in-Records
 laid_as_requires_6 c κs = search rules
 
-returns_4 : tie.Need-returns-4
+returns_4 : tie.Need-returns-else-same_text
 returns_4 c =
     let t = c.before.before in
     let k = in_head t in
-    lays_as (head_other (cut k) (follow k) t.same_text.ensures c.before.if1.false) t.before.before.before.enum_told.given.1 c.laid-as2.ensures
+    lays_as (head_other (cut k) (follow k) t.same_text.ensures c.if-same_text.false) t.in-Head.is c.laid_as-in-Head.ensures
 
-returns_5 : tie.Need-returns-5
+returns_5 : tie.Need-returns-else-begins_with
 unfolding count_start
 returns_5 c =
     let t = c.before.before in
     let k = in_remarks t in
-    lays_as (remark_other (cut k) (follow k) (sym t.begins_with.ensures ∙ c.before.if2.false)) t.before.before.before.enum-told2.given.1 c.laid-as4.ensures
+    lays_as (remark_other (cut k) (follow k) (sym t.begins_with.ensures ∙ c.if-begins_with.false)) t.in-Remarks.is c.laid_as-in-Remarks.ensures
 
-returns_6 : tie.Need-returns-6
+returns_6 : tie.Need-returns-else-last-end
 returns_6 c =
     let t = c.before.before in
     let k = in_records t in
-    lays_as (record_kept (cut k) (follow k) t.trimmed_end.ensures c.before.if3.false) t.before.enum-told3.given.1 c.laid-as6.ensures
+    lays_as (record_kept (cut k) (follow k) t.trimmed_end-last.ensures c.if-last-end.false) t.in-Records.is c.laid_as-in-Records.ensures
 
 pub lay_spec : {M : Type 1} → statement M
 lay_spec =
@@ -156,13 +151,11 @@ lay_spec =
     sub_same_text
     part_same_text_start
     part_same_text_end
-    slice_aggregate_same_text
     same_text_requires
     laid_as_requires
     returns
     laid_as_requires_2
     enum_told_2
-    slice_aggregate_begins_with
     sub_begins_with
     part_begins_with_start
     part_begins_with_end

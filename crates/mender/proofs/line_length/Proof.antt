@@ -8,31 +8,32 @@ use Rattle.mender.proofs.NextLaws.{length_count, length_part}
 use Rattle.mender.proofs.line_length.Statement.{statement}
 use Rattle.mender.proofs.line_length.Tie as tie
 
+
 count_length_requires : tie.Need-count_length-requires
 count_length_requires c κs = search rules
 
-add_result : tie.Need-overflow-add-result
+add_result : tie.Need-overflow_add-result
 add_result c = search rules
 
-returns : tie.Need-returns
+returns : tie.Need-returns-then-l-eq4
 returns c =
-    let b = c.before.before.before.before in
-    (length_count b.args.s.now b.args.at b.args.follow b.args.l c.before.if1.true c.count_length.ensures.0, omega (arith, c.count_length.ensures.1))
+    let b = c in
+    (length_count b.args.s.now b.args.at b.args.follow b.args.l c.if-l-eq4.true c.count_length.ensures.0, omega (arith, c.count_length.ensures.1))
 
-sub_result : tie.Need-overflow-sub-result
-sub_result c = c.before.before.before.before.requires.forth
+sub_result : tie.Need-overflow_sub-result
+sub_result c = c.requires.forth
 
-add_result_2 : tie.Need-overflow-add-result-2
+add_result_2 : tie.Need-overflow_add-result-2
 add_result_2 c =
-    let b = c.before.before.before.before in
+    let b = c in
     let within : b.args.l.end ≤ length b.args.s.now = b.requires.within in
     search rules
 
-returns_2 : tie.Need-returns-2
+returns_2 : tie.Need-returns
 returns_2 c =
-    let b = c.before.before.before.before in
+    let b = c in
     let short : b.args.l.end - b.args.at + 2 ≤ b.args.l.end - b.args.at + 35 = omega arith in
-    (length_part b.args.s.now b.args.at b.args.follow b.args.l b.requires c.before.if1.false, short)
+    (length_part b.args.s.now b.args.at b.args.follow b.args.l b.requires c.if-l-eq4.false, short)
 
 pub line_length_spec : {M : Type 1} → statement M
 line_length_spec =

@@ -12,22 +12,20 @@ use Rattle.mender.specs.Lines.{text_laid}
 use Rattle.mender.proofs.put_line.Statement.{statement}
 use Rattle.mender.proofs.put_line.Tie as tie
 
+
 -- The text of the line, seen from where the code begins.
 abbrev text : tie.Start → Text
 text b = text_laid b.args.s.now b.args.at b.args.follow b.args.l
 
-put_laid_requires : tie.Need-put_laid-requires
+put_laid_requires : tie.Need-put_laid-end-requires
 put_laid_requires c κs =
     let b = c.before.before.before in
     (b.requires.0, omega (arith, b.requires.1, length-append (text b) crlf))
 
-slice_aggregate_put_text : tie.Need-slice-aggregate-put_text
-slice_aggregate_put_text c = search rules
-
 put_text_requires : tie.Need-put_text-requires
 put_text_requires c κs = search rules
 
-same_length : tie.Need-same-length
+same_length : tie.Need-shape_of-out
 same_length c = search rules
 
 returns : tie.Need-returns
@@ -35,11 +33,11 @@ unfolding crlf
 returns c =
     let p = c.before.before in
     let t = p.before.before.before.before.before in
-    let b = t.before.before.before.before in
-    let room = puts_room t.put_laid.ensures crlf (omega (arith, b.requires.1, length-append (text b) crlf)) in
-    puts_then t.put_laid.ensures (laid_text refl room p.put_text.ensures)
+    let b = t.before.before.before.before.before in
+    let room = puts_room t.put_laid-end.ensures crlf (omega (arith, b.requires.1, length-append (text b) crlf)) in
+    puts_then t.put_laid-end.ensures (laid_text refl room p.put_text.ensures)
 
 pub put_line_spec : {M : Type 1} → statement M
 put_line_spec =
     tie.close
-    (tie.spec put_laid_requires slice_aggregate_put_text put_text_requires same_length returns)
+    (tie.spec put_laid_requires put_text_requires same_length returns)

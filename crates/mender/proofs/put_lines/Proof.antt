@@ -16,7 +16,8 @@ use Rattle.mender.proofs.TurnLaws.{Walks, walks_from, walks_some, walks_on, walk
 use Rattle.mender.proofs.put_lines.Statement.{statement}
 use Rattle.mender.proofs.put_lines.Tie as tie
 
-abbrev invariant-loop : tie.invariant-loop
+
+abbrev invariant-loop : tie.invariant-loop-at
 invariant-loop s total out₀ kinds₀ lines₀ region₀ at₀ line₀ follow₀ to₀ i₀ out kinds lines region at line follow to i =
     Walks s at follow
     × (line ≤ at + 1)
@@ -25,72 +26,72 @@ invariant-loop s total out₀ kinds₀ lines₀ region₀ at₀ line₀ follow�
     × Fills kinds₀ (map (λ c. c.kind) (changes s)) kinds i (map (λ c. c.kind) (changes_from line (mended_at region s at)))
     × Fills lines₀ (map (λ c. c.line) (changes s)) lines i (map (λ c. c.line) (changes_from line (mended_at region s at)))
 
-abbrev decreases-loop : tie.decreases-loop
+abbrev decreases-loop : tie.decreases-loop-at
 decreases-loop s total out₀ kinds₀ lines₀ region₀ at₀ line₀ follow₀ to₀ i₀ out kinds lines region at line follow to i = length s + 1 - at
 
 -- The places of a turn: its start, behind the line that is laid, behind the line that is put, and behind what is noted of it.
-abbrev text : tie.At-loop invariant-loop decreases-loop → Text
-text l = l.before.before.before.before.before.args.s.now
+abbrev text : tie.At-loop-at invariant-loop decreases-loop → Text
+text l = l.args.s.now
 
-abbrev looped : tie.After-lay invariant-loop decreases-loop → tie.At-loop invariant-loop decreases-loop
+abbrev looped : tie.After-lay-l invariant-loop decreases-loop → tie.At-loop-at invariant-loop decreases-loop
 looped k = k.before.before
 
-abbrev laid_for : tie.After-put_line invariant-loop decreases-loop → tie.After-lay invariant-loop decreases-loop
+abbrev laid_for : tie.After-put_line-to invariant-loop decreases-loop → tie.After-lay-l invariant-loop decreases-loop
 laid_for p = p.before.before
 
-abbrev put_for : tie.After-note invariant-loop decreases-loop → tie.After-put_line invariant-loop decreases-loop
+abbrev put_for : tie.After-note-i invariant-loop decreases-loop → tie.After-put_line-to invariant-loop decreases-loop
 put_for n = n.before.before.before.before.before
 
-abbrev noted_for : tie.After-note2 invariant-loop decreases-loop → tie.After-note invariant-loop decreases-loop
+abbrev noted_for : tie.After-note-i-in-loop-at invariant-loop decreases-loop → tie.After-note-i invariant-loop decreases-loop
 noted_for m = m.before.before.before.before.before.before.before
 
-laid : (k : tie.After-lay invariant-loop decreases-loop) → let l = looped k in Lays l.loop.region (text l) l.loop.at (l.loop.follow - 1) k.lay.result
-laid k = k.lay.ensures
+laid : (k : tie.After-lay-l invariant-loop decreases-loop) → let l = looped k in Lays l.loop-at.region (text l) l.loop-at.at (l.loop-at.follow - 1) k.lay-l.result
+laid k = k.lay-l.ensures
 
 -- The lines behind the one that is laid.
-abbrev behind : tie.After-lay invariant-loop decreases-loop → List MendedLine
-behind k = mended_at k.lay.result.region (text (looped k)) k.lay.result.next
+abbrev behind : tie.After-lay-l invariant-loop decreases-loop → List MendedLine
+behind k = mended_at k.lay-l.result.region (text (looped k)) k.lay-l.result.next
 
 -- The bytes of the line, what is listed of it first and second, and what is listed behind it.
-abbrev line_bytes : tie.After-lay invariant-loop decreases-loop → Text
-line_bytes k = let l = looped k in text_laid (text l) l.loop.at (l.loop.follow - 1) k.lay.result ++ crlf
+abbrev line_bytes : tie.After-lay-l invariant-loop decreases-loop → Text
+line_bytes k = let l = looped k in text_laid (text l) l.loop-at.at (l.loop-at.follow - 1) k.lay-l.result ++ crlf
 
-abbrev first_done : (Change → ℕ) → tie.After-lay invariant-loop decreases-loop → List ℕ
-first_done f k = map f (changes_in (looped k).loop.line (kinds_of k.lay.result.first))
+abbrev first_done : (Change → ℕ) → tie.After-lay-l invariant-loop decreases-loop → List ℕ
+first_done f k = map f (changes_in (looped k).loop-at.line (kinds_of k.lay-l.result.first))
 
-abbrev second_done : (Change → ℕ) → tie.After-lay invariant-loop decreases-loop → List ℕ
-second_done f k = map f (changes_in (looped k).loop.line (kinds_of k.lay.result.second))
+abbrev second_done : (Change → ℕ) → tie.After-lay-l invariant-loop decreases-loop → List ℕ
+second_done f k = map f (changes_in (looped k).loop-at.line (kinds_of k.lay-l.result.second))
 
-abbrev done_behind : (Change → ℕ) → tie.After-lay invariant-loop decreases-loop → List ℕ
-done_behind f k = map f (changes_from ((looped k).loop.line + 1) (behind k))
+abbrev done_behind : (Change → ℕ) → tie.After-lay-l invariant-loop decreases-loop → List ℕ
+done_behind f k = map f (changes_from ((looped k).loop-at.line + 1) (behind k))
 
 -- What is left to be laid: the line, and what is behind it; and so for the list.
-text_left : (k : tie.After-lay invariant-loop decreases-loop) → let l = looped k in ended (texts_of (mended_at l.loop.region (text l) l.loop.at)) ≡ line_bytes k ++ ended (texts_of (behind k))
+text_left : (k : tie.After-lay-l invariant-loop decreases-loop) → let l = looped k in ended (texts_of (mended_at l.loop-at.region (text l) l.loop-at.at)) ≡ line_bytes k ++ ended (texts_of (behind k))
 text_left k =
     let l = looped k in
-    ap (λ (ls : List MendedLine). ended (texts_of ls)) (walks_turn l.loop.inv.0 (laid k))
-    ∙ laid_more (text l) l.loop.at (l.loop.follow - 1) k.lay.result (behind k)
+    ap (λ (ls : List MendedLine). ended (texts_of ls)) (walks_turn l.loop-at.invariant.0 (laid k))
+    ∙ laid_more (text l) l.loop-at.at (l.loop-at.follow - 1) k.lay-l.result (behind k)
 
-list_left : (f : Change → ℕ) (k : tie.After-lay invariant-loop decreases-loop) → let l = looped k in map f (changes_from l.loop.line (mended_at l.loop.region (text l) l.loop.at)) ≡ first_done f k ++ (second_done f k ++ done_behind f k)
+list_left : (f : Change → ℕ) (k : tie.After-lay-l invariant-loop decreases-loop) → let l = looped k in map f (changes_from l.loop-at.line (mended_at l.loop-at.region (text l) l.loop-at.at)) ≡ first_done f k ++ (second_done f k ++ done_behind f k)
 list_left f k =
     let l = looped k in
-    ap (λ (ls : List MendedLine). map f (changes_from l.loop.line ls)) (walks_turn l.loop.inv.0 (laid k))
-    ∙ listed_more (text l) l.loop.at (l.loop.follow - 1) k.lay.result (behind k) f l.loop.line
+    ap (λ (ls : List MendedLine). map f (changes_from l.loop-at.line ls)) (walks_turn l.loop-at.invariant.0 (laid k))
+    ∙ listed_more (text l) l.loop-at.at (l.loop-at.follow - 1) k.lay-l.result (behind k) f l.loop-at.line
 
 -- The list behind its first entry for the line.
-kinds_first : (n : tie.After-note invariant-loop decreases-loop) → let k = laid_for (put_for n) in let l = looped k in Fills l.before.before.before.before.before.args.kinds.now (map (λ c. c.kind) (changes (text l))) n.note.new.0 n.note.result (second_done (λ c. c.kind) k ++ done_behind (λ c. c.kind) k)
+kinds_first : (n : tie.After-note-i invariant-loop decreases-loop) → let k = laid_for (put_for n) in let l = looped k in Fills l.args.kinds.now (map (λ c. c.kind) (changes (text l))) n.note-i.new.kinds n.note-i.result (second_done (λ c. c.kind) k ++ done_behind (λ c. c.kind) k)
 kinds_first n =
     let k = laid_for (put_for n) in
-    fills_on (looped k).loop.inv.4 (list_left (λ c. c.kind) k) n.note.ensures.0
+    fills_on (looped k).loop-at.invariant.4 (list_left (λ c. c.kind) k) n.note-i.ensures.0
 
-lines_first : (n : tie.After-note invariant-loop decreases-loop) → let k = laid_for (put_for n) in let l = looped k in Fills l.before.before.before.before.before.args.lines.now (map (λ c. c.line) (changes (text l))) n.note.new.1.0 n.note.result (second_done (λ c. c.line) k ++ done_behind (λ c. c.line) k)
+lines_first : (n : tie.After-note-i invariant-loop decreases-loop) → let k = laid_for (put_for n) in let l = looped k in Fills l.args.lines.now (map (λ c. c.line) (changes (text l))) n.note-i.new.lines n.note-i.result (second_done (λ c. c.line) k ++ done_behind (λ c. c.line) k)
 lines_first n =
     let k = laid_for (put_for n) in
-    fills_on (looped k).loop.inv.5 (list_left (λ c. c.line) k) n.note.ensures.1
+    fills_on (looped k).loop-at.invariant.5 (list_left (λ c. c.line) k) n.note-i.ensures.1
 
-loop_holds : tie.Need-loop-init invariant-loop decreases-loop
+loop_holds : tie.Need-loop-at-init invariant-loop decreases-loop
 loop_holds c =
-    let b = c.before.before.before.before in
+    let b = c in
     let s = b.args.s.now in (
       walks_from s b.requires.0.0,
       omega arith,
@@ -100,76 +101,76 @@ loop_holds c =
       fills_from b.args.lines.now (list_start (λ c. c.line) s) (omega (arith, b.requires.1.2, length-map (changes s) (λ c. c.line))),
     )
 
-sub_follow : tie.Need-overflow-sub-follow invariant-loop decreases-loop
-sub_follow c = walks_some c.before.loop.invariant.0 c.loop-test.true
+sub_follow : tie.Need-overflow_sub-follow invariant-loop decreases-loop
+sub_follow c = walks_some c.loop-at.invariant.0 c.loop-at-test.true
 
-lay_requires : tie.Need-lay-requires invariant-loop decreases-loop
+lay_requires : tie.Need-lay-l-requires invariant-loop decreases-loop
 lay_requires c κs = search rules
 
-put_line_requires : tie.Need-put_line-requires invariant-loop decreases-loop
+put_line_requires : tie.Need-put_line-to-requires invariant-loop decreases-loop
 put_line_requires c κs =
     let k = c.before in
-    ((laid k).spans, fills_room (looped k).loop.invariant.3 (line_bytes k) (ended (texts_of (behind k))) (text_left k))
+    ((laid k).spans, fills_room (looped k).loop-at.invariant.3 (line_bytes k) (ended (texts_of (behind k))) (text_left k))
 
-note_requires : tie.Need-note-requires invariant-loop decreases-loop
+note_requires : tie.Need-note-i-requires invariant-loop decreases-loop
 note_requires c κs =
     let k = c.before.before.before.before.before.before in
     let l = looped k in
-    let ks = kinds_of k.lay.result.first in (
-      omega (arith, fills_room l.loop.inv.4 (first_done (λ c. c.kind) k) (second_done (λ c. c.kind) k ++ done_behind (λ c. c.kind) k) (list_left (λ c. c.kind) k), noted_long (λ c. c.kind) l.loop.line ks),
-      omega (arith, fills_room l.loop.inv.5 (first_done (λ c. c.line) k) (second_done (λ c. c.line) k ++ done_behind (λ c. c.line) k) (list_left (λ c. c.line) k), noted_long (λ c. c.line) l.loop.line ks),
+    let ks = kinds_of k.lay-l.result.first in (
+      omega (arith, fills_room l.loop-at.invariant.4 (first_done (λ c. c.kind) k) (second_done (λ c. c.kind) k ++ done_behind (λ c. c.kind) k) (list_left (λ c. c.kind) k), noted_long (λ c. c.kind) l.loop-at.line ks),
+      omega (arith, fills_room l.loop-at.invariant.5 (first_done (λ c. c.line) k) (second_done (λ c. c.line) k ++ done_behind (λ c. c.line) k) (list_left (λ c. c.line) k), noted_long (λ c. c.line) l.loop-at.line ks),
     )
 
-note_requires_2 : tie.Need-note-requires-2 invariant-loop decreases-loop
+note_requires_2 : tie.Need-note-i-requires-in-loop-at invariant-loop decreases-loop
 note_requires_2 c κs =
     let n = c.before.before.before.before.before.before in
     let k = laid_for (put_for n) in
     let l = looped k in
-    let ks = kinds_of k.lay.result.second in (
-      omega (arith, fills_room (kinds_first n) (second_done (λ c. c.kind) k) (done_behind (λ c. c.kind) k) refl, noted_long (λ c. c.kind) l.loop.line ks),
-      omega (arith, fills_room (lines_first n) (second_done (λ c. c.line) k) (done_behind (λ c. c.line) k) refl, noted_long (λ c. c.line) l.loop.line ks),
+    let ks = kinds_of k.lay-l.result.second in (
+      omega (arith, fills_room (kinds_first n) (second_done (λ c. c.kind) k) (done_behind (λ c. c.kind) k) refl, noted_long (λ c. c.kind) l.loop-at.line ks),
+      omega (arith, fills_room (lines_first n) (second_done (λ c. c.line) k) (done_behind (λ c. c.line) k) refl, noted_long (λ c. c.line) l.loop-at.line ks),
     )
 
-add_line : tie.Need-overflow-add-line invariant-loop decreases-loop
+add_line : tie.Need-overflow_add-line invariant-loop decreases-loop
 add_line c =
     let l = looped (laid_for (put_for (noted_for c.before.before.before.before))) in
-    let few : l.loop.line + 1 ≤ 70000 = omega (arith, log_small, l.loop.inv.1, l.loop.inv.2, l.loop.inv.0.near) in
+    let few : l.loop-at.line + 1 ≤ 70000 = omega (arith, log_small, l.loop-at.invariant.1, l.loop-at.invariant.2, l.loop-at.invariant.0.near) in
     search rules
 
-loop_less : tie.Need-loop-smaller invariant-loop decreases-loop
+loop_less : tie.Need-loop-at-smaller invariant-loop decreases-loop
 loop_less c =
     let k = laid (laid_for (put_for (noted_for c.before.before.before.before))) in
     omega (arith, k.spans.forth, k.spans.behind, k.spans.near)
 
-loop_again : tie.Need-loop-preserved invariant-loop decreases-loop
+loop_again : tie.Need-loop-at-preserved invariant-loop decreases-loop
 loop_again c =
     let m = c.before.before.before.before in
     let n = noted_for m in
     let p = put_for n in
     let k = laid_for p in
     let l = looped k in (
-      walks_on l.loop.inv.0 (laid k),
-      omega (arith, l.loop.inv.1, (laid k).spans.forth, (laid k).spans.behind),
-      l.loop.inv.2,
-      fills_on l.loop.inv.3 (text_left k) p.put_line.ensures,
-      fills_on (kinds_first n) refl m.note2.ensures.0,
-      fills_on (lines_first n) refl m.note2.ensures.1,
+      walks_on l.loop-at.invariant.0 (laid k),
+      omega (arith, l.loop-at.invariant.1, (laid k).spans.forth, (laid k).spans.behind),
+      l.loop-at.invariant.2,
+      fills_on l.loop-at.invariant.3 (text_left k) p.put_line-to.ensures,
+      fills_on (kinds_first n) refl m.note-i-in-loop-at.ensures.0,
+      fills_on (lines_first n) refl m.note-i-in-loop-at.ensures.1,
     )
 
-same_length : tie.Need-same-length invariant-loop decreases-loop
-same_length c = c.before.loop.invariant.3.same
+same_length : tie.Need-shape_of-out invariant-loop decreases-loop
+same_length c = c.loop-at.invariant.3.same
 
-same_length_2 : tie.Need-same-length-2 invariant-loop decreases-loop
-same_length_2 c = c.before.loop.invariant.4.same
+same_length_2 : tie.Need-shape_of-kinds invariant-loop decreases-loop
+same_length_2 c = c.loop-at.invariant.4.same
 
-same_length_3 : tie.Need-same-length-3 invariant-loop decreases-loop
-same_length_3 c = c.before.loop.invariant.5.same
+same_length_3 : tie.Need-shape_of-lines invariant-loop decreases-loop
+same_length_3 c = c.loop-at.invariant.5.same
 
 returns : tie.Need-returns invariant-loop decreases-loop
 returns c =
-    let l = c.before in
-    let none = walks_end l.loop.invariant.0 l.loop.region c.loop-test.false in
-    (fills_end l.loop.invariant.3 (no_text _ none), (fills_end l.loop.invariant.4 (no_list (λ c. c.kind) _ _ none), fills_end l.loop.invariant.5 (no_list (λ c. c.line) _ _ none)))
+    let l = c in
+    let none = walks_end l.loop-at.invariant.0 l.loop-at.region c.loop-at-test.false in
+    (fills_end l.loop-at.invariant.3 (no_text _ none), (fills_end l.loop-at.invariant.4 (no_list (λ c. c.kind) _ _ none), fills_end l.loop-at.invariant.5 (no_list (λ c. c.line) _ _ none)))
 
 pub put_lines_spec : {M : Type 1} → statement M
 put_lines_spec =

@@ -8,31 +8,32 @@ use Rattle.striker.proofs.LineLoops.{line_gone, line_stays}
 use Rattle.striker.proofs.put_line.Statement.{statement}
 use Rattle.striker.proofs.put_line.Tie as tie
 
-returns : tie.Need-returns
-returns c =
-    let b = c.before.before.before in
-    puts_nothing (line_gone b.args.log.now b.args.start b.args.next c.if1.true) (omega (arith, b.requires.2))
 
-sub_put_text : tie.Need-overflow-sub-put_text
+returns : tie.Need-returns-then-struck
+returns c =
+    let b = c in
+    puts_nothing (line_gone b.args.log.now b.args.start b.args.next c.if-struck.true) (omega (arith, b.requires.2))
+
+sub_put_text : tie.Need-slice_bounds-put_text-count
 sub_put_text c = search rules
 
-part_put_text_start : tie.Need-slice-bounds-put_text-start
+part_put_text_start : tie.Need-slice_bounds-put_text-start
 part_put_text_start c = search rules
 
-part_put_text_end : tie.Need-slice-bounds-put_text-end
+part_put_text_end : tie.Need-slice_bounds-put_text-end
 part_put_text_end c = search rules
 
 put_text_requires : tie.Need-put_text-requires
 put_text_requires c κs = search rules
 
-same_length : tie.Need-same-length
+same_length : tie.Need-shape_of-out
 same_length c = search rules
 
-returns_2 : tie.Need-returns-2
+returns_2 : tie.Need-returns
 returns_2 c =
     let p = c.before.before in
-    let b = p.before.before.before.before.before.before in
-    laid_text (line_stays b.args.log.now b.args.start b.args.next p.before.before.before.if1.false) b.requires.2 p.put_text.ensures
+    let b = p in
+    laid_text (line_stays b.args.log.now b.args.start b.args.next p.if-struck.false) b.requires.2 p.put_text.ensures
 
 pub put_line_spec : {M : Type 1} → statement M
 put_line_spec =
