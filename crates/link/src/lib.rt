@@ -225,7 +225,7 @@ fn rated_by(s: Link, line: &[u8]) -> Rated
 }
 
 // A line in front of the records is taken, and this is the next stage; N and how many records are taken, too.
-fn went_on_lem(s: Link, line: &[u8], stage: u16, records: u16, done: u16) -> Link
+fn went_on(s: Link, line: &[u8], stage: u16, records: u16, done: u16) -> Link
     requires { s.lines ≤ base.longest_log }
     ensures { result ≡ went_on base s line.now stage records done }
 {
@@ -252,7 +252,7 @@ fn announced(s: Link, line: &[u8], n: usize, verdicts: usize, worked: usize) -> 
     requires { s.lines ≤ base.longest_log }
     ensures { result ≡ if_long (lent_of verdicts worked) (went_on base s line.now 39 (low n) 0) }
 {
-    let t = went_on_lem(s, line, RECORDS, low(n as u64), 0);
+    let t = went_on(s, line, RECORDS, low(n as u64), 0);
     if lends_enough(t, verdicts, worked) {
         return t;
     }
@@ -264,10 +264,10 @@ fn head_goes(s: Link, line: &[u8], next: Due, verdicts: usize, worked: usize) ->
     ensures { result ≡ head_goes base (lent_of verdicts worked) s line.now next }
 {
     match next {
-        Due::Identifier => went_on_lem(s, line, 0, s.records, s.done),
-        Due::Keyword(k) => went_on_lem(s, line, low(k as u64 % 65536 + 1), s.records, s.done),
-        Due::Remarks => went_on_lem(s, line, 37, s.records, s.done),
-        Due::Remark => went_on_lem(s, line, 38, s.records, s.done),
+        Due::Identifier => went_on(s, line, 0, s.records, s.done),
+        Due::Keyword(k) => went_on(s, line, low(k as u64 % 65536 + 1), s.records, s.done),
+        Due::Remarks => went_on(s, line, 37, s.records, s.done),
+        Due::Remark => went_on(s, line, 38, s.records, s.done),
         Due::Record(n) => announced(s, line, n, verdicts, worked),
         Due::End => announced(s, line, 0, verdicts, worked),
     }

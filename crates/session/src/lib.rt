@@ -485,7 +485,7 @@ pub fn started(s: Session, d: Declared) -> Replied
 }
 
 // Where the next record is kept; where the session has no place for one, behind all that the slice holds.
-fn next_place_lem(s: Session, verdicts: usize) -> usize
+fn next_place(s: Session, verdicts: usize) -> usize
     ensures { result ≡ next_place base s verdicts }
 {
     if !is_reachable(s) {
@@ -512,7 +512,7 @@ fn with_record(s: Session, worth: u64, mode: u8, number: u8) -> Session
 pub fn taken(s: Session, line: &[u8], verdicts: &mut [u8], kept: &mut [u8]) -> Replied
     ensures { (result ≡ taken base s line.now verdicts.old kept.old) × (verdicts.new ≡ verdicts_taken base s line.now verdicts.old kept.old) × (kept.new ≡ kept_taken base s line.now verdicts.old kept.old) }
 {
-    let n = next_place_lem(s, verdicts.len());
+    let n = next_place(s, verdicts.len());
     let k = keep_line(line, n, KEPT_BYTES, verdicts, kept);
     let refusal = k.refusal;
     if refusal.number != 0 {

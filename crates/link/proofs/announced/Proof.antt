@@ -12,7 +12,7 @@ use Rattle.link.proofs.announced.Lts as lts
 use Rattle.link.proofs.lends_enough.Reads as lends-enough-reads
 use Rattle.link.proofs.low.Reads as low_reads
 use Rattle.link.proofs.stopped.Reads as stopped-reads
-use Rattle.link.proofs.went_on_lem.Reads as went-on-reads
+use Rattle.link.proofs.went_on.Reads as went-on-reads
 
 low_requires : tie.Need-low-requires
 low_requires c κs = search rules

@@ -11,7 +11,7 @@ use Rattle.link.proofs.head_goes.Reads as reads
 use Rattle.link.proofs.head_goes.Lts as lts
 use Rattle.link.proofs.announced.Reads as announced-reads
 use Rattle.link.proofs.low.Reads as low_reads
-use Rattle.link.proofs.went_on_lem.Reads as went-on-reads
+use Rattle.link.proofs.went_on.Reads as went-on-reads
 
 enum_told : tie.Need-enum-told
 enum_told c = search rules

@@ -5,10 +5,10 @@ use borrow.Author.Rules.{rules}
 use Rattle.link.proofs.TakenLaws.{went_by}
 use Rattle.rules.specs.Rules.{base}
 use Rattle.link.proofs.TestLaws.{log_fits}
-use Rattle.link.proofs.went_on_lem.Statement.{statement}
-use Rattle.link.proofs.went_on_lem.Tie as tie
-use Rattle.link.proofs.went_on_lem.Reads as reads
-use Rattle.link.proofs.went_on_lem.Lts as lts
+use Rattle.link.proofs.went_on.Statement.{statement}
+use Rattle.link.proofs.went_on.Tie as tie
+use Rattle.link.proofs.went_on.Reads as reads
+use Rattle.link.proofs.went_on.Lts as lts
 use Rattle.link.proofs.rated_by.Reads as rated-by-reads
 
 add_t8 : tie.Need-overflow-add-t8

@@ -52,7 +52,7 @@ returns_2 c =
     let none = plain looked.before.before in
     let s = start none in
     let a = s.args in
-    class_points a.line.now a.c a.entry.now a.kept.now a.width a.n s.pre none.if1.left looked.before.if2.true looked.is_held_lem.ensures c.class-by2.ensures
+    class_points a.line.now a.c a.entry.now a.kept.now a.width a.n s.pre none.if1.left looked.before.if2.true looked.is_held.ensures c.class-by2.ensures
 
 claims_duplicate_requires : tie.Need-claims_duplicate-requires
 claims_duplicate_requires c κs = search rules

@@ -23,7 +23,7 @@ is_held_requires c κs =
     ((s.requires.0.0, s.requires.0.1, s.requires.0.2, omega arith, omega (arith, c.last_four.ensures, s.requires.0.3, s.requires.0.4)), s.requires.1)
 
 returns_2 : tie.Need-returns-2
-returns_2 c = new_asked _ _ _ c.before.before.if1.false c.is_held_lem.ensures
+returns_2 c = new_asked _ _ _ c.before.before.if1.false c.is_held.ensures
 
 pub is_new_spec : {M : Type 1} → statement M
 is_new_spec = tie.close (tie.spec returns last_four_requires add_is_held is_held_requires returns_2)

@@ -7,8 +7,8 @@ use borrow.Author.Tests.{not-true, not-false}
 use Rattle.rules.specs.Rules.{base}
 use Rattle.session.specs.Session.{reachable}
 use Rattle.session.proofs.SessionLaws.{few_present, place_unreached, place_next, place_full}
-use Rattle.session.proofs.next_place_lem.Statement.{statement}
-use Rattle.session.proofs.next_place_lem.Tie as tie
+use Rattle.session.proofs.next_place.Statement.{statement}
+use Rattle.session.proofs.next_place.Tie as tie
 
 is_reachable_requires : tie.Need-is_reachable-requires
 is_reachable_requires c κs = search rules
