@@ -4,25 +4,26 @@ use Rattle.session.specs.Entry.{four_at}
 use Rattle.session.proofs.four_at.Statement.{statement}
 use Rattle.session.proofs.four_at.Tie as tie
 
-shared_slice_read_four_bytes : tie.Need-shared-slice-read-four_bytes
+
+shared_slice_read_four_bytes : tie.Need-bounds-s-at
 shared_slice_read_four_bytes c = search rules
 
-add_four_bytes : tie.Need-overflow-add-four_bytes
+add_four_bytes : tie.Need-overflow_add-at
 add_four_bytes c = search rules
 
-shared_slice_read_four_bytes_2 : tie.Need-shared-slice-read-four_bytes-2
+shared_slice_read_four_bytes_2 : tie.Need-bounds-s-at-2
 shared_slice_read_four_bytes_2 c = search rules
 
-add_four_bytes_2 : tie.Need-overflow-add-four_bytes-2
+add_four_bytes_2 : tie.Need-overflow_add-at-2
 add_four_bytes_2 c = search rules
 
-shared_slice_read_four_bytes_3 : tie.Need-shared-slice-read-four_bytes-3
+shared_slice_read_four_bytes_3 : tie.Need-bounds-s-at-3
 shared_slice_read_four_bytes_3 c = search rules
 
-add_four_bytes_3 : tie.Need-overflow-add-four_bytes-3
+add_four_bytes_3 : tie.Need-overflow_add-at-3
 add_four_bytes_3 c = search rules
 
-shared_slice_read_four_bytes_4 : tie.Need-shared-slice-read-four_bytes-4
+shared_slice_read_four_bytes_4 : tie.Need-bounds-s-at-4
 shared_slice_read_four_bytes_4 c = search rules
 
 four_bytes_requires : tie.Need-four_bytes-requires

@@ -2,7 +2,6 @@
 use Prim.Native.Nat.{ℕ, ◌+◌, ◌-◌, ◌*◌, ◌≤◌}
 use native.Mathlib.Omega.{arith}
 use mathlib.Core.Bool.{Bool}
-use mathlib.Core.Logic.{⊎_elim}
 use mathlib.Core.Path.{◌≡◌, sym, ap, ◌∙◌}
 use lib.ListN.{drop, length, take}
 use borrow.Author.Rules.{rules}
@@ -11,7 +10,9 @@ use Rattle.session.specs.Entry.{first_from, four_at, stands_at}
 use Rattle.session.proofs.LookLaws.{first_over, first_found, first_turn, first_from_lem, first_within, part_inside, like}
 use Rattle.session.proofs.StepLaws.{held_onward, part_compared, held_told}
 use Rattle.session.proofs.is_held.Statement.{statement}
+use Rattle.session.proofs.is_held.Lts.{then-n-k, else-n-k+then-same_text}
 use Rattle.session.proofs.is_held.Tie as tie
+
 
 abbrev invariant_look : tie.invariant-look
 invariant_look kept width n entry at size mark part four k₀ k =
@@ -25,7 +26,7 @@ decreases_look kept width n entry at size mark part four k₀ k = n + 1 - k
 abbrev start : tie.At-look invariant_look decreases_look → tie.Start invariant_look decreases_look
 start c = c.before.before.before.before.before
 
-abbrev begun : tie.After-next_at invariant_look decreases_look → tie.Start invariant_look decreases_look
+abbrev begun : tie.After-next_at-k invariant_look decreases_look → tie.Start invariant_look decreases_look
 begun c = start c.before
 
 -- The part that is looked for lies within the entry; the record of a number has it, or its four bytes.
@@ -39,55 +40,55 @@ abbrev alike : tie.Start invariant_look decreases_look → ℕ → Bool
 alike c = like c.args.kept.now c.args.width c.args.mark (four_at c.args.entry.now c.args.mark)
 
 -- The next record that has the four bytes.
-next : (c : tie.After-next_at invariant_look decreases_look) → c.next_at.result ≡ first_from (alike (begun c)) ((begun c).args.n - c.before.look.k) c.before.look.k
+next : (c : tie.After-next_at-k invariant_look decreases_look) → c.next_at-k.result ≡ first_from (alike (begun c)) ((begun c).args.n - c.look.k) c.look.k
 next c =
     let a = (begun c).args in
-    c.next_at.ensures
-    ∙ ap (λ (four : ℕ). first_from (like a.kept.now a.width a.mark four) (a.n - c.before.look.k) c.before.look.k) c.before.before.four_at.ensures
+    c.next_at-k.ensures
+    ∙ ap (λ (four : ℕ). first_from (like a.kept.now a.width a.mark four) (a.n - c.look.k) c.look.k) c.four_at-four.ensures
 
-onward : (c : tie.After-next_at invariant_look decreases_look) → first_from (stands (begun c)) (begun c).args.n 0 ≡ first_from (stands (begun c)) ((begun c).args.n - c.next_at.result) c.next_at.result
+onward : (c : tie.After-next_at-k invariant_look decreases_look) → first_from (stands (begun c)) (begun c).args.n 0 ≡ first_from (stands (begun c)) ((begun c).args.n - c.next_at-k.result) c.next_at-k.result
 onward c =
     let s = begun c in
     let a = s.args in
-    c.before.look.invariant.1
-    ∙ held_onward a.kept.now a.entry.now a.width a.n a.at a.size (room s) a.mark c.before.look.k c.next_at.result s.pre.0.3 s.pre.0.4 c.before.look.invariant.0 (next c)
+    c.look.invariant.1
+    ∙ held_onward a.kept.now a.entry.now a.width a.n a.at a.size (room s) a.mark c.look.k c.next_at-k.result s.requires.0.3 s.requires.0.4 c.look.invariant.0 (next c)
 
-compared : (c : tie.After-next_at invariant_look decreases_look) →
+compared : (c : tie.After-next_at-k invariant_look decreases_look) →
     let a = (begun c).args in
-    let at = c.next_at.result * a.width + a.at in
-    same (take (at + a.size - at) (drop at a.kept.now)) (take (a.at + a.size - a.at) (drop a.at a.entry.now)) ≡ stands (begun c) c.next_at.result
+    let at = c.next_at-k.result * a.width + a.at in
+    same (take (at + a.size - at) (drop at a.kept.now)) (take (a.at + a.size - a.at) (drop a.at a.entry.now)) ≡ stands (begun c) c.next_at-k.result
 compared c =
     let a = (begun c).args in
-    part_compared a.kept.now a.entry.now a.width a.n a.at a.size (room (begun c)) c.next_at.result
+    part_compared a.kept.now a.entry.now a.width a.n a.at a.size (room (begun c)) c.next_at-k.result
 
 -- It lies no further back, and not behind the records.
-forward : (c : tie.After-next_at invariant_look decreases_look) → c.before.look.k ≤ c.next_at.result
-forward c = omega (arith, next c, first_from_lem (alike (begun c)) ((begun c).args.n - c.before.look.k) c.before.look.k)
+forward : (c : tie.After-next_at-k invariant_look decreases_look) → c.look.k ≤ c.next_at-k.result
+forward c = omega (arith, next c, first_from_lem (alike (begun c)) ((begun c).args.n - c.look.k) c.look.k)
 
-within : (c : tie.After-next_at invariant_look decreases_look) → c.next_at.result ≤ (begun c).args.n
-within c = omega (arith, next c, first_within (alike (begun c)) (begun c).args.n c.before.look.k c.before.look.invariant.0)
+within : (c : tie.After-next_at-k invariant_look decreases_look) → c.next_at-k.result ≤ (begun c).args.n
+within c = omega (arith, next c, first_within (alike (begun c)) (begun c).args.n c.look.k c.look.invariant.0)
 
 -- The part of the record that was found lies within what is kept.
-inside : (c : tie.Else1 invariant_look decreases_look) → let a = (begun c.before).args in c.before.next_at.result * a.width + (a.at + a.size) ≤ length a.kept.now
+inside : (c : tie.Else-n-k invariant_look decreases_look) → let a = (begun c.before).args in c.next_at-k.result * a.width + (a.at + a.size) ≤ length a.kept.now
 inside c =
     let s = begun c.before in
     let a = s.args in
-    part_inside a.n c.before.next_at.result a.width (a.at + a.size) (length a.kept.now) s.pre.0.0 s.pre.0.1 c.if1.false
+    part_inside a.n c.next_at-k.result a.width (a.at + a.size) (length a.kept.now) s.requires.0.0 s.requires.0.1 c.if-n-k.false
 
-add_part : tie.Need-overflow-add-part invariant_look decreases_look
+add_part : tie.Need-overflow_add-part invariant_look decreases_look
 add_part c = search rules
 
-sub_part : tie.Need-overflow-sub-part invariant_look decreases_look
+sub_part : tie.Need-slice_bounds-part-count invariant_look decreases_look
 sub_part c = search rules
 
-part_part_start : tie.Need-slice-bounds-part-start invariant_look decreases_look
+part_part_start : tie.Need-slice_bounds-part-start invariant_look decreases_look
 part_part_start c = search rules
 
-part_part_end : tie.Need-slice-bounds-part_end invariant_look decreases_look
+part_part_end : tie.Need-slice_bounds-part-end invariant_look decreases_look
 part_part_end c = search rules
 
-four_at_requires : tie.Need-four_at-requires invariant_look decreases_look
-four_at_requires c κs = let s = c.before.before.before in omega (arith, s.requires.0.2, s.requires.0.4, s.requires.1)
+four_at_requires : tie.Need-four_at-four-requires invariant_look decreases_look
+four_at_requires c κs = let s = c in omega (arith, s.requires.0.2, s.requires.0.4, s.requires.1)
 
 look_holds : tie.Need-look-init invariant_look decreases_look
 look_holds c =
@@ -95,62 +96,61 @@ look_holds c =
     let all : s.args.n ≡ s.args.n - 0 = omega arith in
     (omega arith, ap (λ (m : ℕ). first_from (stands s) m 0) all)
 
-next_at_requires : tie.Need-next_at-requires invariant_look decreases_look
-next_at_requires c κs = let s = start c in (s.pre.0.0, omega (arith, s.pre.0.1, s.pre.0.4), c.look.invariant.0)
+next_at_requires : tie.Need-next_at-k-requires invariant_look decreases_look
+next_at_requires c κs = let s = start c in (s.requires.0.0, omega (arith, s.requires.0.1, s.requires.0.4), c.look.invariant.0)
 
-mul_a : tie.Need-overflow-mul-a invariant_look decreases_look
+mul_a : tie.Need-overflow_mul-a invariant_look decreases_look
 mul_a c = search (rules, inside c)
 
-add_a : tie.Need-overflow-add-a invariant_look decreases_look
+add_a : tie.Need-overflow_add-a invariant_look decreases_look
 add_a c = search (rules, inside c)
 
-add_same_text : tie.Need-overflow-add-same_text invariant_look decreases_look
+add_same_text : tie.Need-overflow_add-a-in-look invariant_look decreases_look
 add_same_text c = search (rules, inside c)
 
-sub_same_text : tie.Need-overflow-sub-same_text invariant_look decreases_look
+sub_same_text : tie.Need-slice_bounds-same_text-count invariant_look decreases_look
 sub_same_text c = search rules
 
-part_same_text_start : tie.Need-slice-bounds-same_text-start invariant_look decreases_look
+part_same_text_start : tie.Need-slice_bounds-same_text-start invariant_look decreases_look
 part_same_text_start c = search rules
 
-part_same_text_end : tie.Need-slice-bounds-same_text-end invariant_look decreases_look
+part_same_text_end : tie.Need-slice_bounds-same_text-end invariant_look decreases_look
 part_same_text_end c = search (rules, inside c)
 
 same_text_requires : tie.Need-same_text-requires invariant_look decreases_look
 same_text_requires c κs = search rules
 
-add_k : tie.Need-overflow-add-k invariant_look decreases_look
-add_k c = omega (arith, c.before.before.before.if1.false, (begun c.before.before.before.before).fits.n)
+add_k : tie.Need-overflow_add-k invariant_look decreases_look
+add_k c = omega (arith, c.if-n-k.false, c.ranges.n)
 
 look_less : tie.Need-look-smaller invariant_look decreases_look
 look_less c =
     let after = c.before.before.before.before in
-    omega (arith, c.before.before.before.if1.false, forward after)
+    omega (arith, c.if-n-k.false, forward after)
 
 look_again : tie.Need-look-preserved invariant_look decreases_look
 look_again c =
     let after = c.before.before.before.before in
     let s = begun after in
     let a = s.args in
-    let unlike = sym (compared after) ∙ sym c.before.same_text.ensures ∙ c.if2.false in
-    (omega (arith, c.before.before.before.if1.false), onward after ∙ first_turn (stands s) a.n after.next_at.result c.before.before.before.if1.false unlike)
+    let unlike = sym (compared after) ∙ sym c.same_text.ensures ∙ c.if-same_text.false in
+    (omega (arith, c.if-n-k.false), onward after ∙ first_turn (stands s) a.n after.next_at-k.result c.if-n-k.false unlike)
 
 returns : tie.Need-returns invariant_look decreases_look
 returns c =
     let after = c.before in
     let s = begun after in
     let a = s.args in
-    held_told a.kept.now a.entry.now a.width a.n a.at a.size (room s) c.if1.found
-    (⊎_elim
-    (λ w.
-    let none : c.if1.found ≡ after.next_at.result = omega (arith, w.1, w.0.taken, within after) in
-    none ∙ sym (onward after ∙ first_over (stands s) a.n after.next_at.result w.0.taken))
-    (λ w.
-    w.4
-    ∙ sym
-    (onward after
-    ∙ first_found (stands s) a.n after.next_at.result w.0.left (sym (compared after) ∙ sym w.2.ensures ∙ w.3.taken)))
-    c.if1.branch)
+    held_told a.kept.now a.entry.now a.width a.n a.at a.size (room s) c.if-n-k.found
+    (elim c.if-n-k.branch
+    [ then-n-k w ↦
+        let none : c.if-n-k.found ≡ after.next_at-k.result = omega (arith, w.found-is, w.if-n-k.true, within after) in
+        none ∙ sym (onward after ∙ first_over (stands s) a.n after.next_at-k.result w.if-n-k.true)
+    | else-n-k+then-same_text w ↦
+        w.found-is
+        ∙ sym
+        (onward after
+        ∙ first_found (stands s) a.n after.next_at-k.result w.if-n-k.false (sym (compared after) ∙ sym w.same_text.ensures ∙ w.if-same_text.true)) ])
 
 pub is_held_spec : {M : Type 1} → statement M
 is_held_spec =

@@ -13,48 +13,49 @@ use Rattle.session.proofs.StepLaws.{keeps_broken, keeps_full, keeps_one}
 use Rattle.session.proofs.keep_line.Statement.{statement}
 use Rattle.session.proofs.keep_line.Tie as tie
 
+
 -- The places: the start, from where the line is read; where it is a record; and where there is a place for it.
 abbrev start : tie.After-record → tie.Start
 start c = c.before.before.before.before
 
-abbrev begun : tie.After-c → tie.Start
-begun c = start c.before.before
+abbrev begun : tie.In-Kept → tie.Start
+begun c = start c.before
 
-abbrev asked : tie.After-has_place → tie.After-c
-asked c = c.before.before
+abbrev asked : tie.After-has_place → tie.In-Kept
+asked c = c.before
 
-told : (c : tie.After-c) → record_on base (begun c).args.line.now ≡ Kept c.c.given.0.0
-told c = sym c.before.before.«record».ensures ∙ c.c.given.1
+told : (c : tie.In-Kept) → record_on base (begun c).args.line.now ≡ Kept c.in-Kept.c
+told c = sym c.record.ensures ∙ c.in-Kept.is
 
-place : (c : tie.Else1) →
+place : (c : tie.Else-not-has_place) →
     let a = (begun (asked c.before)).args in
     has_place_for a.n a.width (length a.verdicts.now) (length a.kept.now) ≡ true
-place c = sym c.before.has_place.ensures ∙ not-false _ c.if1.false
+place c = sym c.has_place.ensures ∙ not-false _ c.if-not-has_place.false-raw
 
 record_requires : tie.Need-record-requires
 record_requires c κs = search rules
 
-enum_known_field : tie.Need-enum-known-field
+enum_known_field : tie.Need-enum_known-field
 enum_known_field c = search rules
 
 line_refused_requires : tie.Need-line_refused-requires
 line_refused_requires c κs = search rules
 
-enum_known_c : tie.Need-enum-known-c
+enum_known_c : tie.Need-enum_known-c
 enum_known_c c = search rules
 
 has_place_requires : tie.Need-has_place-requires
 has_place_requires c κs = search rules
 
-line_refused_requires_2 : tie.Need-line_refused-requires-2
+line_refused_requires_2 : tie.Need-line_refused-requires-then-not-has_place
 line_refused_requires_2 c κs = search rules
 
-returns : tie.Need-returns
+returns : tie.Need-returns-then-not-has_place
 returns c =
     let placed = c.before.before in
     let a = (begun (asked placed)).args in
     let l = a.line.now in
-    keeps_full base l a.n a.width a.verdicts.now a.kept.now (kept_rule base l (told (asked placed))) (sym placed.has_place.ensures ∙ not-true _ c.before.if1.true) c.line-refused2.ensures
+    keeps_full base l a.n a.width a.verdicts.now a.kept.now (kept_rule base l (told (asked placed))) (sym placed.has_place.ensures ∙ not-true _ c.if-not-has_place.true-raw) c.line_refused-then-not-has_place.ensures
 
 keep_record_requires : tie.Need-keep_record-requires
 keep_record_requires c κs =
@@ -62,21 +63,21 @@ keep_record_requires c κs =
     let known = asked other.before in
     (alone_told base (begun known).args.line.now (told known), place other)
 
-returns_2 : tie.Need-returns-2
+returns_2 : tie.Need-returns-in-Stops
 returns_2 c =
-    let found = c.before.before in
-    let read = found.before.before in
+    let found = c.before in
+    let read = found.before in
     let a = (start read).args in
     let l = a.line.now in
-    keeps_broken base l a.n a.width a.verdicts.now a.kept.now (stops_rule base l (sym read.«record».ensures ∙ found.field.given.1)) c.line_Refused.ensures
+    keeps_broken base l a.n a.width a.verdicts.now a.kept.now (stops_rule base l (sym read.record.ensures ∙ found.in-Stops.is)) c.line_refused.ensures
 
-same_length : tie.Need-same-length
+same_length : tie.Need-shape_of-verdicts
 same_length c = search rules
 
-same_length_2 : tie.Need-same-length-2
+same_length_2 : tie.Need-shape_of-kept
 same_length_2 c = search rules
 
-returns_3 : tie.Need-returns-3
+returns_3 : tie.Need-returns-else-not-has_place
 returns_3 c =
     let done = c.before.before.before.before in
     let other = done.before.before.before in

@@ -4,6 +4,7 @@ use Rattle.session.specs.Entry.{refused_line}
 use Rattle.session.proofs.line_refused.Statement.{statement}
 use Rattle.session.proofs.line_refused.Tie as tie
 
+
 returns : tie.Need-returns
 unfolding refused_line
 returns c = refl

@@ -4,11 +4,12 @@ use Rattle.rules.specs.Text.{semicolon}
 use Rattle.session.proofs.mode_byte.Statement.{statement}
 use Rattle.session.proofs.mode_byte.Tie as tie
 
-returns : tie.Need-returns
-returns c = rw (eq-eqb c.before.args.first semicolon c.if1.true)
 
-returns_2 : tie.Need-returns-2
-returns_2 c = rw (ne_eqb c.before.args.first semicolon c.if1.false)
+returns : tie.Need-returns-then-first-eq59
+returns c = rw (eq-eqb c.args.first semicolon c.if-first-eq59.true)
+
+returns_2 : tie.Need-returns
+returns_2 c = rw (ne_eqb c.args.first semicolon c.if-first-eq59.false)
 
 pub mode_byte_spec : {M : Type 1} → statement M
 mode_byte_spec = tie.close (tie.spec returns returns_2)

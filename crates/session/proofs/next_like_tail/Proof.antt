@@ -7,46 +7,47 @@ use Rattle.session.proofs.LookLaws.{like, Past, first_over, four_inside, past_ne
 use Rattle.session.proofs.next_like_tail.Statement.{statement}
 use Rattle.session.proofs.next_like_tail.Tie as tie
 
-abbrev invariant-loop : tie.invariant-loop
+
+abbrev invariant-loop : tie.invariant-loop-k
 invariant-loop kept width at from n four k₀ k = (k ≤ n) × Past kept width at from n four k
 
-abbrev decreases-loop : tie.decreases-loop
+abbrev decreases-loop : tie.decreases-loop-k
 decreases-loop kept width at from n four k₀ k = n - k
 
 -- Where the code begins, in a turn of the loop.
-abbrev start : tie.In-loop invariant-loop decreases-loop → tie.Start invariant-loop decreases-loop
+abbrev start : tie.In-loop-k invariant-loop decreases-loop → tie.Start invariant-loop decreases-loop
 start c = c.before.before.before
 
-loop_holds : tie.Need-loop-init invariant-loop decreases-loop
-loop_holds c = (c.before.requires.2, refl)
+loop_holds : tie.Need-loop-k-init invariant-loop decreases-loop
+loop_holds c = (c.requires.2, refl)
 
 four_of_requires : tie.Need-four_of-requires invariant-loop decreases-loop
 four_of_requires c κs =
     let a = (start c).args in
-    four_inside a.kept.now a.width a.at a.from a.n a.four c.loop-test.true (start c).requires.0 (start c).requires.1
+    four_inside a.kept.now a.width a.at a.from a.n a.four c.loop-k-test.true (start c).requires.0 (start c).requires.1
 
-returns : tie.Need-returns invariant-loop decreases-loop
+returns : tie.Need-returns-then-four_of-four invariant-loop decreases-loop
 returns c =
     let turn = c.before.before in
     let a = (start turn).args in
-    past_found a.kept.now a.width a.at a.from a.n a.four turn.loop-test.true turn.before.loop.invariant.1 c.before.four_of.ensures c.if1.true
+    past_found a.kept.now a.width a.at a.from a.n a.four turn.loop-k-test.true turn.loop-k.invariant.1 c.four_of.ensures c.if-four_of-four.true
 
-add_k : tie.Need-overflow-add-k invariant-loop decreases-loop
+add_k : tie.Need-overflow_add-k invariant-loop decreases-loop
 add_k c = search rules
 
-loop_less : tie.Need-loop-smaller invariant-loop decreases-loop
+loop_less : tie.Need-loop-k-smaller invariant-loop decreases-loop
 loop_less c = search rules
 
-loop_again : tie.Need-loop-preserved invariant-loop decreases-loop
+loop_again : tie.Need-loop-k-preserved invariant-loop decreases-loop
 loop_again c =
     let turn = c.before.before in
     let a = (start turn).args in
-    (omega (arith, turn.loop-test.true), past_next a.kept.now a.width a.at a.from a.n a.four turn.loop-test.true turn.before.loop.invariant.1 c.before.four_of.ensures c.if1.false refl)
+    (omega (arith, turn.loop-k-test.true), past_next a.kept.now a.width a.at a.from a.n a.four turn.loop-k-test.true turn.loop-k.invariant.1 c.four_of.ensures c.if-four_of-four.false refl)
 
-returns_2 : tie.Need-returns-2 invariant-loop decreases-loop
+returns_2 : tie.Need-returns invariant-loop decreases-loop
 returns_2 c =
-    let a = c.before.before.before.args in
-    sym (c.before.loop.invariant.1 ∙ first_over (like a.kept.now a.width a.at a.four) a.n c.before.loop.k c.loop-test.false)
+    let a = c.args in
+    sym (c.loop-k.invariant.1 ∙ first_over (like a.kept.now a.width a.at a.four) a.n c.loop-k.k c.loop-k-test.false)
 
 pub next_like_tail_spec : {M : Type 1} → statement M
 next_like_tail_spec =

@@ -10,29 +10,30 @@ use Rattle.session.proofs.SessionLaws.{few_present, place_unreached, place_next,
 use Rattle.session.proofs.next_place.Statement.{statement}
 use Rattle.session.proofs.next_place.Tie as tie
 
+
 is_reachable_requires : tie.Need-is_reachable-requires
 is_reachable_requires c κs = search rules
 
-returns : tie.Need-returns
-returns c = place_unreached base _ _ (sym c.before.is_reachable.ensures ∙ not-true _ c.if1.true)
+returns : tie.Need-returns-then-not-is_reachable
+returns c = place_unreached base _ _ (sym c.is_reachable.ensures ∙ not-true _ c.if-not-is_reachable.true-raw)
 
 -- The numbers are ones that a run of calls can come to.
-reached : (c : tie.Else1) → reachable base c.before.before.args.s ≡ true
-reached c = sym c.before.is_reachable.ensures ∙ not-false _ c.if1.false
+reached : (c : tie.Else-not-is_reachable) → reachable base c.args.s ≡ true
+reached c = sym c.is_reachable.ensures ∙ not-false _ c.if-not-is_reachable.false-raw
 
-present_requires : tie.Need-present-requires
-present_requires c κs = few_present base c.before.before.before.args.s (reached c.before)
+present_requires : tie.Need-present-n-requires
+present_requires c κs = few_present base c.args.s (reached c.before.before)
 
 most_records_requires : tie.Need-most_records-requires
 most_records_requires c κs = search rules
 
-returns_2 : tie.Need-returns-2
+returns_2 : tie.Need-returns-then-n-most_records
 unfolding base
-returns_2 c = c.before.before.present.ensures ∙ place_next base _ _ (reached c.before.before.before.before) (omega (arith, c.if2.true, c.before.most_records.ensures, c.before.before.present.ensures))
+returns_2 c = c.present-n.ensures ∙ place_next base _ _ (reached c.before.before.before.before.before) (omega (arith, c.if-n-most_records.true, c.most_records.ensures, c.present-n.ensures))
 
-returns_3 : tie.Need-returns-3
+returns_3 : tie.Need-returns
 unfolding base
-returns_3 c = place_full base _ _ (reached c.before.before.before.before) (omega (arith, c.if2.false, c.before.most_records.ensures, c.before.before.present.ensures))
+returns_3 c = place_full base _ _ (reached c.before.before.before.before.before) (omega (arith, c.if-n-most_records.false, c.most_records.ensures, c.present-n.ensures))
 
 pub next_place_spec : {M : Type 1} → statement M
 next_place_spec =

@@ -4,15 +4,16 @@ use Rattle.rules.specs.Rules.{base}
 use Rattle.session.proofs.present.Statement.{statement}
 use Rattle.session.proofs.present.Tie as tie
 
-add_result : tie.Need-overflow-add-result
+
+add_result : tie.Need-overflow_add-result
 unfolding base
 add_result c = search rules
 
-add_result_2 : tie.Need-overflow-add-result-2
+add_result_2 : tie.Need-overflow_add-result-2
 unfolding base
 add_result_2 c = search rules
 
-add_result_3 : tie.Need-overflow-add-result-3
+add_result_3 : tie.Need-overflow_add-result-3
 unfolding base
 add_result_3 c = search rules
 

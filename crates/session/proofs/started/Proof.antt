@@ -8,14 +8,15 @@ use Rattle.session.proofs.SessionLaws.{start_refused, start_accepted}
 use Rattle.session.proofs.started.Statement.{statement}
 use Rattle.session.proofs.started.Tie as tie
 
+
 is_declared_requires : tie.Need-is_declared-requires
 is_declared_requires c κs = search rules
 
 refused_requires : tie.Need-refused-requires
 refused_requires c κs = search rules
 
-returns : tie.Need-returns
-returns c = c.refused.ensures ∙ start_refused base _ _ (sym c.before.before.is_declared.ensures ∙ not-true _ c.before.if1.true)
+returns : tie.Need-returns-then-not-is_declared
+returns c = c.refused.ensures ∙ start_refused base _ _ (sym c.is_declared.ensures ∙ not-true _ c.if-not-is_declared.true-raw)
 
 no_sums_requires : tie.Need-no_sums-requires
 no_sums_requires c κs = search rules
@@ -23,13 +24,13 @@ no_sums_requires c κs = search rules
 accepted_requires : tie.Need-accepted-requires
 accepted_requires c κs = search rules
 
-returns_2 : tie.Need-returns-2
+returns_2 : tie.Need-returns
 unfolding fresh_session
 returns_2 c =
-    let a = c.before.before.before.before.args in
+    let a = c.args in
     c.accepted.ensures
-    ∙ (λ i. refused_by (record { declared = a.d; sums = c.before.no_sums.ensures i }) 0 0)
-    ∙ start_accepted base a.s a.d (sym c.before.before.before.is_declared.ensures ∙ not-false _ c.before.before.if1.false)
+    ∙ (λ i. refused_by (record { declared = a.d; sums = c.no_sums.ensures i }) 0 0)
+    ∙ start_accepted base a.s a.d (sym c.is_declared.ensures ∙ not-false _ c.if-not-is_declared.false-raw)
 
 pub started_spec : {M : Type 1} → statement M
 started_spec =
