@@ -7,6 +7,7 @@ use Rattle.link.proofs.StateLaws.{accepted_by_lem}
 use Rattle.link.proofs.accepted.Statement.{statement}
 use Rattle.link.proofs.accepted.Tie as tie
 
+
 stopped_requires : tie.Need-stopped-requires
 stopped_requires c κs = search rules
 
@@ -21,9 +22,9 @@ totals_kept_requires c κs = search rules
 
 returns : tie.Need-returns
 returns c =
-    let s = c.before.before.before.before.args.s in
-    accepted_by_lem base s c.before.before.before.stopped.ensures
-    (c.totals_kept.ensures ∙ (λ i. totals_kept base (c.before.before.sums_of.ensures i) (c.before.declared_of.ensures i)))
+    let s = c.args.s in
+    accepted_by_lem base s c.stopped.ensures
+    (c.totals_kept.ensures ∙ (λ i. totals_kept base (c.sums_of.ensures i) (c.declared_of.ensures i)))
 
 pub accepted_spec : {M : Type 1} → statement M
 accepted_spec =

@@ -14,27 +14,28 @@ use Rattle.link.proofs.low.Reads as low_reads
 use Rattle.link.proofs.stopped.Reads as stopped-reads
 use Rattle.link.proofs.went_on.Reads as went-on-reads
 
+
 low_requires : tie.Need-low-requires
 low_requires c κs = search rules
 
-went_on_requires : tie.Need-went_on-requires
+went_on_requires : tie.Need-went_on-t-requires
 went_on_requires c κs = search rules
 
 lends_enough_requires : tie.Need-lends_enough-requires
 lends_enough_requires c κs = search rules
 
-returns : tie.Need-returns
+returns : tie.Need-returns-then-lends_enough
 returns c =
-    let a = c.before.before.before.before.before.args in
-    long_kept _ (c.before.before.went_on.ensures ∙ ap (λ (n : ℕ). went_on base a.s a.line.now 39 n 0) c.before.before.before.low.ensures) (sym c.before.lends_enough.ensures ∙ c.if1.true)
+    let a = c.args in
+    long_kept _ (c.went_on-t.ensures ∙ ap (λ (n : ℕ). went_on base a.s a.line.now 39 n 0) c.low.ensures) (sym c.lends_enough.ensures ∙ c.if-lends_enough.true)
 
 stopped_requires : tie.Need-stopped-requires
 stopped_requires c κs = search rules
 
-returns_2 : tie.Need-returns-2
+returns_2 : tie.Need-returns
 returns_2 c =
-    let a = c.before.before.before.before.before.before.args in
-    c.stopped.ensures ∙ long_lacking _ (c.before.before.before.went_on.ensures ∙ ap (λ (n : ℕ). went_on base a.s a.line.now 39 n 0) c.before.before.before.before.low.ensures) (sym c.before.before.lends_enough.ensures ∙ c.before.if1.false)
+    let a = c.args in
+    c.stopped.ensures ∙ long_lacking _ (c.went_on-t.ensures ∙ ap (λ (n : ℕ). went_on base a.s a.line.now 39 n 0) c.low.ensures) (sym c.lends_enough.ensures ∙ c.if-lends_enough.false)
 
 pub announced_spec : {M : Type 1} → statement M
 announced_spec =

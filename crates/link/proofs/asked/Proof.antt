@@ -10,18 +10,19 @@ use Rattle.link.proofs.CallLaws.{asked_refused, asked_unsound, asked_short, aske
 use Rattle.link.proofs.asked.Statement.{statement}
 use Rattle.link.proofs.asked.Tie as tie
 
+
 -- Where nothing was refused, and where the state is sound.
-abbrev start : tie.Else1 → tie.Start
+abbrev start : tie.Else-s-ne0 → tie.Start
 start c = c.before.before
 
-unrefused : (c : tie.Else1) → is_open (start c).args.s ≡ true
-unrefused c = eq-eqb (start c).args.s.refusal.number 0 c.if1.false
+unrefused : (c : tie.Else-s-ne0) → is_open (start c).args.s ≡ true
+unrefused c = eq-eqb (start c).args.s.refusal.number 0 c.if-s-ne0.false
 
-sound : (c : tie.Else2) → is_sound base (start c.before.before).args.s ≡ true
-sound c = let k = c.before.is_sound in sym k.ensures ∙ not-false k.result c.if2.false
+sound : (c : tie.Else-not-is_sound) → is_sound base (start c.before.before).args.s ≡ true
+sound c = let k = c.is_sound in sym k.ensures ∙ not-false k.result c.if-not-is_sound.false-raw
 
-returns : tie.Need-returns
-returns c = let a = c.before.before.args in sym (asked_refused base (lent_of a.verdicts a.worked) a.s (ne_eqb a.s.refusal.number 0 c.if1.true))
+returns : tie.Need-returns-then-s-ne0
+returns c = let a = c.args in sym (asked_refused base (lent_of a.verdicts a.worked) a.s (ne_eqb a.s.refusal.number 0 c.if-s-ne0.true))
 
 is_sound_requires : tie.Need-is_sound-requires
 is_sound_requires c κs = search rules
@@ -29,31 +30,31 @@ is_sound_requires c κs = search rules
 stopped_requires : tie.Need-stopped-requires
 stopped_requires c κs = search rules
 
-returns_2 : tie.Need-returns-2
+returns_2 : tie.Need-returns-then-not-is_sound
 returns_2 c =
     let a = (start c.before.before.before).args in
-    let k = c.before.before.is_sound in
+    let k = c.is_sound in
     c.stopped.ensures
-    ∙ sym (asked_unsound base (lent_of a.verdicts a.worked) a.s (unrefused c.before.before.before) (sym k.ensures ∙ not-true k.result c.before.if2.true))
+    ∙ sym (asked_unsound base (lent_of a.verdicts a.worked) a.s (unrefused c.before.before.before) (sym k.ensures ∙ not-true k.result c.if-not-is_sound.true-raw))
 
 lends_enough_requires : tie.Need-lends_enough-requires
 lends_enough_requires c κs = search rules
 
-stopped_requires_2 : tie.Need-stopped-requires-2
+stopped_requires_2 : tie.Need-stopped-requires-then-not-lends_enough
 stopped_requires_2 c κs = search rules
 
-returns_3 : tie.Need-returns-3
+returns_3 : tie.Need-returns-then-not-lends_enough
 returns_3 c =
     let a = (start c.before.before.before.before.before).args in
-    let k = c.before.before.lends_enough in
-    c.stopped2.ensures
-    ∙ sym (asked_short base (lent_of a.verdicts a.worked) a.s (unrefused c.before.before.before.before.before) (sound c.before.before.before) (sym k.ensures ∙ not-true k.result c.before.if3.true))
+    let k = c.lends_enough in
+    c.stopped-then-not-lends_enough.ensures
+    ∙ sym (asked_short base (lent_of a.verdicts a.worked) a.s (unrefused c.before.before.before.before.before) (sound c.before.before.before) (sym k.ensures ∙ not-true k.result c.if-not-lends_enough.true-raw))
 
-returns_4 : tie.Need-returns-4
+returns_4 : tie.Need-returns
 returns_4 c =
     let a = (start c.before.before.before.before).args in
-    let k = c.before.lends_enough in
-    sym (asked_well base (lent_of a.verdicts a.worked) a.s (unrefused c.before.before.before.before) (sound c.before.before) (sym k.ensures ∙ not-false k.result c.if3.false))
+    let k = c.lends_enough in
+    sym (asked_well base (lent_of a.verdicts a.worked) a.s (unrefused c.before.before.before.before) (sound c.before.before) (sym k.ensures ∙ not-false k.result c.if-not-lends_enough.false-raw))
 
 pub asked_spec : {M : Type 1} → statement M
 asked_spec =

@@ -9,10 +9,11 @@ use Rattle.link.proofs.counted.Tie as tie
 use Rattle.link.proofs.counted.Reads as reads
 use Rattle.link.proofs.counted.Lts as lts
 
-cast_t7 : tie.Need-overflow-cast-t7
+
+cast_t7 : tie.Need-overflow_cast-result
 cast_t7 c = omega (arith, log_fits)
 
-add_t8 : tie.Need-overflow-add-t8
+add_t8 : tie.Need-overflow_add-result
 add_t8 c = omega (arith, log_fits)
 
 returns : tie.Need-returns

@@ -18,37 +18,38 @@ use Rattle.link.proofs.head_goes.Reads as head-goes-reads
 use Rattle.link.proofs.stopped_here.Reads as stopped-here-reads
 use Rattle.reader.proofs.step.Reads as step-reads
 
+
 -- Where the line's step is known, from where the code begins.
-abbrev start : tie.After-step → tie.Start
+abbrev start : tie.After-step-stepped → tie.Start
 start c = c.before.before.before
 
-stepped : (c : tie.After-step) → c.step.result.next ≡ step base (due_of (start c).args.s) (start c).args.line.now
+stepped : (c : tie.After-step-stepped) → c.step-stepped.result.next ≡ step base (due_of (start c).args.s) (start c).args.line.now
 unfolding step_of
-stepped c = ap (λ (r : Stepped). r.next) (c.step.ensures ∙ ap (λ (d : Due). step_of base 0 d (start c).args.line.now) c.before.due_of.ensures)
+stepped c = ap (λ (r : Stepped). r.next) (c.step-stepped.ensures ∙ ap (λ (d : Due). step_of base 0 d (start c).args.line.now) c.due_of.ensures)
 
 due_of_requires : tie.Need-due_of-requires
 due_of_requires c κs = search rules
 
-step_requires : tie.Need-step-requires
+step_requires : tie.Need-step-stepped-requires
 step_requires c κs = search rules
 
-enum_known_after : tie.Need-enum-known-after
+enum_known_after : tie.Need-enum_known-after
 enum_known_after c = search rules
 
 stopped_here_requires : tie.Need-stopped_here-requires
 stopped_here_requires c κs = search rules
 
-enum_known_after_2 : tie.Need-enum-known-after-2
+enum_known_after_2 : tie.Need-enum_known-after-in-Goes-1
 enum_known_after_2 c = search rules
 
 head_goes_requires : tie.Need-head_goes-requires
 head_goes_requires c κs = search rules
 
-returns : tie.Need-returns
-returns c = c.stopped_here.ensures ∙ head_stops base _ _ _ _ _ (sym (stepped c.before.before.before.before) ∙ c.before.before.after.given.1)
+returns : tie.Need-returns-in-Stops
+returns c = c.stopped_here.ensures ∙ head_stops base _ _ _ _ _ (sym (stepped c.before.before) ∙ c.in-Stops.is)
 
-returns_2 : tie.Need-returns-2
-returns_2 c = c.head_goes.ensures ∙ head_on base _ _ _ _ (sym (stepped c.before.before.before.before) ∙ c.before.before.after2.given.1)
+returns_2 : tie.Need-returns-in-Goes
+returns_2 c = c.head_goes.ensures ∙ head_on base _ _ _ _ (sym (stepped c.before.before) ∙ c.in-Goes.is)
 
 pub head_line_spec : {M : Type 1} → statement M
 head_line_spec =

@@ -6,11 +6,12 @@ use Rattle.link.proofs.is_complete.Tie as tie
 use Rattle.link.proofs.is_complete.Reads as reads
 use Rattle.link.proofs.is_complete.Lts as lts
 
-returns : tie.Need-returns
-returns c = end_early _ _ c.if1.true
 
-returns_2 : tie.Need-returns-2
-returns_2 c = end_late _ _ _ c.before.if1.false
+returns : tie.Need-returns-then-s-lt-RECORDS
+returns c = end_early _ _ c.if-s-lt-RECORDS.true
+
+returns_2 : tie.Need-returns
+returns_2 c = end_late _ _ _ c.if-s-lt-RECORDS.false
 
 pub is_complete_spec : {M : Type 1} → statement M
 is_complete_spec = tie.close (tie.spec returns returns_2)

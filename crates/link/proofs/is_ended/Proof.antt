@@ -11,26 +11,27 @@ use Rattle.link.proofs.is_ended.Reads as reads
 use Rattle.link.proofs.is_ended.Lts as lts
 use Rattle.reader.proofs.line_ends.Reads as line-ends-reads
 
-shared_slice_read_result : tie.Need-shared-slice-read-result
+
+shared_slice_read_result : tie.Need-bounds-bytes-at
 shared_slice_read_result c = search rules
 
-returns : tie.Need-returns
-returns c = ended_returned base _ _ _ _ _ c.before.if1.true
+returns : tie.Need-returns-then-returned-ne0
+returns c = ended_returned base _ _ _ _ _ c.if-returned-ne0.true
 
-sub_if2 : tie.Need-overflow-sub-if2
+sub_if2 : tie.Need-overflow_sub-end
 sub_if2 c = search rules
 
-add_if2 : tie.Need-overflow-add-if2
+add_if2 : tie.Need-overflow_add-held
 add_if2 c = search rules
 
-returns_2 : tie.Need-returns-2
-returns_2 c = ended_long base _ _ _ _ _ c.before.if1.false (omega (arith, line_long, c.if2.true))
+returns_2 : tie.Need-returns-then-held-end-gt-LONGEST_LINE
+returns_2 c = ended_long base _ _ _ _ _ c.if-returned-ne0.false (omega (arith, line_long, c.if-held-end-gt-LONGEST_LINE.true))
 
 line_ends_requires : tie.Need-line_ends-requires
 line_ends_requires c κs = search rules
 
-returns_3 : tie.Need-returns-3
-returns_3 c = c.line_ends.ensures ∙ ended_plain base _ _ _ _ _ c.before.before.if1.false (omega (arith, line_long, c.before.if2.false))
+returns_3 : tie.Need-returns
+returns_3 c = c.line_ends.ensures ∙ ended_plain base _ _ _ _ _ c.if-returned-ne0.false (omega (arith, line_long, c.if-held-end-gt-LONGEST_LINE.false))
 
 pub is_ended_spec : {M : Type 1} → statement M
 is_ended_spec =

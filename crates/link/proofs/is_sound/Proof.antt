@@ -10,23 +10,24 @@ use Rattle.link.proofs.is_sound.Reads as reads
 use Rattle.link.proofs.is_sound.Lts as lts
 use Rattle.rules.proofs.longest_log.Reads as longest-log-reads
 
+
 longest_log_requires : tie.Need-longest_log-requires
 longest_log_requires c κs = search rules
 
-cast_if1 : tie.Need-overflow-cast-if1
+cast_if1 : tie.Need-overflow_cast-s
 cast_if1 c = search rules
 
-returns : tie.Need-returns
-returns c = unsound_count base _ (omega (arith, c.before.before.longest_log.ensures, c.if1.true))
+returns : tie.Need-returns-then-longest_log-s
+returns c = unsound_count base _ (omega (arith, c.longest_log.ensures, c.if-longest_log-s.true))
 
-returns_2 : tie.Need-returns-2
-returns_2 c = unsound_lines base _ (omega (arith, c.before.before.before.before.longest_log.ensures, c.before.before.if1.false)) c.if2.true
+returns_2 : tie.Need-returns-then-s
+returns_2 c = unsound_lines base _ (omega (arith, c.longest_log.ensures, c.if-longest_log-s.false)) c.if-s.true
 
-cast_result : tie.Need-overflow-cast-result
+cast_result : tie.Need-overflow_cast-result
 cast_result c = search rules
 
-returns_3 : tie.Need-returns-3
-returns_3 c = sound_held base _ (omega (arith, c.before.before.before.before.before.longest_log.ensures, c.before.before.before.if1.false)) c.before.if2.false
+returns_3 : tie.Need-returns
+returns_3 c = sound_held base _ (omega (arith, c.longest_log.ensures, c.if-longest_log-s.false)) c.if-s.false
 
 pub is_sound_spec : {M : Type 1} → statement M
 is_sound_spec =

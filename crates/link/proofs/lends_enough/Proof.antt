@@ -7,19 +7,20 @@ use Rattle.link.proofs.lends_enough.Tie as tie
 use Rattle.link.proofs.lends_enough.Reads as reads
 use Rattle.link.proofs.lends_enough.Lts as lts
 
-returns : tie.Need-returns
-returns c = enough_early _ _ _ c.if1.true
 
-cast_n : tie.Need-overflow-cast-n
+returns : tie.Need-returns-then-s-lt-RECORDS
+returns c = enough_early _ _ _ c.if-s-lt-RECORDS.true
+
+cast_n : tie.Need-overflow_cast-n
 cast_n c = search rules
 
-returns_2 : tie.Need-returns-2
+returns_2 : tie.Need-returns-then-verdicts-n
 returns_2 c = search (rules, enough_not)
 
-mul_result : tie.Need-overflow-mul-result
+mul_result : tie.Need-overflow_mul-result
 mul_result c = search rules
 
-returns_3 : tie.Need-returns-3
+returns_3 : tie.Need-returns
 returns_3 c = search (rules, enough_worked)
 
 pub lends_enough_spec : {M : Type 1} → statement M

@@ -9,29 +9,30 @@ use Rattle.link.proofs.may_come.Tie as tie
 use Rattle.link.proofs.may_come.Reads as reads
 use Rattle.link.proofs.may_come.Lts as lts
 
-sub_if1 : tie.Need-overflow-sub-if1
+
+sub_if1 : tie.Need-overflow_sub-end
 sub_if1 c = search rules
 
-add_if1 : tie.Need-overflow-add-if1
+add_if1 : tie.Need-overflow_add-held
 add_if1 c = search rules
 
-returns : tie.Need-returns
-returns c = comes_long base _ _ _ _ (omega (arith, line_long, c.if1.true))
+returns : tie.Need-returns-then-held-end-gt-LONGEST_LINE
+returns c = comes_long base _ _ _ _ (omega (arith, line_long, c.if-held-end-gt-LONGEST_LINE.true))
 
-returns_2 : tie.Need-returns-2
-returns_2 c = comes_whole base _ _ _ _ (omega (arith, line_long, c.before.if1.false)) c.if2.true
+returns_2 : tie.Need-returns-then-end-bytes
+returns_2 c = comes_whole base _ _ _ _ (omega (arith, line_long, c.if-held-end-gt-LONGEST_LINE.false)) c.if-end-bytes.true
 
-shared_slice_read_if3 : tie.Need-shared-slice-read-if3
+shared_slice_read_if3 : tie.Need-bounds-bytes-end
 shared_slice_read_if3 c = search rules
 
-returns_3 : tie.Need-returns-3
-returns_3 c = comes_stray base _ _ _ _ (omega (arith, line_long, c.before.before.before.if1.false)) c.before.before.if2.false c.if3.true
+returns_3 : tie.Need-returns-then-bytes-end-ne13
+returns_3 c = comes_stray base _ _ _ _ (omega (arith, line_long, c.if-held-end-gt-LONGEST_LINE.false)) c.if-end-bytes.false c.if-bytes-end-ne13.true
 
-add_result : tie.Need-overflow-add-result
+add_result : tie.Need-overflow_add-result
 add_result c = search rules
 
-returns_4 : tie.Need-returns-4
-returns_4 c = comes_return base _ _ _ _ (omega (arith, line_long, c.before.before.before.if1.false)) c.before.before.if2.false c.if3.false
+returns_4 : tie.Need-returns
+returns_4 c = comes_return base _ _ _ _ (omega (arith, line_long, c.if-held-end-gt-LONGEST_LINE.false)) c.if-end-bytes.false c.if-bytes-end-ne13.false
 
 pub may_come_spec : {M : Type 1} → statement M
 may_come_spec =

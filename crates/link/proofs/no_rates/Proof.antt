@@ -7,6 +7,7 @@ use Rattle.link.proofs.no_rates.Tie as tie
 use Rattle.link.proofs.no_rates.Reads as reads
 use Rattle.link.proofs.no_rates.Lts as lts
 
+
 returns : tie.Need-returns
 unfolding no_rates
 returns c = refl

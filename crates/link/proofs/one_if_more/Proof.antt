@@ -6,11 +6,12 @@ use Rattle.link.proofs.one_if_more.Tie as tie
 use Rattle.link.proofs.one_if_more.Reads as reads
 use Rattle.link.proofs.one_if_more.Lts as lts
 
-returns : tie.Need-returns
-returns c = none_more _ _ c.if1.true
 
-returns_2 : tie.Need-returns-2
-returns_2 c = one_more _ _ c.if1.false
+returns : tie.Need-returns-then-end-bytes
+returns c = none_more _ _ c.if-end-bytes.true
+
+returns_2 : tie.Need-returns
+returns_2 c = one_more _ _ c.if-end-bytes.false
 
 pub one_if_more_spec : {M : Type 1} → statement M
 one_if_more_spec = tie.close (tie.spec returns returns_2)

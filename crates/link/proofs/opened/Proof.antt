@@ -7,6 +7,7 @@ use Rattle.link.proofs.opened.Reads as reads
 use Rattle.link.proofs.opened.Lts as lts
 use Rattle.link.proofs.stopped.Reads as stopped-reads
 
+
 stopped_requires : tie.Need-stopped-requires
 stopped_requires c κs = search rules
 

@@ -12,52 +12,53 @@ use Rattle.link.proofs.TakenLaws.{rated_squares, rated_exchanges, rated_countrie
 use Rattle.link.proofs.rated_by.Statement.{statement}
 use Rattle.link.proofs.rated_by.Tie as tie
 
+
 -- Where the bonus and the multiplier are known.
-abbrev start : tie.Else1 → tie.Start
+abbrev start : tie.Else-not-declares → tie.Start
 start c = c.before.before.before.before
 
-abbrev begins : tie.After-low2 → tie.Start
+abbrev begins : tie.After-low-multiplier → tie.Start
 begins k = start k.before.before.before
 
-bonus : (k : tie.After-low2) → k.before.low.result ≡ low (bonus_on base (begins k).args.line.now)
-bonus k = k.before.low.ensures ∙ ap low k.before.before.rates_of.ensures.0
+bonus : (k : tie.After-low-multiplier) → k.low-bonus.result ≡ low (bonus_on base (begins k).args.line.now)
+bonus k = k.low-bonus.ensures ∙ ap low k.rates_of-rates.ensures.0
 
-multiplier : (k : tie.After-low2) → k.low2.result ≡ low (multiplier_on base (begins k).args.line.now)
-multiplier k = k.low2.ensures ∙ ap low k.before.before.rates_of.ensures.1
+multiplier : (k : tie.After-low-multiplier) → k.low-multiplier.result ≡ low (multiplier_on base (begins k).args.line.now)
+multiplier k = k.low-multiplier.ensures ∙ ap low k.rates_of-rates.ensures.1
 
-declared : (c : tie.Else1) → declares (start c).args.s.stage ≡ true
-declared c = let d = c.before.declares in sym d.ensures ∙ not-false d.result c.if1.false
+declared : (c : tie.Else-not-declares) → declares (start c).args.s.stage ≡ true
+declared c = let d = c.declares in sym d.ensures ∙ not-false d.result c.if-not-declares.false-raw
 
 declares_requires : tie.Need-declares-requires
 declares_requires c κs = search rules
 
-returns : tie.Need-returns
+returns : tie.Need-returns-then-not-declares
 returns c =
-    let s = c.before.before.before.before.args.s in
-    let d = c.before.declares in
-    let none = declares_not s.stage (sym d.ensures ∙ not-true d.result c.if1.true) in
+    let s = c.args.s in
+    let d = c.declares in
+    let none = declares_not s.stage (sym d.ensures ∙ not-true d.result c.if-not-declares.true-raw) in
     rated_not base s _ none.0 none.1 none.2
 
-rates_of_requires : tie.Need-rates_of-requires
+rates_of_requires : tie.Need-rates_of-rates-requires
 rates_of_requires c κs = search rules
 
-low_requires : tie.Need-low-requires
+low_requires : tie.Need-low-bonus-requires
 low_requires c κs = search rules
 
-low_requires_2 : tie.Need-low-requires-2
+low_requires_2 : tie.Need-low-multiplier-requires
 low_requires_2 c κs = search rules
 
-returns_2 : tie.Need-returns-2
-returns_2 c = let k = c.before.before in rated_squares base (begins k).args.s _ (bonus k) (multiplier k) c.if2.true
+returns_2 : tie.Need-returns-then-s-eq29
+returns_2 c = let k = c.before.before in rated_squares base (begins k).args.s _ (bonus k) (multiplier k) c.if-s-eq29.true
 
-returns_3 : tie.Need-returns-3
-returns_3 c = let k = c.before.before.before.before in rated_exchanges base (begins k).args.s _ (bonus k) (multiplier k) c.if3.true
+returns_3 : tie.Need-returns-then-s-eq31
+returns_3 c = let k = c.before.before.before.before in rated_exchanges base (begins k).args.s _ (bonus k) (multiplier k) c.if-s-eq31.true
 
-returns_4 : tie.Need-returns-4
+returns_4 : tie.Need-returns
 returns_4 c =
     let k = c.before.before.before.before in
     let s = (begins k).args.s in
-    rated_countries base s _ (bonus k) (multiplier k) (declares_countries s.stage (declared k.before.before.before) c.before.before.if2.false c.if3.false)
+    rated_countries base s _ (bonus k) (multiplier k) (declares_countries s.stage (declared k.before.before.before) c.if-s-eq29.false c.if-s-eq31.false)
 
 pub rated_by_spec : {M : Type 1} → statement M
 rated_by_spec =

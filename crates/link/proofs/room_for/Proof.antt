@@ -8,17 +8,18 @@ use Rattle.link.proofs.room_for.Reads as reads
 use Rattle.link.proofs.room_for.Lts as lts
 use Rattle.rules.proofs.longest_log.Reads as longest-log-reads
 
+
 longest_log_requires : tie.Need-longest_log-requires
 longest_log_requires c κs = search rules
 
-sub_room : tie.Need-overflow-sub-room
-sub_room c = omega (arith, c.longest_log.ensures, c.before.requires)
+sub_room : tie.Need-overflow_sub-room
+sub_room c = omega (arith, c.longest_log.ensures, c.requires)
 
-returns : tie.Need-returns
-returns c = omega (arith, c.before.longest_log.ensures, c.if1.true)
+returns : tie.Need-returns-then-room-bytes
+returns c = omega (arith, c.longest_log.ensures, c.if-room-bytes.true)
 
-returns_2 : tie.Need-returns-2
-returns_2 c = omega (arith, c.before.longest_log.ensures, c.if1.false)
+returns_2 : tie.Need-returns
+returns_2 c = omega (arith, c.longest_log.ensures, c.if-room-bytes.false)
 
 pub room_for_spec : {M : Type 1} → statement M
 room_for_spec = tie.close (tie.spec longest_log_requires sub_room returns returns_2)

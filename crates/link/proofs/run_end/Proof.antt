@@ -9,14 +9,15 @@ use Rattle.link.proofs.run_end.Reads as reads
 use Rattle.link.proofs.run_end.Lts as lts
 use Rattle.reader.proofs.allowed_run.Reads as allowed-run-reads
 
-returns : tie.Need-returns
-returns c = run_returned _ _ _ c.if1.true
+
+returns : tie.Need-returns-then-returned-ne0
+returns c = run_returned _ _ _ c.if-returned-ne0.true
 
 allowed_run_requires : tie.Need-allowed_run-requires
 allowed_run_requires c κs = search rules
 
-returns_2 : tie.Need-returns-2
-returns_2 c = c.allowed_run.ensures ∙ run_plain _ _ _ c.before.if1.false
+returns_2 : tie.Need-returns
+returns_2 c = c.allowed_run.ensures ∙ run_plain _ _ _ c.if-returned-ne0.false
 
 pub run_end_spec : {M : Type 1} → statement M
 run_end_spec = tie.close (tie.spec returns allowed_run_requires returns_2)

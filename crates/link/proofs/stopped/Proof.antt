@@ -8,6 +8,7 @@ use Rattle.link.proofs.stopped.Reads as reads
 use Rattle.link.proofs.stopped.Lts as lts
 use Rattle.link.proofs.no_rates.Reads as no-rates-reads
 
+
 no_counts_requires : tie.Need-no_counts-requires
 no_counts_requires c κs = search rules
 
@@ -15,7 +16,7 @@ no_rates_requires : tie.Need-no_rates-requires
 no_rates_requires c κs = search rules
 
 returns : tie.Need-returns
-returns c = stopped_bare _ c.before.no_counts.ensures c.no_rates.ensures
+returns c = stopped_bare _ c.no_counts.ensures c.no_rates.ensures
 
 pub stopped_spec : {M : Type 1} → statement M
 stopped_spec = tie.close (tie.spec no_counts_requires no_rates_requires returns)

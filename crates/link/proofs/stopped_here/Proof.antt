@@ -9,7 +9,8 @@ use Rattle.link.proofs.stopped_here.Reads as reads
 use Rattle.link.proofs.stopped_here.Lts as lts
 use Rattle.link.proofs.stopped.Reads as stopped-reads
 
-add_stopped : tie.Need-overflow-add-stopped
+
+add_stopped : tie.Need-overflow_add-s
 add_stopped c = omega (arith, log_fits)
 
 stopped_requires : tie.Need-stopped-requires

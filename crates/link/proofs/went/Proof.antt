@@ -18,87 +18,88 @@ use Rattle.link.proofs.WalkLaws.{Walks, walks_from, walks_over, walks_end, walks
 use Rattle.link.proofs.went.Statement.{statement}
 use Rattle.link.proofs.went.Tie as tie
 
-abbrev invariant-loop : tie.invariant-loop
+
+abbrev invariant-loop : tie.invariant-loop-at
 invariant-loop bytes over verdicts₀ worked₀ t₀ at₀ verdicts worked t at =
     Walks base over bytes (holding t₀ verdicts₀ worked₀) (holding t verdicts worked) at
     × (length verdicts ≡ length verdicts₀)
     × (length worked ≡ length worked₀)
 
-abbrev decreases-loop : tie.decreases-loop
+abbrev decreases-loop : tie.decreases-loop-at
 decreases-loop bytes over verdicts₀ worked₀ t₀ at₀ verdicts worked t at = length bytes - at
 
 -- The state has room for a line.
 long : (c : tie.Start invariant-loop decreases-loop) → length c.args.s.line ≡ 75
-long c = search (rules, c.well-formed.0.1.1.1.1.1.1.1.1.1.1.1.1.1)
+long c = search (rules, c.well_formed.0.1.1.1.1.1.1.1.1.1.1.1.1.1)
 
 -- At a line: the piece, what the call had, and what is held.
-abbrev text : tie.At-loop invariant-loop decreases-loop → Text
-text l = l.before.before.before.before.args.bytes.now
+abbrev text : tie.At-loop-at invariant-loop decreases-loop → Text
+text l = l.args.bytes.now
 
-abbrev over : tie.At-loop invariant-loop decreases-loop → Bool
-over l = l.before.before.before.before.args.over
+abbrev over : tie.At-loop-at invariant-loop decreases-loop → Bool
+over l = l.args.over
 
-abbrev first : tie.At-loop invariant-loop decreases-loop → Holding
-first l = let a = l.before.before.before.before.args in holding a.s a.verdicts.now a.worked.now
+abbrev first : tie.At-loop-at invariant-loop decreases-loop → Holding
+first l = let a = l.args in holding a.s a.verdicts.now a.worked.now
 
-abbrev held : tie.At-loop invariant-loop decreases-loop → Holding
-held l = holding l.loop.t l.loop.verdicts l.loop.worked
+abbrev held : tie.At-loop-at invariant-loop decreases-loop → Holding
+held l = holding l.loop-at.t l.loop-at.verdicts l.loop-at.worked
 
-abbrev came : tie.At-loop invariant-loop decreases-loop → Holding
+abbrev came : tie.At-loop-at invariant-loop decreases-loop → Holding
 came l = overrun (over l) (bytes_in base (first l) (text l))
 
-walks : (l : tie.At-loop invariant-loop decreases-loop) → Walks base (over l) (text l) (first l) (held l) l.loop.at
-walks l = l.loop.invariant.0
+walks : (l : tie.At-loop-at invariant-loop decreases-loop) → Walks base (over l) (text l) (first l) (held l) l.loop-at.at
+walks l = l.loop-at.invariant.0
 
 -- Where the characters of a line end that is coming.
-abbrev looped : tie.After-run_end invariant-loop decreases-loop → tie.At-loop invariant-loop decreases-loop
+abbrev looped : tie.After-run_end-end invariant-loop decreases-loop → tie.At-loop-at invariant-loop decreases-loop
 looped p = p.before.before.before.before
 
-inside : (p : tie.After-run_end invariant-loop decreases-loop) → (looped p).loop.at < length (text (looped p))
-inside p = p.before.before.before.loop-test.true
+inside : (p : tie.After-run_end-end invariant-loop decreases-loop) → (looped p).loop-at.at < length (text (looped p))
+inside p = p.loop-at-test.true
 
-line : (p : tie.After-run_end invariant-loop decreases-loop) → is_end (due_of (looped p).loop.t) ≡ false
-line p = sym p.before.before.is_complete.ensures ∙ p.before.if1.false
+line : (p : tie.After-run_end-end invariant-loop decreases-loop) → is_end (due_of (looped p).loop-at.t) ≡ false
+line p = sym p.is_complete.ensures ∙ p.if-is_complete.false
 
-abbrev end : tie.After-run_end invariant-loop decreases-loop → ℕ
-end p = p.run_end.result
+abbrev end : tie.After-run_end-end invariant-loop decreases-loop → ℕ
+end p = p.run_end-end.result
 
-spans : (p : tie.After-run_end invariant-loop decreases-loop) → ((looped p).loop.at ≤ end p) × (end p ≤ length (text (looped p)))
+spans : (p : tie.After-run_end-end invariant-loop decreases-loop) → ((looped p).loop-at.at ≤ end p) × (end p ≤ length (text (looped p)))
 spans p =
     let l = looped p in
-    let k = run_inside l.loop.t.returned (text l) l.loop.at (walks l).within in
-    (omega (arith, p.run_end.ensures, k.0), omega (arith, p.run_end.ensures, k.1))
+    let k = run_inside l.loop-at.t.returned (text l) l.loop-at.at (walks l).within in
+    (omega (arith, p.run_end-end.ensures, k.0), omega (arith, p.run_end-end.ensures, k.1))
 
 -- The line ends there.
-abbrev ran : tie.Else2 invariant-loop decreases-loop → tie.After-run_end invariant-loop decreases-loop
+abbrev ran : tie.Else-not-is_ended invariant-loop decreases-loop → tie.After-run_end-end invariant-loop decreases-loop
 ran c = c.before.before.before
 
-ends : (c : tie.Else2 invariant-loop decreases-loop) → let l = looped (ran c) in is_ended base l.loop.t.held l.loop.t.returned (text l) l.loop.at (end (ran c)) ≡ true
-ends c = let k = c.before.is_ended in sym k.ensures ∙ not-false k.result c.if2.false
+ends : (c : tie.Else-not-is_ended invariant-loop decreases-loop) → let l = looped (ran c) in is_ended base l.loop-at.t.held l.loop-at.t.returned (text l) l.loop-at.at (end (ran c)) ≡ true
+ends c = let k = c.is_ended in sym k.ensures ∙ not-false k.result c.if-not-is_ended.false-raw
 
 -- It is finished.
-abbrev ended : tie.After-joined invariant-loop decreases-loop → tie.Else2 invariant-loop decreases-loop
+abbrev ended : tie.After-joined-t invariant-loop decreases-loop → tie.Else-not-is_ended invariant-loop decreases-loop
 ended j = j.before.before.before.before
 
-abbrev ran_to : tie.After-joined invariant-loop decreases-loop → tie.After-run_end invariant-loop decreases-loop
+abbrev ran_to : tie.After-joined-t invariant-loop decreases-loop → tie.After-run_end-end invariant-loop decreases-loop
 ran_to j = ran (ended j)
 
-abbrev line_at : tie.After-joined invariant-loop decreases-loop → tie.At-loop invariant-loop decreases-loop
+abbrev line_at : tie.After-joined-t invariant-loop decreases-loop → tie.At-loop-at invariant-loop decreases-loop
 line_at j = looped (ran_to j)
 
-abbrev after : tie.After-joined invariant-loop decreases-loop → Holding
-after j = holding j.joined.result j.joined.new.1.1.1.1.0 j.joined.new.1.1.1.1.1.0
+abbrev after : tie.After-joined-t invariant-loop decreases-loop → Holding
+after j = holding j.joined-t.result j.joined-t.new.verdicts j.joined-t.new.worked
 
-finished : (j : tie.After-joined invariant-loop decreases-loop) → let l = line_at j in after j ≡ finishes base (held l) (begun l.loop.t ++ between (text l) l.loop.at (end (ran_to j)))
-finished j = let e = j.joined.ensures in λ i. holding (e.0 i) (e.1.0 i) (e.1.1 i)
+finished : (j : tie.After-joined-t invariant-loop decreases-loop) → let l = line_at j in after j ≡ finishes base (held l) (begun l.loop-at.t ++ between (text l) l.loop-at.at (end (ran_to j)))
+finished j = let e = j.joined-t.ensures in λ i. holding (e.0 i) (e.1.0 i) (e.1.1 i)
 
-same_verdicts_lem : (j : tie.After-joined invariant-loop decreases-loop) → length (after j).verdicts ≡ length (first (line_at j)).verdicts
-same_verdicts_lem j = j.joined.auto.1.1.1.1.0 ∙ (line_at j).loop.invariant.1
+same_verdicts_lem : (j : tie.After-joined-t invariant-loop decreases-loop) → length (after j).verdicts ≡ length (first (line_at j)).verdicts
+same_verdicts_lem j = j.joined-t.auto.verdicts ∙ (line_at j).loop-at.invariant.1
 
-same_worked : (j : tie.After-joined invariant-loop decreases-loop) → length (after j).worked ≡ length (first (line_at j)).worked
-same_worked j = j.joined.auto.1.1.1.1.1.0 ∙ (line_at j).loop.invariant.2
+same_worked : (j : tie.After-joined-t invariant-loop decreases-loop) → length (after j).worked ≡ length (first (line_at j)).worked
+same_worked j = j.joined-t.auto.worked ∙ (line_at j).loop-at.invariant.2
 
-loop_holds : tie.Need-loop-init invariant-loop decreases-loop
+loop_holds : tie.Need-loop-at-init invariant-loop decreases-loop
 loop_holds c =
     let s = c.before.before.before in
     (walks_from base s.args.over s.args.bytes.now (holding s.args.s s.args.verdicts.now s.args.worked.now) s.requires.0 (omega (arith, line_long, s.requires.1)) (omega (arith, line_long, long s)) (omega (arith, s.requires.2)), refl, refl)
@@ -109,22 +110,22 @@ is_complete_requires c κs = search rules
 stopped_here_requires : tie.Need-stopped_here-requires invariant-loop decreases-loop
 stopped_here_requires c κs = let w = walks c.before.before.before in omega (arith, w.lines)
 
-same_length : tie.Need-same-length invariant-loop decreases-loop
+same_length : tie.Need-shape_of-verdicts-then-is_complete invariant-loop decreases-loop
 same_length c = search rules
 
-same_length_2 : tie.Need-same-length-2 invariant-loop decreases-loop
+same_length_2 : tie.Need-shape_of-worked-then-is_complete invariant-loop decreases-loop
 same_length_2 c = search rules
 
-returns : tie.Need-returns invariant-loop decreases-loop
+returns : tie.Need-returns-then-is_complete invariant-loop decreases-loop
 returns c =
     let l = c.before.before.before.before in
-    let e = walks_beyond base (over l) (text l) (first l) (held l) l.loop.at (walks l) c.before.before.before.loop-test.true (sym c.before.before.is_complete.ensures ∙ c.before.if1.true) in
+    let e = walks_beyond base (over l) (text l) (first l) (held l) l.loop-at.at (walks l) c.loop-at-test.true (sym c.is_complete.ensures ∙ c.if-is_complete.true) in
     (c.stopped_here.ensures ∙ ap (λ (h : Holding). h.link) e, (ap (λ (h : Holding). h.verdicts) e, ap (λ (h : Holding). h.worked) e))
 
-run_end_requires : tie.Need-run_end-requires invariant-loop decreases-loop
+run_end_requires : tie.Need-run_end-end-requires invariant-loop decreases-loop
 run_end_requires c κs = (walks c.before.before.before).within
 
-cast_is_ended : tie.Need-overflow-cast-is_ended invariant-loop decreases-loop
+cast_is_ended : tie.Need-overflow_cast-t invariant-loop decreases-loop
 cast_is_ended c = search rules
 
 is_ended_requires : tie.Need-is_ended-requires invariant-loop decreases-loop
@@ -137,87 +138,87 @@ held_on_requires c κs =
     let p = c.before.before.before in
     (omega (arith, (walks (looped p)).lines), (spans p).0, (spans p).1, omega (arith, line_long, (walks (looped p)).few))
 
-same_length_3 : tie.Need-same-length-3 invariant-loop decreases-loop
+same_length_3 : tie.Need-shape_of-verdicts-then-not-is_ended invariant-loop decreases-loop
 same_length_3 c = search rules
 
-same_length_4 : tie.Need-same-length-4 invariant-loop decreases-loop
+same_length_4 : tie.Need-shape_of-worked-then-not-is_ended invariant-loop decreases-loop
 same_length_4 c = search rules
 
-returns_2 : tie.Need-returns-2 invariant-loop decreases-loop
+returns_2 : tie.Need-returns-then-not-is_ended invariant-loop decreases-loop
 returns_2 c =
     let p = c.before.before.before.before in
     let l = looped p in
-    let k = c.before.before.is_ended in
-    let e = walks_held base (over l) (text l) (first l) (held l) l.loop.at (walks l) (inside p) (line p) (end p) p.run_end.ensures (sym k.ensures ∙ not-true k.result c.before.if2.true) in
+    let k = c.is_ended in
+    let e = walks_held base (over l) (text l) (first l) (held l) l.loop-at.at (walks l) (inside p) (line p) (end p) p.run_end-end.ensures (sym k.ensures ∙ not-true k.result c.if-not-is_ended.true-raw) in
     (c.held_on.ensures ∙ ap (λ (h : Holding). h.link) e, (ap (λ (h : Holding). h.verdicts) e, ap (λ (h : Holding). h.worked) e))
 
-behind_requires : tie.Need-behind-requires invariant-loop decreases-loop
+behind_requires : tie.Need-behind-next-requires invariant-loop decreases-loop
 behind_requires c κs =
     let p = ran c in
     omega (arith, (spans p).1, (walks (looped p)).lines, (walks (looped p)).within)
 
-joined_requires : tie.Need-joined-requires invariant-loop decreases-loop
+joined_requires : tie.Need-joined-t-requires invariant-loop decreases-loop
 joined_requires c κs =
     let b = c.before.before.before in
     let p = ran b in
     let l = looped p in
-    let k = ends_there base l.loop.t (text l) l.loop.at (end p) (walks l).few (inside p) p.run_end.ensures (ends b) in
+    let k = ends_there base l.loop-at.t (text l) l.loop-at.at (end p) (walks l).few (inside p) p.run_end-end.ensures (ends b) in
     (omega (arith, (walks l).lines), line p, (spans p).0, (spans p).1, omega (arith, line_long, k.room))
 
-same_length_5 : tie.Need-same-length-5 invariant-loop decreases-loop
+same_length_5 : tie.Need-shape_of-verdicts-then-t-ne0 invariant-loop decreases-loop
 same_length_5 c = same_verdicts_lem c.before.before.before.before.before.before
 
-same_length_6 : tie.Need-same-length-6 invariant-loop decreases-loop
+same_length_6 : tie.Need-shape_of-worked-then-t-ne0 invariant-loop decreases-loop
 same_length_6 c = same_worked c.before.before.before.before.before.before
 
-returns_3 : tie.Need-returns-3 invariant-loop decreases-loop
+returns_3 : tie.Need-returns-then-t-ne0 invariant-loop decreases-loop
 returns_3 c =
     let j = c.before.before.before.before.before.before in
     let p = ran_to j in
     let l = line_at j in
-    let e = walks_refused base (over l) (text l) (first l) (held l) l.loop.at (walks l) (inside p) (line p) (end p) p.run_end.ensures (ends (ended j)) (after j) (finished j) (ne_eqb j.joined.result.refusal.number 0 c.if3.true) in
+    let e = walks_refused base (over l) (text l) (first l) (held l) l.loop-at.at (walks l) (inside p) (line p) (end p) p.run_end-end.ensures (ends (ended j)) (after j) (finished j) (ne_eqb j.joined-t.result.refusal.number 0 c.if-t-ne0.true) in
     (ap (λ (h : Holding). h.link) e, (ap (λ (h : Holding). h.verdicts) e, ap (λ (h : Holding). h.worked) e))
 
-loop_less : tie.Need-loop-smaller invariant-loop decreases-loop
+loop_less : tie.Need-loop-at-smaller invariant-loop decreases-loop
 loop_less c =
     let j = c.before.before.before.before.before.before in
     let p = ran_to j in
     let l = line_at j in
-    let k = ends_there base l.loop.t (text l) l.loop.at (end p) (walks l).few (inside p) p.run_end.ensures (ends (ended j)) in
-    omega (arith, j.before.before.before.behind.ensures, k.forth, k.inside)
+    let k = ends_there base l.loop-at.t (text l) l.loop-at.at (end p) (walks l).few (inside p) p.run_end-end.ensures (ends (ended j)) in
+    omega (arith, j.behind-next.ensures, k.forth, k.inside)
 
-loop_again : tie.Need-loop-preserved invariant-loop decreases-loop
+loop_again : tie.Need-loop-at-preserved invariant-loop decreases-loop
 loop_again c =
     let j = c.before.before.before.before.before.before in
     let p = ran_to j in
     let l = line_at j in
-    (walks_on base (over l) (text l) (first l) (held l) l.loop.at (walks l) (inside p) (line p) (end p) p.run_end.ensures (ends (ended j)) (after j) (finished j) j.before.before.before.behind.result j.before.before.before.behind.ensures (eq-eqb j.joined.result.refusal.number 0 c.if3.false) (omega (arith, line_long)), same_verdicts_lem j, same_worked j)
+    (walks_on base (over l) (text l) (first l) (held l) l.loop-at.at (walks l) (inside p) (line p) (end p) p.run_end-end.ensures (ends (ended j)) (after j) (finished j) j.behind-next.result j.behind-next.ensures (eq-eqb j.joined-t.result.refusal.number 0 c.if-t-ne0.false) (omega (arith, line_long)), same_verdicts_lem j, same_worked j)
 
 stopped_requires : tie.Need-stopped-requires invariant-loop decreases-loop
 stopped_requires c κs = search rules
 
-same_length_7 : tie.Need-same-length-7 invariant-loop decreases-loop
+same_length_7 : tie.Need-shape_of-verdicts-then-over invariant-loop decreases-loop
 same_length_7 c = search rules
 
-same_length_8 : tie.Need-same-length-8 invariant-loop decreases-loop
+same_length_8 : tie.Need-shape_of-worked-then-over invariant-loop decreases-loop
 same_length_8 c = search rules
 
-returns_4 : tie.Need-returns-4 invariant-loop decreases-loop
+returns_4 : tie.Need-returns-then-over invariant-loop decreases-loop
 returns_4 c =
     let l = c.before.before.before in
-    let e = walks_over base (over l) (text l) (first l) (held l) l.loop.at (walks l) c.before.before.loop-test.false c.before.if4.true in
+    let e = walks_over base (over l) (text l) (first l) (held l) l.loop-at.at (walks l) c.loop-at-test.false c.if-over.true in
     (c.stopped.ensures ∙ ap (λ (h : Holding). h.link) e, (ap (λ (h : Holding). h.verdicts) e, ap (λ (h : Holding). h.worked) e))
 
-same_length_9 : tie.Need-same-length-9 invariant-loop decreases-loop
+same_length_9 : tie.Need-shape_of-verdicts invariant-loop decreases-loop
 same_length_9 c = search rules
 
-same_length_10 : tie.Need-same-length-10 invariant-loop decreases-loop
+same_length_10 : tie.Need-shape_of-worked invariant-loop decreases-loop
 same_length_10 c = search rules
 
-returns_5 : tie.Need-returns-5 invariant-loop decreases-loop
+returns_5 : tie.Need-returns invariant-loop decreases-loop
 returns_5 c =
     let l = c.before.before in
-    let e = walks_end base (over l) (text l) (first l) (held l) l.loop.at (walks l) c.before.loop-test.false c.if4.false in
+    let e = walks_end base (over l) (text l) (first l) (held l) l.loop-at.at (walks l) c.loop-at-test.false c.if-over.false in
     (ap (λ (h : Holding). h.link) e, (ap (λ (h : Holding). h.verdicts) e, ap (λ (h : Holding). h.worked) e))
 
 pub went_spec : {M : Type 1} → statement M

@@ -11,7 +11,8 @@ use Rattle.link.proofs.went_on.Reads as reads
 use Rattle.link.proofs.went_on.Lts as lts
 use Rattle.link.proofs.rated_by.Reads as rated-by-reads
 
-add_t8 : tie.Need-overflow-add-t8
+
+add_t8 : tie.Need-overflow_add-result
 add_t8 c = omega (arith, log_fits)
 
 rated_by_requires : tie.Need-rated_by-requires
