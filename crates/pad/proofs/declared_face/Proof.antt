@@ -5,22 +5,23 @@ use Rattle.pad.specs.Face.{declared_face}
 use Rattle.pad.proofs.declared_face.Statement.{statement}
 use Rattle.pad.proofs.declared_face.Tie as tie
 
-cast_t2 : tie.Need-overflow-cast-t2
+
+cast_t2 : tie.Need-overflow_cast-result
 cast_t2 c = search rules
 
-cast_t3 : tie.Need-overflow-cast-t3
+cast_t3 : tie.Need-overflow_cast-result-2
 cast_t3 c = search rules
 
-cast_t4 : tie.Need-overflow-cast-t4
+cast_t4 : tie.Need-overflow_cast-result-3
 cast_t4 c = search rules
 
-cast_t5 : tie.Need-overflow-cast-t5
+cast_t5 : tie.Need-overflow_cast-result-4
 cast_t5 c = search rules
 
-cast_t6 : tie.Need-overflow-cast-t6
+cast_t6 : tie.Need-overflow_cast-result-5
 cast_t6 c = search rules
 
-cast_t7 : tie.Need-overflow-cast-t7
+cast_t7 : tie.Need-overflow_cast-result-6
 cast_t7 c = search rules
 
 returns : tie.Need-returns

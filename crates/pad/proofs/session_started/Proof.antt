@@ -6,6 +6,7 @@ use Rattle.session.specs.Session.{started}
 use Rattle.pad.proofs.session_started.Statement.{statement}
 use Rattle.pad.proofs.session_started.Tie as tie
 
+
 declared_face_requires : tie.Need-declared_face-requires
 declared_face_requires c κs = search rules
 
@@ -13,7 +14,7 @@ started_requires : tie.Need-started-requires
 started_requires c κs = search rules
 
 returns : tie.Need-returns
-returns c = c.started.ensures ∙ ap (started base c.before.before.args.s) c.before.declared_face.ensures
+returns c = c.started.ensures ∙ ap (started base c.args.s) c.declared_face.ensures
 
 pub session_started_spec : {M : Type 1} → statement M
 session_started_spec = tie.close (tie.spec declared_face_requires started_requires returns)

@@ -5,10 +5,11 @@ use borrow.Author.Rules.{rules}
 use Rattle.pad.proofs.sumpquince_judge.Statement.{statement}
 use Rattle.pad.proofs.sumpquince_judge.Tie as tie
 
+
 judge_requires : tie.Need-judge-requires
 judge_requires c κs = search rules
 
-enum_known_t : tie.Need-enum-known-t
+enum_known_t : tie.Need-enum_known-t
 enum_known_t c = search rules
 
 no_refusal_requires : tie.Need-no_refusal-requires
@@ -17,7 +18,7 @@ no_refusal_requires c κs = search rules
 totals_face_requires : tie.Need-totals_face-requires
 totals_face_requires c κs = search rules
 
-enum_known_r : tie.Need-enum-known-r
+enum_known_r : tie.Need-enum_known-r
 enum_known_r c = search rules
 
 refusal_face_requires : tie.Need-refusal_face-requires
@@ -26,26 +27,26 @@ refusal_face_requires c κs = search rules
 no_totals_requires : tie.Need-no_totals-requires
 no_totals_requires c κs = search rules
 
-totals_face_requires_2 : tie.Need-totals_face-requires-2
+totals_face_requires_2 : tie.Need-totals_face-requires-in-Refused
 totals_face_requires_2 c κs = search rules
 
-same_length : tie.Need-same-length
+same_length : tie.Need-shape_of-verdicts-in-Totals
 same_length c = search rules
 
-returns : tie.Need-returns
+returns : tie.Need-returns-in-Totals
 returns c =
-    let known = c.before.before.before in
-    let judged = known.before.before.before.before in
-    (totals_shown _ _ c.totals_face.ensures c.before.no_refusal.ensures (sym known.t.given.1 ∙ judged.judge.ensures.0), judged.judge.ensures.1)
+    let known = c.before.before in
+    let judged = known in
+    (totals_shown _ _ c.totals_face.ensures c.no_refusal.ensures (sym known.in-Totals.is ∙ judged.judge.ensures.0), judged.judge.ensures.1)
 
-same_length_2 : tie.Need-same-length-2
+same_length_2 : tie.Need-shape_of-verdicts-in-Refused
 same_length_2 c = search rules
 
-returns_2 : tie.Need-returns-2
+returns_2 : tie.Need-returns-in-Refused
 returns_2 c =
-    let known = c.before.before.before.before in
-    let judged = known.before.before.before.before in
-    (unjudged_shown _ _ c.totals-face2.ensures c.before.before.refusal_face.ensures c.before.no_totals.ensures (sym known.r.given.1 ∙ judged.judge.ensures.0), judged.judge.ensures.1)
+    let known = c.before.before.before in
+    let judged = known in
+    (unjudged_shown _ _ c.totals_face-in-Refused.ensures c.refusal_face.ensures c.no_totals.ensures (sym known.in-Refused.is ∙ judged.judge.ensures.0), judged.judge.ensures.1)
 
 pub sumpquince_judge_spec : {M : Type 1} → statement M
 sumpquince_judge_spec =

@@ -6,55 +6,56 @@ use Rattle.pad.proofs.FaceLaws.{changes_shown, unmended_shown}
 use Rattle.pad.proofs.sumpquince_mend.Statement.{statement}
 use Rattle.pad.proofs.sumpquince_mend.Tie as tie
 
+
 -- The mender's answer, seen from behind each of its two cases.
 abbrev mended : tie.After-no_refusal → tie.After-mend
-mended c = c.before.before.before.before.before.before.before.before.before.before
+mended c = c.before.before.before.before.before.before.before.before
 
 abbrev unmended : tie.After-refusal_face → tie.After-mend
-unmended c = c.before.before.before.before.before.before.before.before.before.before
+unmended c = c.before.before.before.before.before.before.before.before
 
 mend_requires : tie.Need-mend-requires
 mend_requires c κs = search rules
 
-enum_known_length : tie.Need-enum-known-length
+enum_known_length : tie.Need-enum_known-length
 enum_known_length c = search rules
 
 no_refusal_requires : tie.Need-no_refusal-requires
 no_refusal_requires c κs = search rules
 
-enum_known_r : tie.Need-enum-known-r
+enum_known_r : tie.Need-enum_known-r
 enum_known_r c = search rules
 
 refusal_face_requires : tie.Need-refusal_face-requires
 refusal_face_requires c κs = search rules
 
-same_length : tie.Need-same-length
+same_length : tie.Need-shape_of-out-in-Mended
 same_length c = search rules
 
-same_length_2 : tie.Need-same-length-2
+same_length_2 : tie.Need-shape_of-kinds-in-Mended
 same_length_2 c = search rules
 
-same_length_3 : tie.Need-same-length-3
+same_length_3 : tie.Need-shape_of-lines-in-Mended
 same_length_3 c = search rules
 
-returns : tie.Need-returns
+returns : tie.Need-returns-in-Mended
 returns c =
     let m = (mended c).mend.ensures in
-    (changes_shown _ c.no_refusal.ensures (sym c.before.before.length.given.1 ∙ m.0), m.1)
+    (changes_shown _ c.no_refusal.ensures (sym c.in-Mended.is ∙ m.0), m.1)
 
-same_length_4 : tie.Need-same-length-4
+same_length_4 : tie.Need-shape_of-out-in-Refused
 same_length_4 c = search rules
 
-same_length_5 : tie.Need-same-length-5
+same_length_5 : tie.Need-shape_of-kinds-in-Refused
 same_length_5 c = search rules
 
-same_length_6 : tie.Need-same-length-6
+same_length_6 : tie.Need-shape_of-lines-in-Refused
 same_length_6 c = search rules
 
-returns_2 : tie.Need-returns-2
+returns_2 : tie.Need-returns-in-Refused
 returns_2 c =
     let m = (unmended c).mend.ensures in
-    (unmended_shown _ c.refusal_face.ensures (sym c.before.before.r.given.1 ∙ m.0), m.1)
+    (unmended_shown _ c.refusal_face.ensures (sym c.in-Refused.is ∙ m.0), m.1)
 
 pub sumpquince_mend_spec : {M : Type 1} → statement M
 sumpquince_mend_spec =

@@ -5,26 +5,27 @@ use borrow.Author.Rules.{rules}
 use Rattle.pad.proofs.sumpquince_read.Statement.{statement}
 use Rattle.pad.proofs.sumpquince_read.Tie as tie
 
+
 read_requires : tie.Need-read-requires
 read_requires c κs = search rules
 
-enum_known_records : tie.Need-enum-known-records
+enum_known_records : tie.Need-enum_known-records
 enum_known_records c = search rules
 
 no_refusal_requires : tie.Need-no_refusal-requires
 no_refusal_requires c κs = search rules
 
-enum_known_r : tie.Need-enum-known-r
+enum_known_r : tie.Need-enum_known-r
 enum_known_r c = search rules
 
 refusal_face_requires : tie.Need-refusal_face-requires
 refusal_face_requires c κs = search rules
 
-returns : tie.Need-returns
-returns c = records_shown _ c.no_refusal.ensures (sym c.before.before.records.given.1 ∙ c.before.before.before.before.read.ensures)
+returns : tie.Need-returns-in-Accepted
+returns c = records_shown _ c.no_refusal.ensures (sym c.in-Accepted.is ∙ c.read.ensures)
 
-returns_2 : tie.Need-returns-2
-returns_2 c = unread_shown _ c.refusal_face.ensures (sym c.before.before.r.given.1 ∙ c.before.before.before.before.read.ensures)
+returns_2 : tie.Need-returns-in-Refused
+returns_2 c = unread_shown _ c.refusal_face.ensures (sym c.in-Refused.is ∙ c.read.ensures)
 
 pub sumpquince_read_spec : {M : Type 1} → statement M
 sumpquince_read_spec =

@@ -5,6 +5,7 @@ use Rattle.pad.specs.Face.{totals_face, session_face}
 use Rattle.pad.proofs.sumpquince_session_totals.Statement.{statement}
 use Rattle.pad.proofs.sumpquince_session_totals.Tie as tie
 
+
 no_refusal_requires : tie.Need-no_refusal-requires
 no_refusal_requires c κs = search rules
 
@@ -16,7 +17,7 @@ totals_face_requires c κs = search rules
 
 returns : tie.Need-returns
 unfolding session_face
-returns c = c.totals_face.ensures ∙ (λ i. totals_face (c.before.before.no_refusal.ensures i) (c.before.totals.ensures i))
+returns c = c.totals_face.ensures ∙ (λ i. totals_face (c.no_refusal.ensures i) (c.totals.ensures i))
 
 pub sumpquince_session_totals_spec : {M : Type 1} → statement M
 sumpquince_session_totals_spec =

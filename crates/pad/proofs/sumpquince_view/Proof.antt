@@ -5,16 +5,17 @@ use borrow.Author.Rules.{rules}
 use Rattle.pad.proofs.sumpquince_view.Statement.{statement}
 use Rattle.pad.proofs.sumpquince_view.Tie as tie
 
+
 view_requires : tie.Need-view-requires
 view_requires c κs = search rules
 
-enum_known_start : tie.Need-enum-known-start
+enum_known_start : tie.Need-enum_known-start
 enum_known_start c = search rules
 
 no_refusal_requires : tie.Need-no_refusal-requires
 no_refusal_requires c κs = search rules
 
-enum_known_r : tie.Need-enum-known-r
+enum_known_r : tie.Need-enum_known-r
 enum_known_r c = search rules
 
 one_if_requires : tie.Need-one_if-requires
@@ -23,11 +24,11 @@ one_if_requires c κs = search rules
 refusal_face_requires : tie.Need-refusal_face-requires
 refusal_face_requires c κs = search rules
 
-returns : tie.Need-returns
-returns c = seen_shown _ _ c.before.no_refusal.ensures c.one_if.ensures (sym c.before.before.before.start.given.1 ∙ c.before.before.before.before.before.view.ensures)
+returns : tie.Need-returns-in-Seen
+returns c = seen_shown _ _ c.no_refusal.ensures c.one_if.ensures (sym c.in-Seen.is ∙ c.view.ensures)
 
-returns_2 : tie.Need-returns-2
-returns_2 c = unseen_shown _ _ c.refusal_face.ensures (sym c.before.before.r.given.1 ∙ c.before.before.before.before.view.ensures)
+returns_2 : tie.Need-returns-in-Refused
+returns_2 c = unseen_shown _ _ c.refusal_face.ensures (sym c.in-Refused.is ∙ c.view.ensures)
 
 pub sumpquince_view_spec : {M : Type 1} → statement M
 sumpquince_view_spec =

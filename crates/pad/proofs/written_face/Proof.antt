@@ -5,23 +5,24 @@ use Rattle.pad.proofs.FaceLaws.{length_shown, unwritten_shown}
 use Rattle.pad.proofs.written_face.Statement.{statement}
 use Rattle.pad.proofs.written_face.Tie as tie
 
-enum_known_w : tie.Need-enum-known-w
+
+enum_known_w : tie.Need-enum_known-w
 enum_known_w c = search rules
 
 no_refusal_requires : tie.Need-no_refusal-requires
 no_refusal_requires c κs = search rules
 
-enum_known_w_2 : tie.Need-enum-known-w-2
+enum_known_w_2 : tie.Need-enum_known-w-in-Refused-1
 enum_known_w_2 c = search rules
 
 refusal_face_requires : tie.Need-refusal_face-requires
 refusal_face_requires c κs = search rules
 
-returns : tie.Need-returns
-returns c = length_shown c.no_refusal.ensures c.before.before.w.given.1
+returns : tie.Need-returns-in-Length
+returns c = length_shown c.no_refusal.ensures c.in-Length.is
 
-returns_2 : tie.Need-returns-2
-returns_2 c = unwritten_shown c.refusal_face.ensures c.before.before.w2.given.1
+returns_2 : tie.Need-returns-in-Refused
+returns_2 c = unwritten_shown c.refusal_face.ensures c.in-Refused.is
 
 pub written_face_spec : {M : Type 1} → statement M
 written_face_spec =
