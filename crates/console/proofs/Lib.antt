@@ -1,2 +1,2 @@
 -- Laws of what the programs share.
-pub mod PartLaws
+pub mod DigitLaws
