@@ -67,10 +67,9 @@ pub struct Taken {
 }
 
 // Reads until the list is full, the input ends or a read fails.
-fn fill(rt: &impl Input, log: &mut [u8]) -> Taken
+pub fn fill(input: &mut impl Read, log: &mut [u8]) -> Taken
     ensures { IsPrefixLen result.bytes log.new }
 {
-    let mut input = rt.reader();
     let mut n = 0;
     while n < log.len() {
         match input.read(&mut log[n..]) {
@@ -99,13 +98,18 @@ fn fill(rt: &impl Input, log: &mut [u8]) -> Taken
 pub fn take(rt: &(impl Input + EprintBytes), log: &mut [u8], program: &[u8]) -> Taken
     ensures { IsPrefixLen result.bytes log.new }
 {
-    let taken = fill(rt, log);
+    let taken = fill(&mut rt.reader(), log);
     if taken.failed {
         say(rt, program);
         say(rt, b": cannot read the log: the system tells of an error\n");
     }
     taken
 }
+
+// # Words of the command line
+
+// Room for a word.
+pub const LONGEST_WORD: usize = 4096;
 
 // # Texts
 
