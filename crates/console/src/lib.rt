@@ -3,8 +3,9 @@
 
 #![tactic(auto)]
 
-ghost use Rattle.std.specs.Prelude.{◌%◌, ◌≡◌, ◌<◌, take, drop};
+ghost use Rattle.std.specs.Prelude.{◌%◌, ◌≡◌, ◌<◌, take, drop, length, false};
 ghost use Rattle.std.specs.Counts.{IsPrefixLen};
+ghost use Rattle.std.specs.Io.KnownBytes.{Consumes, IsAtEnd};
 ghost use Rattle.rules.specs.Text.{digits};
 ghost use Rattle.console.specs.Words.{class_word, part_of};
 
@@ -67,8 +68,10 @@ pub struct Taken {
 }
 
 // Reads until the list is full, the input ends or a read fails.
-pub fn fill(input: &mut impl Read, log: &mut [u8]) -> Taken
-    ensures { IsPrefixLen result.bytes log.new }
+pub fn fill<R: Read>(input: &mut R, log: &mut [u8]) -> Taken
+    ensures count { IsPrefixLen result.bytes log.new }
+    ensures bytes { Consumes (R.remaining input.old) (R.remaining input.new) (take result.bytes log.new) }
+    ensures end { result.failed ≡ false → result.bytes < length log.new → IsAtEnd (R.remaining input.new) }
 {
     let mut n = 0;
     while n < log.len() {
