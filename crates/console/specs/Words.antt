@@ -1,5 +1,5 @@
 -- The words of the desk's screen. Assumes nothing.
-use Rattle.std.specs.Prelude.{ℕ, ◌-◌, ◌%◌, cond, [], eqb, leb, length, take, drop}
+use Rattle.std.specs.Prelude.{ℕ, ◌-◌, cond, [], eqb, leb, length, take, drop}
 use Rattle.rules.specs.Text.{Text, bytes}
 
 -- The word for each class, by its number, each of nine characters: a column of the table.

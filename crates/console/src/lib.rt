@@ -3,42 +3,58 @@
 
 #![tactic(auto)]
 
-ghost use Rattle.std.specs.Prelude.{◌%◌, ◌≡◌};
-ghost use Rattle.io.specs.Counts.{IsPrefixLen};
+ghost use Rattle.std.specs.Prelude.{◌%◌, ◌≡◌, ◌<◌, take, drop, length, false};
+ghost use Rattle.std.specs.Counts.{IsPrefixLen};
+ghost use Rattle.std.specs.Io.KnownBytes.{Consumes, IsAtEnd};
+ghost use Rattle.rules.specs.Text.{digits};
 ghost use Rattle.console.specs.Words.{class_word, part_of};
 
-use libc::{STDERR_FILENO, STDIN_FILENO, STDOUT_FILENO};
 use rules::Refusal;
+use std::io::Read;
 
 // # Standard error
 
-pub fn say(text: &[u8]) {
-    io::write_all(STDERR_FILENO, text);
+// What says bytes on standard error. They need not be text, as a word of the command line need not, and std's `Eprint` takes text alone.
+pub trait EprintBytes {
+    // A failed write is passed over: there is nowhere left to tell of it.
+    fn eprint_bytes(&self, text: &[u8]);
+}
+
+impl EprintBytes for HostRuntime {
+    fn eprint_bytes(&self, text: &[u8]) {
+        let _ = self.stderr().write_all(text);
+    }
+}
+
+pub fn say(rt: &impl EprintBytes, text: &[u8]) {
+    rt.eprint_bytes(text);
 }
 
 // A word and a number behind it.
-pub fn say_number(word: &[u8], n: u64) {
-    say(word);
-    io::print_decimal(STDERR_FILENO, n);
+pub fn say_number(rt: &impl EprintBytes, word: &[u8], n: u64) {
+    say(rt, word);
+    let mut text = [0u8; DIGITS];
+    let start = decimal(n, &mut text);
+    say(rt, &text[start..]);
 }
 
-pub fn say_refusal(r: Refusal) {
-    say_number(b"REFUSED ", r.number as u64);
-    say_number(b" ", r.line as u64);
-    say_number(b" ", r.field as u64);
-    say(b"\n");
+pub fn say_refusal(rt: &impl EprintBytes, r: Refusal) {
+    say_number(rt, b"REFUSED ", r.number as u64);
+    say_number(rt, b" ", r.line as u64);
+    say_number(rt, b" ", r.field as u64);
+    say(rt, b"\n");
 }
 
 // # Standard output
 
-pub fn say_unwritten() {
-    say(b"desk: cannot write the answer\n");
+pub fn say_unwritten(rt: &impl EprintBytes) {
+    say(rt, b"desk: cannot write the answer\n");
 }
 
 // The whole answer, or that it cannot be written.
-pub fn answer(text: &[u8]) {
-    if !io::write_all(STDOUT_FILENO, text) {
-        say_unwritten();
+pub fn answer(rt: &(impl Print + EprintBytes), text: &[u8]) {
+    if rt.write_all(text).is_err() {
+        say_unwritten(rt);
     }
 }
 
@@ -52,20 +68,28 @@ pub struct Taken {
 }
 
 // Reads until the list is full, the input ends or a read fails.
-fn fill(log: &mut [u8]) -> Taken
-    ensures { IsPrefixLen result.bytes log.new }
+pub fn fill<R: Read>(input: &mut R, log: &mut [u8]) -> Taken
+    ensures count { IsPrefixLen result.bytes log.new }
+    ensures bytes { Consumes (R.remaining input.old) (R.remaining input.new) (take result.bytes log.new) }
+    ensures end { result.failed ≡ false → result.bytes < length log.new → IsAtEnd (R.remaining input.new) }
 {
     let mut n = 0;
     while n < log.len() {
-        let got = libc::read(STDIN_FILENO, &mut log[n..]);
-        let more = io::count(got, &log[n..]);
-        if more == 0 {
-            return Taken {
-                bytes: n,
-                failed: got < 0,
-            };
+        match input.read(&mut log[n..]) {
+            Ok(0) => {
+                return Taken {
+                    bytes: n,
+                    failed: false,
+                };
+            }
+            Ok(more) => n += more,
+            Err(_) => {
+                return Taken {
+                    bytes: n,
+                    failed: true,
+                };
+            }
         }
-        n += more;
     }
     Taken {
         bytes: n,
@@ -74,18 +98,43 @@ fn fill(log: &mut [u8]) -> Taken
 }
 
 // Takes the log, and where a read fails says so in the name of the program.
-pub fn take(log: &mut [u8], program: &[u8]) -> Taken
+pub fn take(rt: &(impl Input + EprintBytes), log: &mut [u8], program: &[u8]) -> Taken
     ensures { IsPrefixLen result.bytes log.new }
 {
-    let taken = fill(log);
+    let taken = fill(&mut rt.reader(), log);
     if taken.failed {
-        say(program);
-        say(b": cannot read the log: the system tells of an error\n");
+        say(rt, program);
+        say(rt, b": cannot read the log: the system tells of an error\n");
     }
     taken
 }
 
+// # Words of the command line
+
+// Room for a word.
+pub const LONGEST_WORD: usize = 4096;
+
 // # Texts
+
+// Room for the digits of every number.
+pub const DIGITS: usize = 20;
+
+// The digits of a number, without zeros in front, are put at the end of the list. Tells where they begin.
+pub fn decimal(n: u64, out: &mut [u8; DIGITS]) -> usize
+    ensures place { result < 20 }
+    ensures digits { drop result out.new ≡ digits n }
+    ensures front { take result out.new ≡ take result out.old }
+{
+    let mut rest = n;
+    let mut at = DIGITS - 1;
+    while 9 < rest {
+        out[at] = 48 + (rest % 10) as u8;
+        rest = rest / 10;
+        at -= 1;
+    }
+    out[at] = 48 + rest as u8;
+    at
+}
 
 // The part from a place up to another, and nothing where the text has no such part.
 pub fn part(text: &[u8], from: usize, to: usize) -> &[u8]
@@ -101,6 +150,7 @@ pub fn part(text: &[u8], from: usize, to: usize) -> &[u8]
 }
 
 // The word for the class of a record, by the number of its verdict, with spaces behind it up to nine characters.
+#[tactic(auto, unfolding(crate::specs::Words::class_word))]
 pub fn class_word(verdict: u8) -> [u8; 9]
     ensures { result ≡ class_word (verdict % 4) }
 {

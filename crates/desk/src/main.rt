@@ -4,14 +4,14 @@
 #![tactic(auto)]
 
 // A log has at most 65,535 bytes: one byte more tells that there are too many.
-fn main() {
+fn main(rt: HostRuntime) {
     let mut log = [0u8; rules::LONGEST_LOG + 1];
-    let taken = console::take(&mut log, b"desk");
+    let taken = console::take(&rt, &mut log, b"desk");
     if taken.failed {
         return;
     }
     let n = taken.bytes;
     let mut answer = [0u8; writer::SHOWN];
     let end = writer::show(&log[..n], &mut answer);
-    console::answer(&answer[..end]);
+    console::answer(&rt, &answer[..end]);
 }

@@ -4,11 +4,11 @@
 
 #![tactic(auto)]
 
-use console::part;
+use console::{EprintBytes, part};
 use judge::Judged;
-use libc::STDOUT_FILENO;
 use reader::ReadAnswer;
 use rules::Refusal;
+use std::env::{Env, FillError};
 use writer::{Wrote, put_text};
 
 // Room for what is told of one record: its own line, of which the longest has 94 bytes, and once at most, 38 bytes at most, that another strike has
@@ -20,38 +20,51 @@ type Marks = [u8; rules::MOST_RECORDS];
 
 // # The words
 
-fn say_bad(word: &[u8]) {
-    console::say(b"desk: \"");
-    console::say(word);
+fn say_bad(rt: &impl EprintBytes, word: &[u8]) {
+    console::say(rt, b"desk: \"");
+    console::say(rt, word);
     console::say(
+        rt,
         b"\" names no records: write a number of 1 to 999, as 4, or two with - between, the smaller first, as 20-23\n",
     );
 }
 
-fn take_word(i: usize, struck: &mut Marks) -> bool {
-    let mut word = io::buffer();
-    let n = os::arg(i, &mut word);
-    if os::errno() != 0 {
-        console::say(b"desk: a word is too long to name records\n");
-        return false;
+// How many words there are, the program's own name among them.
+fn word_count(rt: &impl Env) -> usize {
+    for i in 0..usize::MAX {
+        if let Err(FillError::NotPresent) = rt.arg(i, &mut []) {
+            return i;
+        }
     }
+    usize::MAX
+}
+
+fn take_word(rt: &(impl Env + EprintBytes), i: usize, struck: &mut Marks) -> bool {
+    let mut word = [0u8; console::LONGEST_WORD];
+    let Ok(n) = rt.arg(i, &mut word) else {
+        console::say(rt, b"desk: a word is too long to name records\n");
+        return false;
+    };
     if words::mark(&word[..n], struck) {
         return true;
     }
-    say_bad(&word[..n]);
+    say_bad(rt, &word[..n]);
     false
 }
 
 // Marks the records that are to be struck, or says which word is wrong.
-fn take_words(struck: &mut Marks) -> bool {
-    let count = os::arg_count();
+fn take_words(rt: &(impl Env + EprintBytes), struck: &mut Marks) -> bool {
+    let count = word_count(rt);
     if count < 2 {
-        console::say(b"desk: the records to strike are due, by their numbers\n");
+        console::say(
+            rt,
+            b"desk: the records to strike are due, by their numbers\n",
+        );
         return false;
     }
     let mut i = 1;
     while i < count {
-        if !take_word(i, struck) {
+        if !take_word(rt, i, struck) {
             return false;
         }
         i += 1;
@@ -91,9 +104,9 @@ fn judge_left(log: &[u8], gone: &Marks, among: &mut Marks) -> Left {
 // # The lines
 
 fn put_number(out: &mut [u8], at: usize, n: u64) -> usize {
-    let mut digits = [0u8; 20];
-    let k = io::decimal(n, &mut digits);
-    put_text(out, at, &digits[..k])
+    let mut digits = [0u8; console::DIGITS];
+    let start = console::decimal(n, &mut digits);
+    put_text(out, at, &digits[start..])
 }
 
 fn put_class(out: &mut [u8], at: usize, verdict: u8) -> usize {
@@ -294,45 +307,45 @@ fn next_marked(struck: &Marks, from: usize) -> usize {
     i
 }
 
-fn say_missing(number: usize, records: usize) {
-    console::say_number(b"desk: there is no record ", number as u64);
-    console::say_number(b": the log has ", records as u64);
-    console::say(b"\n");
+fn say_missing(rt: &impl EprintBytes, number: usize, records: usize) {
+    console::say_number(rt, b"desk: there is no record ", number as u64);
+    console::say_number(rt, b": the log has ", records as u64);
+    console::say(rt, b"\n");
 }
 
 // What is left, written back, and then the lines.
-fn hand_over(left: &[u8], lines: &[u8]) {
+fn hand_over(rt: &(impl Print + EprintBytes), left: &[u8], lines: &[u8]) {
     let mut written = [0u8; rules::LONGEST_LOG];
     match writer::write(left, &mut written) {
         Wrote::Length(length) => {
-            if !io::write_all(STDOUT_FILENO, part(&written, 0, length)) {
-                console::say_unwritten();
+            if rt.write_all(part(&written, 0, length)).is_err() {
+                console::say_unwritten(rt);
                 return;
             }
-            console::say(lines);
+            console::say(rt, lines);
         }
-        Wrote::Refused(r) => console::say_refusal(r),
+        Wrote::Refused(r) => console::say_refusal(rt, r),
     }
 }
 
-fn strike_all(log: &[u8], struck: &Marks, lines: &[u8]) {
+fn strike_all(rt: &(impl Print + EprintBytes), log: &[u8], struck: &Marks, lines: &[u8]) {
     let mut left = [0u8; rules::LONGEST_LOG];
     match striker::strike(log, struck, &mut left) {
-        Wrote::Length(length) => hand_over(part(&left, 0, length), lines),
-        Wrote::Refused(r) => console::say_refusal(r),
+        Wrote::Length(length) => hand_over(rt, part(&left, 0, length), lines),
+        Wrote::Refused(r) => console::say_refusal(rt, r),
     }
 }
 
-fn tell(log: &[u8], struck: &Marks, calls: &[u16]) {
+fn tell(rt: &(impl Print + EprintBytes), log: &[u8], struck: &Marks, calls: &[u16]) {
     let none = [0u8; rules::MOST_RECORDS];
     let mut verdicts = [0u8; rules::MOST_RECORDS];
     match judge_left(log, &none, &mut verdicts) {
-        Left::Refused(r) => console::say_refusal(r),
+        Left::Refused(r) => console::say_refusal(rt, r),
         Left::Total(total) => {
             let mut lines = [0u8; rules::MOST_RECORDS * ROOM];
             match tell_strikes(&mut lines, total, &mut verdicts, struck, log, calls) {
-                Told::Lines(told) => strike_all(log, struck, part(&lines, 0, told.end)),
-                Told::Refused(r) => console::say_refusal(r),
+                Told::Lines(told) => strike_all(rt, log, struck, part(&lines, 0, told.end)),
+                Told::Refused(r) => console::say_refusal(rt, r),
             }
         }
     }
@@ -347,7 +360,7 @@ fn first_of(calls: &[u16], records: usize) -> &[u16] {
 }
 
 // A log is read, and the records that are to be struck are looked for in it, before anything is struck.
-fn strike(log: &[u8], struck: &Marks) {
+fn strike(rt: &(impl Print + EprintBytes), log: &[u8], struck: &Marks) {
     let mut calls = [0u16; rules::MOST_RECORDS];
     let mut exchanges = [0u16; 0];
     let mut points = [0u16; 0];
@@ -368,26 +381,26 @@ fn strike(log: &[u8], struck: &Marks) {
         } => {
             let missing = next_marked(struck, records);
             if missing < rules::MOST_RECORDS {
-                say_missing(missing + 1, records);
+                say_missing(rt, missing + 1, records);
                 return;
             }
-            tell(log, struck, first_of(&calls, records));
+            tell(rt, log, struck, first_of(&calls, records));
         }
-        ReadAnswer::Refused(r) => console::say_refusal(r),
+        ReadAnswer::Refused(r) => console::say_refusal(rt, r),
     }
 }
 
 // The words are known before the log is read. A log has at most 65,535 bytes: one byte more tells that there are too many.
-fn main() {
+fn main(rt: HostRuntime) {
     let mut struck = [0u8; rules::MOST_RECORDS];
-    if !take_words(&mut struck) {
+    if !take_words(&rt, &mut struck) {
         return;
     }
     let mut log = [0u8; rules::LONGEST_LOG + 1];
-    let taken = console::take(&mut log, b"desk");
+    let taken = console::take(&rt, &mut log, b"desk");
     if taken.failed {
         return;
     }
     let n = taken.bytes;
-    strike(&log[..n], &struck);
+    strike(&rt, &log[..n], &struck);
 }

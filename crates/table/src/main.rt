@@ -4,7 +4,7 @@
 
 #![tactic(auto)]
 
-use console::part;
+use console::{EprintBytes, part};
 use judge::Judged;
 use reader::ReadAnswer;
 use writer::put_text;
@@ -45,9 +45,9 @@ fn put_right(out: &mut [u8], at: usize, text: &[u8], width: usize) -> usize {
 }
 
 fn put_number(out: &mut [u8], at: usize, n: usize) -> usize {
-    let mut digits = [0u8; 20];
-    let k = io::decimal(n as u64, &mut digits);
-    put_right(out, at, &digits[..k], 3)
+    let mut digits = [0u8; console::DIGITS];
+    let start = console::decimal(n as u64, &mut digits);
+    put_right(out, at, &digits[start..], 3)
 }
 
 // # The verdict
@@ -155,7 +155,7 @@ fn put_lines(
     end
 }
 
-fn show_records(log: &[u8], verdicts: &[u8; rules::MOST_RECORDS]) {
+fn show_records(rt: &(impl Print + EprintBytes), log: &[u8], verdicts: &[u8; rules::MOST_RECORDS]) {
     let mut calls = [0u16; rules::MOST_RECORDS];
     let mut exchanges = [0u16; rules::MOST_RECORDS];
     let mut points = [0u16; rules::MOST_RECORDS];
@@ -184,27 +184,27 @@ fn show_records(log: &[u8], verdicts: &[u8; rules::MOST_RECORDS]) {
                 &pointsends,
                 verdicts,
             );
-            console::answer(part(&table, 0, end));
+            console::answer(rt, part(&table, 0, end));
         }
-        ReadAnswer::Refused(r) => console::say_refusal(r),
+        ReadAnswer::Refused(r) => console::say_refusal(rt, r),
     }
 }
 
-fn show_table(log: &[u8]) {
+fn show_table(rt: &(impl Print + EprintBytes), log: &[u8]) {
     let mut verdicts = [0u8; rules::MOST_RECORDS];
     match judge::judge(log, &mut verdicts) {
-        Judged::Totals(_) => show_records(log, &verdicts),
-        Judged::Refused(r) => console::say_refusal(r),
+        Judged::Totals(_) => show_records(rt, log, &verdicts),
+        Judged::Refused(r) => console::say_refusal(rt, r),
     }
 }
 
 // A log has at most 65,535 bytes: one byte more tells that there are too many.
-fn main() {
+fn main(rt: HostRuntime) {
     let mut log = [0u8; rules::LONGEST_LOG + 1];
-    let taken = console::take(&mut log, b"desk");
+    let taken = console::take(&rt, &mut log, b"desk");
     if taken.failed {
         return;
     }
     let n = taken.bytes;
-    show_table(&log[..n]);
+    show_table(&rt, &log[..n]);
 }

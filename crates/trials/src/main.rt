@@ -5,138 +5,145 @@
 #![tactic(auto)]
 
 ghost use Rattle.std.specs.Prelude.{◌≤◌, length};
-ghost use Rattle.io.specs.Counts.{IsPrefixLen};
+ghost use Rattle.std.specs.Counts.{IsPrefixLen};
 
 use judge::Judged;
-use libc::STDOUT_FILENO;
 use mender::MendAnswer;
 use places::ViewRead;
 use reader::ReadAnswer;
 use rules::{Refusal, Totals};
+use std::fs;
+use std::rt::Files;
 use writer::Wrote;
 
-fn say(text: &[u8]) {
-    io::write_all(STDOUT_FILENO, text);
+// Room for a log, and for what is made of one.
+const LARGE: usize = rules::LONGEST_LOG + 1;
+
+// A failed write is passed over: what is missing on standard output tells of it.
+fn say(rt: &impl Print, text: &[u8]) {
+    let _ = rt.write_all(text);
 }
 
 // A word and a number behind it.
-fn show(word: &[u8], n: u64) {
-    say(word);
-    io::print_decimal(STDOUT_FILENO, n);
+fn show(rt: &impl Print, word: &[u8], n: u64) {
+    say(rt, word);
+    let mut digits = [0u8; console::DIGITS];
+    let start = console::decimal(n, &mut digits);
+    say(rt, &digits[start..]);
 }
 
-fn show_refusal(r: Refusal) {
-    show(b" refused ", r.number as u64);
-    show(b" ", r.line as u64);
-    show(b" ", r.field as u64);
-    say(b"\n");
+fn show_refusal(rt: &impl Print, r: Refusal) {
+    show(rt, b" refused ", r.number as u64);
+    show(rt, b" ", r.line as u64);
+    show(rt, b" ", r.field as u64);
+    say(rt, b"\n");
 }
 
 // What reading answers; how many records there are, none where the log is refused.
-fn show_read(log: &[u8]) -> usize {
-    say(b"  read:");
+fn show_read(rt: &impl Print, log: &[u8]) -> usize {
+    say(rt, b"  read:");
     match reader::read(log) {
         ReadAnswer::Accepted {
             records,
             first: _,
             heading,
         } => {
-            show(b" records ", records as u64);
-            show(b" respelt ", heading.respelt as u64);
-            say(b"\n");
+            show(rt, b" records ", records as u64);
+            show(rt, b" respelt ", heading.respelt as u64);
+            say(rt, b"\n");
             records
         }
         ReadAnswer::Refused(r) => {
-            show_refusal(r);
+            show_refusal(rt, r);
             0
         }
     }
 }
 
 // The credited records of each mode: the codes 0 to 9, and then blank.
-fn show_modes(numbers: &[u64; judge::MODES]) {
-    say(b"  modes:");
+fn show_modes(rt: &impl Print, numbers: &[u64; judge::MODES]) {
+    say(rt, b"  modes:");
     let mut i = 0;
     while i < judge::MODES {
-        show(b" ", numbers[i]);
+        show(rt, b" ", numbers[i]);
         i += 1;
     }
-    say(b"\n");
+    say(rt, b"\n");
 }
 
-fn show_totals(t: Totals) {
-    show(b" credited ", t.credited);
-    show(b" voids ", t.voids);
-    show(b" duplicates ", t.duplicates);
-    show(b" errors ", t.errors);
-    show(b" points ", t.points);
-    show(b" squares ", t.squares);
-    show(b" exchanges ", t.exchanges);
-    show(b" countries ", t.countries);
-    show(b" bonuses ", t.squarebonus);
-    show(b" ", t.exchangebonus);
-    show(b" ", t.countrybonus);
-    show(b" total ", t.total);
-    say(b"\n");
+fn show_totals(rt: &impl Print, t: Totals) {
+    show(rt, b" credited ", t.credited);
+    show(rt, b" voids ", t.voids);
+    show(rt, b" duplicates ", t.duplicates);
+    show(rt, b" errors ", t.errors);
+    show(rt, b" points ", t.points);
+    show(rt, b" squares ", t.squares);
+    show(rt, b" exchanges ", t.exchanges);
+    show(rt, b" countries ", t.countries);
+    show(rt, b" bonuses ", t.squarebonus);
+    show(rt, b" ", t.exchangebonus);
+    show(rt, b" ", t.countrybonus);
+    show(rt, b" total ", t.total);
+    say(rt, b"\n");
     let modes = t.modes;
     let numbers = judge::mode_numbers(modes);
-    show_modes(&numbers);
+    show_modes(rt, &numbers);
 }
 
-fn show_verdict(verdict: u8) {
-    show(b" ", verdict as u64);
+fn show_verdict(rt: &impl Print, verdict: u8) {
+    show(rt, b" ", verdict as u64);
 }
 
 // The first n verdicts, or of many the first thirty.
-fn show_verdicts(verdicts: &[u8], n: usize) {
-    say(b"  verdicts:");
+fn show_verdicts(rt: &impl Print, verdicts: &[u8], n: usize) {
+    say(rt, b"  verdicts:");
     let mut i = 0;
     while i < verdicts.len() {
         if n <= i {
             break;
         }
         if i == 30 {
-            say(b" ..");
+            say(rt, b" ..");
             break;
         }
-        show_verdict(verdicts[i]);
+        show_verdict(rt, verdicts[i]);
         i += 1;
     }
-    say(b"\n");
+    say(rt, b"\n");
 }
 
-fn show_judged(log: &[u8], records: usize) {
+fn show_judged(rt: &impl Print, log: &[u8], records: usize) {
     let mut verdicts = [0u8; rules::MOST_RECORDS];
     let answer = judge::judge(log, &mut verdicts);
-    say(b"  judged:");
+    say(rt, b"  judged:");
     match answer {
         Judged::Totals(t) => {
-            show_totals(t);
-            show_verdicts(&verdicts, records);
+            show_totals(rt, t);
+            show_verdicts(rt, &verdicts, records);
         }
-        Judged::Refused(r) => show_refusal(r),
+        Judged::Refused(r) => show_refusal(rt, r),
     }
 }
 
-fn show_change(kind: u8, line: u32) {
-    show(b" ", kind as u64);
-    show(b":", line as u64);
+fn show_change(rt: &impl Print, kind: u8, line: u32) {
+    show(rt, b" ", kind as u64);
+    show(rt, b":", line as u64);
 }
 
 // The changes from a place of the list up to another.
-fn show_part(kinds: &[u8], lines: &[u32], from: usize, to: usize)
+fn show_part(rt: &impl Print, kinds: &[u8], lines: &[u32], from: usize, to: usize)
     requires { (to ≤ length kinds.now) × (to ≤ length lines.now) }
 {
     let mut i = from;
     while i < to {
-        show_change(kinds[i], lines[i]);
+        show_change(rt, kinds[i], lines[i]);
         i += 1;
     }
 }
 
 // The n changes, each as kind:line, or of many the first six and the last six.
-fn show_changes(kinds: &[u8], lines: &[u32], n: usize) {
-    show(b" changes ", n as u64);
+fn show_changes(rt: &impl Print, kinds: &[u8], lines: &[u32], n: usize) {
+    show(rt, b" changes ", n as u64);
     if kinds.len() < n {
         return;
     }
@@ -144,326 +151,323 @@ fn show_changes(kinds: &[u8], lines: &[u32], n: usize) {
         return;
     }
     if n <= 12 {
-        show_part(kinds, lines, 0, n);
+        show_part(rt, kinds, lines, 0, n);
     } else {
-        show_part(kinds, lines, 0, 6);
-        say(b" ..");
-        show_part(kinds, lines, n - 6, n);
+        show_part(rt, kinds, lines, 0, 6);
+        say(rt, b" ..");
+        show_part(rt, kinds, lines, n - 6, n);
     }
-    say(b"\n");
+    say(rt, b"\n");
 }
 
-fn show_mended(log: &[u8]) {
-    let mut mended = io::large_buffer();
+fn show_mended(rt: &impl Print, log: &[u8]) {
+    let mut mended = [0u8; LARGE];
     let mut kinds = [0u8; rules::LONGEST_LOG / 2];
     let mut lines = [0u32; rules::LONGEST_LOG / 2];
     let answer = mender::mend(log, &mut mended, &mut kinds, &mut lines);
-    say(b"  mended:");
+    say(rt, b"  mended:");
     match answer {
         MendAnswer::Mended { length, changes } => {
-            show(b" length ", length as u64);
-            show_changes(&kinds, &lines, changes);
+            show(rt, b" length ", length as u64);
+            show_changes(rt, &kinds, &lines, changes);
         }
-        MendAnswer::Refused(r) => show_refusal(r),
+        MendAnswer::Refused(r) => show_refusal(rt, r),
     }
 }
 
 // Reads the file of this name, and answers how many bytes it put at the start of log.
-fn load(name: &[u8], log: &mut [u8]) -> usize
+fn load(rt: &(impl Files + Print), name: &str, log: &mut [u8]) -> usize
     ensures { IsPrefixLen result log.new }
 {
-    let fd = os::open_read(name);
-    if fd < 0 {
-        say(name);
-        say(b" cannot be opened\n");
+    let Ok(mut file) = fs::open(rt, name) else {
+        say(rt, name.as_bytes());
+        say(rt, b" cannot be opened\n");
         return 0;
-    }
-    let n = io::read_full(fd, log);
-    libc::close(fd);
-    n
+    };
+    console::fill(&mut file, log).bytes
 }
 
-fn show_name(name: &[u8]) {
-    say(name);
-    say(b"\n");
+fn show_name(rt: &impl Print, name: &str) {
+    say(rt, name.as_bytes());
+    say(rt, b"\n");
 }
 
 // What is answered of a log: by reading, by judging and by mending.
-fn answers(name: &[u8]) {
-    show_name(name);
-    let mut log = io::large_buffer();
-    let n = load(name, &mut log);
-    let records = show_read(&log[..n]);
-    show_judged(&log[..n], records);
-    show_mended(&log[..n]);
+fn answers(rt: &(impl Files + Print), name: &str) {
+    show_name(rt, name);
+    let mut log = [0u8; LARGE];
+    let n = load(rt, name, &mut log);
+    let records = show_read(rt, &log[..n]);
+    show_judged(rt, &log[..n], records);
+    show_mended(rt, &log[..n]);
 }
 
 // What is answered of a log when a keyword is viewed: where its argument starts, how long it is, whether the keyword stands in the listed spelling,
 // and the argument.
-fn argument(name: &[u8], keyword: usize) {
-    show_name(name);
-    let mut log = io::large_buffer();
-    let n = load(name, &mut log);
-    show(b"  view ", keyword as u64);
-    say(b":");
+fn argument(rt: &(impl Files + Print), name: &str, keyword: usize) {
+    show_name(rt, name);
+    let mut log = [0u8; LARGE];
+    let n = load(rt, name, &mut log);
+    show(rt, b"  view ", keyword as u64);
+    say(rt, b":");
     match places::view(&log[..n], keyword) {
         ViewRead::Seen {
             start,
             length,
             listed,
         } => {
-            show(b" start ", start as u64);
-            show(b" length ", length as u64);
+            show(rt, b" start ", start as u64);
+            show(rt, b" length ", length as u64);
             if listed {
-                say(b" listed ");
+                say(rt, b" listed ");
             } else {
-                say(b" respelt ");
+                say(rt, b" respelt ");
             }
-            say(places::viewed(&log[..n], keyword));
-            say(b"\n");
+            say(rt, places::viewed(&log[..n], keyword));
+            say(rt, b"\n");
         }
-        ViewRead::Refused(r) => show_refusal(r),
+        ViewRead::Refused(r) => show_refusal(rt, r),
     }
 }
 
 // Whether the first n bytes are those of the file of this name.
-fn show_likeness(res: &[u8], n: usize, name: &[u8]) {
-    let mut log = io::large_buffer();
-    let m = load(name, &mut log);
+fn show_likeness(rt: &(impl Files + Print), res: &[u8], n: usize, name: &str) {
+    let mut log = [0u8; LARGE];
+    let m = load(rt, name, &mut log);
     if res.len() < n {
         return;
     }
     if header::same_text(&res[..n], &log[..m]) {
-        say(b" as ");
+        say(rt, b" as ");
     } else {
-        say(b" not as ");
+        say(rt, b" not as ");
     }
-    show_name(name);
+    show_name(rt, name);
 }
 
 // What is answered of a log when it is written back, and whether the result is the log of the other file.
-fn written(name: &[u8], other: &[u8]) {
-    show_name(name);
-    let mut log = io::large_buffer();
-    let n = load(name, &mut log);
-    let mut result = io::large_buffer();
+fn written(rt: &(impl Files + Print), name: &str, other: &str) {
+    show_name(rt, name);
+    let mut log = [0u8; LARGE];
+    let n = load(rt, name, &mut log);
+    let mut result = [0u8; LARGE];
     let answer = writer::write(&log[..n], &mut result);
-    say(b"  written:");
+    say(rt, b"  written:");
     match answer {
         Wrote::Length(length) => {
-            show(b" length ", length as u64);
-            show_likeness(&result, length, other);
+            show(rt, b" length ", length as u64);
+            show_likeness(rt, &result, length, other);
         }
-        Wrote::Refused(r) => show_refusal(r),
+        Wrote::Refused(r) => show_refusal(rt, r),
     }
 }
 
 // What is answered of a log when the records are struck that two words name, and whether what is left is the log of the other file.
-fn struck(name: &[u8], first: &[u8], second: &[u8], other: &[u8]) {
-    show_name(name);
-    let mut log = io::large_buffer();
-    let n = load(name, &mut log);
+fn struck(rt: &(impl Files + Print), name: &str, first: &[u8], second: &[u8], other: &str) {
+    show_name(rt, name);
+    let mut log = [0u8; LARGE];
+    let n = load(rt, name, &mut log);
     let mut marks = [0u8; rules::MOST_RECORDS];
     words::mark(first, &mut marks);
     words::mark(second, &mut marks);
-    let mut left = io::large_buffer();
+    let mut left = [0u8; LARGE];
     let answer = striker::strike(&log[..n], &marks, &mut left);
-    say(b"  struck ");
-    say(first);
-    say(b" ");
-    say(second);
-    say(b":");
+    say(rt, b"  struck ");
+    say(rt, first);
+    say(rt, b" ");
+    say(rt, second);
+    say(rt, b":");
     match answer {
         Wrote::Length(length) => {
-            show(b" length ", length as u64);
-            show_likeness(&left, length, other);
+            show(rt, b" length ", length as u64);
+            show_likeness(rt, &left, length, other);
         }
-        Wrote::Refused(r) => show_refusal(r),
+        Wrote::Refused(r) => show_refusal(rt, r),
     }
 }
 
 // The cases of document 01, by their numbers. Their logs have the header of case 12; its lines are 1 to 38, so the count line is 39, or 40 behind
 // a remark, and the first record stands on the line after it. Mending sets the count of those in cases 3 and 11 that are refused for it, hands over
 // what is accepted as it is, and refuses the others as reading does.
-fn cases() {
+fn cases(rt: &(impl Files + Print)) {
     // 2, line 1.
-    answers(b"01-empty.edi");
+    answers(rt, "01-empty.edi");
     // Accepted, total 0.
-    answers(b"02-no-records.edi");
+    answers(rt, "02-no-records.edi");
     // The count line with 999 meets its rule, so that a record is missing behind it; with 1000 it gives 4.
-    answers(b"03-count-999.edi");
-    answers(b"03-count-1000.edi");
+    answers(rt, "03-count-999.edi");
+    answers(rt, "03-count-1000.edi");
     // All 999 records, each with a call, a square and an exchange of its own, a country, and as many points as there can be; bonuses of 9999 and
     // multipliers of 99: so the total is the largest, 998,404,684,715,196. None has a mode.
-    answers(b"03-999-records.edi");
+    answers(rt, "03-999-records.edi");
     // 75 characters are accepted, 76 are refused 2.
-    answers(b"04-remark-75.edi");
-    answers(b"04-remark-76.edi");
+    answers(rt, "04-remark-75.edi");
+    answers(rt, "04-remark-76.edi");
     // 240229 is valid, 230229 is refused 5, field 1.
-    answers(b"05-date-240229.edi");
-    answers(b"05-date-230229.edi");
+    answers(rt, "05-date-240229.edi");
+    answers(rt, "05-date-230229.edi");
     // 2359 is valid, 2400 is refused, field 2.
-    answers(b"06-time-2359.edi");
-    answers(b"06-time-2400.edi");
+    answers(rt, "06-time-2359.edi");
+    answers(rt, "06-time-2400.edi");
     // Refused, field 3.
-    answers(b"07-call-of-two.edi");
+    answers(rt, "07-call-of-two.edi");
     // Refused, field 11.
-    answers(b"08-error-with-points.edi");
+    answers(rt, "08-error-with-points.edi");
     // JO65FR and JO65 are one square, so the second brings no square; JS65 is refused, field 10.
-    answers(b"09-one-square.edi");
-    answers(b"09-js65.edi");
+    answers(rt, "09-one-square.edi");
+    answers(rt, "09-js65.edi");
     // Refused, field 11.
-    answers(b"10-points-007.edi");
+    answers(rt, "10-points-007.edi");
     // 6, at the line of the record that is missing, and of the first byte too many.
-    answers(b"11-one-of-two.edi");
-    answers(b"11-three-of-two.edi");
+    answers(rt, "11-one-of-two.edi");
+    answers(rt, "11-three-of-two.edi");
     // Verdicts 96, 64, 3, 2, 1; total 700. Both credited records have mode 1, and those that are not credited, by 1 and 2 and with none, count for
     // no mode. What it is written back as has the same verdicts and totals.
-    answers(b"12-spring.edi");
-    answers(b"12-written.edi");
+    answers(rt, "12-spring.edi");
+    answers(rt, "12-written.edi");
     // The same log with every keyword in another spelling: the same verdicts and totals.
-    answers(b"12-respelt.edi");
+    answers(rt, "12-respelt.edi");
     // The first record struck: the repeat is credited, and counts for mode 2; total 700. Written back first, and then struck: total 580.
-    answers(b"13-struck.edi");
-    answers(b"13-written-struck.edi");
+    answers(rt, "13-struck.edi");
+    answers(rt, "13-written-struck.edi");
     // 24 credited, 11579 points, 19 squares, 7 countries.
-    answers(b"14-sample.edi");
+    answers(rt, "14-sample.edi");
 }
 
 // Views of the log of case 12, and 9 before everything else. A refused log has none.
-fn views() {
-    argument(b"12-spring.edi", 1);
-    argument(b"12-spring.edi", 5);
-    argument(b"12-spring.edi", 36);
-    argument(b"12-spring.edi", 37);
-    argument(b"12-respelt.edi", 1);
-    argument(b"12-respelt.edi", 36);
+fn views(rt: &(impl Files + Print)) {
+    argument(rt, "12-spring.edi", 1);
+    argument(rt, "12-spring.edi", 5);
+    argument(rt, "12-spring.edi", 36);
+    argument(rt, "12-spring.edi", 37);
+    argument(rt, "12-respelt.edi", 1);
+    argument(rt, "12-respelt.edi", 36);
     // 000 spells CQSOs and CExcs in its own way, and CQSOP and CWWLs as they are listed.
-    argument(b"000-list.edi", 27);
-    argument(b"000-list.edi", 28);
-    argument(b"000-list.edi", 29);
-    argument(b"000-list.edi", 31);
-    argument(b"01-empty.edi", 1);
-    argument(b"01-empty.edi", 0);
+    argument(rt, "000-list.edi", 27);
+    argument(rt, "000-list.edi", 28);
+    argument(rt, "000-list.edi", 29);
+    argument(rt, "000-list.edi", 31);
+    argument(rt, "01-empty.edi", 1);
+    argument(rt, "01-empty.edi", 0);
 }
 
 // Writing back: the log of case 12, whose fourth record then ends `JO40AA;0;;;;D`. The result, and the sample of case 14, whose claims are true, are
 // written back as they are. A log with other spellings is written back as the one with the listed spellings is. A refused log is not written.
-fn writings() {
-    written(b"12-spring.edi", b"12-written.edi");
-    written(b"12-written.edi", b"12-written.edi");
-    written(b"14-sample.edi", b"14-sample.edi");
-    written(b"12-respelt.edi", b"12-written.edi");
-    written(b"000-1-mended-no-remarks.edi", b"14-sample.edi");
-    written(b"000-list.edi", b"14-sample.edi");
-    written(b"000-1-mended.edi", b"000-1-written.edi");
-    written(b"000-1-written.edi", b"000-1-written.edi");
-    written(b"000-list-mopel.edi", b"14-sample.edi");
-    written(b"01-empty.edi", b"01-empty.edi");
+fn writings(rt: &(impl Files + Print)) {
+    written(rt, "12-spring.edi", "12-written.edi");
+    written(rt, "12-written.edi", "12-written.edi");
+    written(rt, "14-sample.edi", "14-sample.edi");
+    written(rt, "12-respelt.edi", "12-written.edi");
+    written(rt, "000-1-mended-no-remarks.edi", "14-sample.edi");
+    written(rt, "000-list.edi", "14-sample.edi");
+    written(rt, "000-1-mended.edi", "000-1-written.edi");
+    written(rt, "000-1-written.edi", "000-1-written.edi");
+    written(rt, "000-list-mopel.edi", "14-sample.edi");
+    written(rt, "01-empty.edi", "01-empty.edi");
 }
 
 // The samples of the sources. As printed, with a bare LF behind each line, they have no first line. With CR LF, or mended, they are refused where
 // they leave the format of 001. Those of 000 write SAnth and CQSOS, which is read; the layout put a line of 82 characters into the remarks of the
 // first; the third has CQS0s, with a nought, and the others the locator IP620A, with a nought too. The fourth remark of 001 has 76 characters; those
 // of 003 have several keywords on line 7, which is too long.
-fn samples() {
-    answers(b"000-1-lf.edi");
-    answers(b"001-lf.edi");
-    answers(b"003-1-lf.edi");
-    answers(b"000-1.edi");
-    answers(b"000-2.edi");
-    answers(b"000-3.edi");
-    answers(b"000-4.edi");
-    answers(b"000-5.edi");
-    answers(b"001.edi");
-    answers(b"003-1.edi");
-    answers(b"003-2.edi");
+fn samples(rt: &(impl Files + Print)) {
+    answers(rt, "000-1-lf.edi");
+    answers(rt, "001-lf.edi");
+    answers(rt, "003-1-lf.edi");
+    answers(rt, "000-1.edi");
+    answers(rt, "000-2.edi");
+    answers(rt, "000-3.edi");
+    answers(rt, "000-4.edi");
+    answers(rt, "000-5.edi");
+    answers(rt, "001.edi");
+    answers(rt, "003-1.edi");
+    answers(rt, "003-2.edi");
     // The first of 000 without its remarks: two semicolons are missing in its ERROR record. With them it has the figures of case 14.
-    answers(b"000-1-no-remarks.edi");
-    answers(b"000-1-mended-no-remarks.edi");
+    answers(rt, "000-1-no-remarks.edi");
+    answers(rt, "000-1-mended-no-remarks.edi");
     // The same log in the spellings of the list of keywords in 000, PEXch, CEXcs and CEXcB besides; and with that list's MOpel and CDXCc, which are
     // other words.
-    answers(b"000-list.edi");
-    answers(b"000-list-mopel.edi");
-    answers(b"000-list-cdxcc.edi");
+    answers(rt, "000-list.edi");
+    answers(rt, "000-list-mopel.edi");
+    answers(rt, "000-list-cdxcc.edi");
     // Those of 000 mended by hand, in their own spellings: CQSOs and IP62OA with the letter O, the semicolons that their ERROR records lack, and
     // none of the lines that the layout put in. They claim 24 contacts, 19 squares and 7 countries (the last 8), exchanges where there are
     // any, and 11579 points, or 24 where a contact is one point; all that is so, but the last has 20 squares. Of the totals that they claim only
     // the first and the third are sums as in document 01.
-    answers(b"000-1-mended.edi");
-    answers(b"000-1-written.edi");
-    answers(b"000-2-mended.edi");
-    answers(b"000-3-mended.edi");
-    answers(b"000-4-mended.edi");
-    answers(b"000-5-mended.edi");
+    answers(rt, "000-1-mended.edi");
+    answers(rt, "000-1-written.edi");
+    answers(rt, "000-2-mended.edi");
+    answers(rt, "000-3-mended.edi");
+    answers(rt, "000-4-mended.edi");
+    answers(rt, "000-5-mended.edi");
     // Those of 003 with a line for each keyword and record. They claim what a longer log had: of their six records four are credited, in four
     // squares, with three exchanges, for `0` is one, and three countries.
-    answers(b"003-1-mended.edi");
-    answers(b"003-2-mended.edi");
+    answers(rt, "003-1-mended.edi");
+    answers(rt, "003-2-mended.edi");
 }
 
 // Logs that a mail program chewed.
-fn chewed() {
+fn chewed(rt: &(impl Files + Print)) {
     // Case 12 with bare LFs, an open last line, spaces behind a record and a wrong count: each kind of change.
-    answers(b"w2-chewed.edi");
+    answers(rt, "w2-chewed.edi");
     // Case 12 with a count of 007, spaces behind two records, and CR alone at the end. Spaces behind a keyword or a remark stay.
-    answers(b"w2-few.edi");
+    answers(rt, "w2-few.edi");
     // A record that was broken in two is no record, whatever the count becomes: nothing is handed over.
-    answers(b"w2-broken.edi");
+    answers(rt, "w2-broken.edi");
 }
 
 // Second tries: a duplicate needs points or a claimed D.
-fn second_tries() {
+fn second_tries(rt: &(impl Files + Print)) {
     // A contact, and it tried again by aurora, with 0 points and no D: void, so that its square and its exchange are new in the fifth record. A repeat
     // with 0 points and a D. A D with 0 points and nothing before it: void; then the contact, and a repeat that claims its points and no D. An ERROR
     // and a first contact that claim a D. Verdicts 112, 1, 2, 1, 112, 2, 3, 0; total 1250. What it is written back as has the same.
-    answers(b"w3-tries.edi");
-    answers(b"w3-written.edi");
-    written(b"w3-tries.edi", b"w3-written.edi");
-    written(b"w3-written.edi", b"w3-written.edi");
+    answers(rt, "w3-tries.edi");
+    answers(rt, "w3-written.edi");
+    written(rt, "w3-tries.edi", "w3-written.edi");
+    written(rt, "w3-written.edi", "w3-written.edi");
     // The first contact struck: its claimed repeat has nothing to repeat, and is void. No duplicate that is left becomes credited.
-    answers(b"w3-struck.edi");
-    answers(b"w3-written-struck.edi");
+    answers(rt, "w3-struck.edi");
+    answers(rt, "w3-written-struck.edi");
 }
 
 // The credited records of each mode; they add up to the credited count.
-fn modes() {
+fn modes(rt: &(impl Files + Print)) {
     // Contacts in all eleven modes: three by code 2, two by 1, two with no mode, and one by each other code. For no mode count a void record by 9 and
     // one by 2, a duplicate by 2 that claims points and one by 1 that claims a D, an ERROR by 5 and one with none. Seven squares and 1095 points
     // make 4595. What it is written back as has the same.
-    answers(b"w4-modes.edi");
-    answers(b"w4-written.edi");
-    written(b"w4-modes.edi", b"w4-written.edi");
-    written(b"w4-written.edi", b"w4-written.edi");
+    answers(rt, "w4-modes.edi");
+    answers(rt, "w4-written.edi");
+    written(rt, "w4-modes.edi", "w4-written.edi");
+    written(rt, "w4-written.edi", "w4-written.edi");
     // Two contacts struck, one by 1 and one with no mode. The repeat of the first is credited, so that 2 has one more; written back it claimed no
     // points, and is void. The repeat of the second claims a D alone, and is void either way.
-    answers(b"w4-struck.edi");
-    answers(b"w4-written-struck.edi");
+    answers(rt, "w4-struck.edi");
+    answers(rt, "w4-written-struck.edi");
     // A smaller log: three by Morse, two by SSB, one by SSB with Morse coming back, one with no mode. The duplicate by SSB, the void record and the
     // ERROR by Morse count for no mode.
-    answers(b"w4-morse.edi");
+    answers(rt, "w4-morse.edi");
 }
 
 // Striking: case 13, both ways, in its log as it came and as it was written back; all records; second tries; two contacts of different modes. What is left
 // has the log's own claims and spelling, and is judged above. A refused log has no records to strike.
-fn strikes() {
-    struck(b"12-spring.edi", b"1", b"1", b"13-struck.edi");
-    struck(b"12-written.edi", b"1", b"1-1", b"13-written-struck.edi");
-    struck(b"12-spring.edi", b"4-5", b"1-3", b"02-no-records.edi");
-    struck(b"w3-tries.edi", b"1", b"1", b"w3-struck.edi");
-    struck(b"w3-written.edi", b"1", b"1", b"w3-written-struck.edi");
-    struck(b"w4-modes.edi", b"2", b"15", b"w4-struck.edi");
-    struck(b"w4-written.edi", b"2", b"15", b"w4-written-struck.edi");
-    struck(b"01-empty.edi", b"1", b"2", b"01-empty.edi");
+fn strikes(rt: &(impl Files + Print)) {
+    struck(rt, "12-spring.edi", b"1", b"1", "13-struck.edi");
+    struck(rt, "12-written.edi", b"1", b"1-1", "13-written-struck.edi");
+    struck(rt, "12-spring.edi", b"4-5", b"1-3", "02-no-records.edi");
+    struck(rt, "w3-tries.edi", b"1", b"1", "w3-struck.edi");
+    struck(rt, "w3-written.edi", b"1", b"1", "w3-written-struck.edi");
+    struck(rt, "w4-modes.edi", b"2", b"15", "w4-struck.edi");
+    struck(rt, "w4-written.edi", b"2", b"15", "w4-written-struck.edi");
+    struck(rt, "01-empty.edi", b"1", b"2", "01-empty.edi");
 }
 
-fn main() {
-    cases();
-    views();
-    writings();
-    strikes();
-    samples();
-    chewed();
-    second_tries();
-    modes();
+fn main(rt: HostRuntime) {
+    cases(&rt);
+    views(&rt);
+    writings(&rt);
+    strikes(&rt);
+    samples(&rt);
+    chewed(&rt);
+    second_tries(&rt);
+    modes(&rt);
 }

@@ -3,8 +3,9 @@
 
 #![tactic(auto)]
 
-use libc::STDOUT_FILENO;
+use console::EprintBytes;
 use places::ViewRead;
+use std::env::Env;
 use words::Named;
 
 // # The keyword
@@ -20,26 +21,29 @@ fn is_number(word: &[u8]) -> bool {
     fields::digit_run(word, 0) == word.len()
 }
 
-fn say_unknown(word: &[u8]) {
-    console::say(b"desk: \"");
-    console::say(word);
-    console::say(b"\" is neither the name of a keyword, as PCall, nor its number, 1 to 36\n");
+fn say_unknown(rt: &impl EprintBytes, word: &[u8]) {
+    console::say(rt, b"desk: \"");
+    console::say(rt, word);
+    console::say(
+        rt,
+        b"\" is neither the name of a keyword, as PCall, nor its number, 1 to 36\n",
+    );
 }
 
 // # The argument
 
-fn show_argument(argument: &[u8]) {
-    if !io::write_all(STDOUT_FILENO, argument) {
-        console::say_unwritten();
+fn show_argument(rt: &(impl Print + EprintBytes), argument: &[u8]) {
+    if rt.write_all(argument).is_err() {
+        console::say_unwritten(rt);
         return;
     }
-    console::answer(b"\n");
+    console::answer(rt, b"\n");
 }
 
 // A log has at most 65,535 bytes: one byte more tells that there are too many.
-fn view(keyword: usize) {
+fn view(rt: &(impl Input + Print + EprintBytes), keyword: usize) {
     let mut log = [0u8; rules::LONGEST_LOG + 1];
-    let taken = console::take(&mut log, b"desk");
+    let taken = console::take(rt, &mut log, b"desk");
     if taken.failed {
         return;
     }
@@ -49,30 +53,32 @@ fn view(keyword: usize) {
             start: _,
             length: _,
             listed: _,
-        } => show_argument(places::viewed(&log[..n], keyword)),
-        ViewRead::Refused(r) => console::say_refusal(r),
+        } => show_argument(rt, places::viewed(&log[..n], keyword)),
+        ViewRead::Refused(r) => console::say_refusal(rt, r),
     }
 }
 
 // A number that is too large for a word to name is no keyword's, as 0 is none.
-fn view_unnamed(word: &[u8]) {
+fn view_unnamed(rt: &(impl Input + Print + EprintBytes), word: &[u8]) {
     if is_number(word) {
-        view(0);
+        view(rt, 0);
     } else {
-        say_unknown(word);
+        say_unknown(rt, word);
     }
 }
 
 // The keyword is known before the log is read.
-fn main() {
-    let mut word = io::buffer();
-    let n = os::arg(1, &mut word);
-    if os::errno() != 0 {
-        console::say(b"desk: a keyword is due, by its name, as PCall, or its number, 1 to 36\n");
+fn main(rt: HostRuntime) {
+    let mut word = [0u8; console::LONGEST_WORD];
+    let Ok(n) = rt.arg(1, &mut word) else {
+        console::say(
+            &rt,
+            b"desk: a keyword is due, by its name, as PCall, or its number, 1 to 36\n",
+        );
         return;
-    }
+    };
     match words::keyword(&word[..n]) {
-        Named::Keyword(k) => view(k),
-        Named::Nothing => view_unnamed(&word[..n]),
+        Named::Keyword(k) => view(&rt, k),
+        Named::Nothing => view_unnamed(&rt, &word[..n]),
     }
 }

@@ -4,23 +4,24 @@
 
 #![tactic(auto)]
 
+use console::EprintBytes;
 use writer::Wrote;
 
-fn write(log: &[u8]) {
+fn write(rt: &(impl Print + EprintBytes), log: &[u8]) {
     let mut written = [0u8; rules::LONGEST_LOG];
     match writer::write(log, &mut written) {
-        Wrote::Length(length) => console::answer(console::part(&written, 0, length)),
-        Wrote::Refused(r) => console::say_refusal(r),
+        Wrote::Length(length) => console::answer(rt, console::part(&written, 0, length)),
+        Wrote::Refused(r) => console::say_refusal(rt, r),
     }
 }
 
 // A log has at most 65,535 bytes: one byte more tells that there are too many.
-fn main() {
+fn main(rt: HostRuntime) {
     let mut log = [0u8; rules::LONGEST_LOG + 1];
-    let taken = console::take(&mut log, b"desk");
+    let taken = console::take(&rt, &mut log, b"desk");
     if taken.failed {
         return;
     }
     let n = taken.bytes;
-    write(&log[..n]);
+    write(&rt, &log[..n]);
 }

@@ -1,0 +1,5 @@
+use Rattle.std.proofs.Common.{◌-◌}
+use Rattle.strike.proofs.points_at.Given as goal
+
+abbrev pub decreases-loop-fields : goal.decreases-loop-fields
+decreases-loop-fields l = 8 - l.fields
