@@ -46,16 +46,16 @@
  * threads at once and from a signal handler, as long as no slice, no session and no link that one of them writes is used by another call or thread at
  * the time. What a session or a link knows is in the caller's memory alone: in its struct and in the two slices that go with it.
  *
- * The library, target/staticlib/libpad.a, is built by `rt staticlib pad`. It is for x86-64 and the calling convention of System V (Linux), uses no
- * instruction beyond those that every x86-64 processor has, and may be loaded at any address. Of C it needs
+ * The library, crates/pad/out/libpad.a, is built in crates/pad by `rt lib --cpu=x86-64`. It is for x86-64 and the calling convention of System V
+ * (Linux), uses no instruction beyond those that every x86-64 processor has, and may be loaded at any address. Of C it needs
  *
  *     memcpy, memset
  *
  * and nothing else: no other function, no start-up code, no file, no clock.
  *
- * Bytes of flash and of stack, as `bench/sizes` measures them of the library as the kit builds it. Flash is the code and the constants that a program
- * takes which calls this function alone; functions share much of it. Stack was measured on logs of 26 and of 999 records, on sessions of them, and on
- * links that they came over:
+ * Bytes of flash and of stack, as `bench/sizes` measured them of the library as the older kit built it, before rattle-kit-13f. Flash is the code and
+ * the constants that a program takes which calls this function alone; functions share much of it. Stack was measured on logs of 26 and of 999 records,
+ * on sessions of them, and on links that they came over:
  *
  *                                     flash     stack
  *     sumpquince_read                11,049       824
