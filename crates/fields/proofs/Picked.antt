@@ -11,19 +11,12 @@ use Rattle.rules.specs.Rules.{Rules}
 use Rattle.rules.specs.Text.{Text, same, empty}
 use Rattle.rules.proofs.Tests.{picked, passed}
 use Rattle.fields.specs.declared.CallRead.{CallRead}
-use Rattle.fields.specs.declared.CallRead.TheVariants as CallRead
 use Rattle.fields.specs.declared.ExchangeRead.{ExchangeRead}
-use Rattle.fields.specs.declared.ExchangeRead.TheVariants as ExchangeRead
 use Rattle.fields.specs.declared.LocatorRead.{LocatorRead}
-use Rattle.fields.specs.declared.LocatorRead.TheVariants as LocatorRead
 use Rattle.fields.specs.declared.MarkRead.{MarkRead}
-use Rattle.fields.specs.declared.MarkRead.TheVariants as MarkRead
 use Rattle.fields.specs.declared.ModeRead.{ModeRead}
-use Rattle.fields.specs.declared.ModeRead.TheVariants as ModeRead
 use Rattle.fields.specs.declared.ReportRead.{ReportRead}
-use Rattle.fields.specs.declared.ReportRead.TheVariants as ReportRead
 use Rattle.fields.specs.declared.SerialRead.{SerialRead}
-use Rattle.fields.specs.declared.SerialRead.TheVariants as SerialRead
 use Rattle.fields.specs.Field.{text_at, end_of, call_at, call_or_empty_at, mode_at, report_at, serial_at, exchange_at, locator_at, locator_or_empty_at, mark_at}
 
 -- A field keeps a rule and ends here.

@@ -13,9 +13,7 @@ use Rattle.rules.specs.Rules.{Rules}
 use Rattle.rules.specs.Text.{Text, span, all, same}
 use Rattle.rules.proofs.TextLaws.{same_apart, take_its_length}
 use Rattle.fields.specs.declared.CallRead.{CallRead}
-use Rattle.fields.specs.declared.CallRead.TheVariants as CallRead
 use Rattle.fields.specs.declared.ExchangeRead.{ExchangeRead}
-use Rattle.fields.specs.declared.ExchangeRead.TheVariants as ExchangeRead
 use Rattle.fields.specs.Field.{exchange_at, in_field, text_at, ends_at, end_of, call_at}
 use Rattle.fields.proofs.FieldLaws.{characters, take_characters, run_is_field, run_is_as_long}
 

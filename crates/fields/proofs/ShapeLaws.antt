@@ -12,17 +12,11 @@ use borrow.Author.Tests.{eq-eqb, eqb-true, lt-leb, leb-true, leb-false, ne_eqb, 
 use Rattle.rules.specs.Fields.{mode, report, serial, locator, square_letter, sub_letter, empty_or}
 use Rattle.rules.specs.Text.{Text, digit, capital, span, all, same, empty}
 use Rattle.fields.specs.declared.CallRead.{CallRead}
-use Rattle.fields.specs.declared.CallRead.TheVariants as CallRead
 use Rattle.fields.specs.declared.LocatorRead.{LocatorRead}
-use Rattle.fields.specs.declared.LocatorRead.TheVariants as LocatorRead
 use Rattle.fields.specs.declared.MarkRead.{MarkRead}
-use Rattle.fields.specs.declared.MarkRead.TheVariants as MarkRead
 use Rattle.fields.specs.declared.ModeRead.{ModeRead}
-use Rattle.fields.specs.declared.ModeRead.TheVariants as ModeRead
 use Rattle.fields.specs.declared.ReportRead.{ReportRead}
-use Rattle.fields.specs.declared.ReportRead.TheVariants as ReportRead
 use Rattle.fields.specs.declared.SerialRead.{SerialRead}
-use Rattle.fields.specs.declared.SerialRead.TheVariants as SerialRead
 use Rattle.fields.specs.Field.{text_at, ends_at, end_of, call_at, call_or_empty_at, mode_at, report_at, serial_at, locator_at, locator_or_empty_at, mark_at}
 use Rattle.fields.proofs.FieldLaws.{next, ends_with_line, ends_at_semicolon}
 use Rattle.fields.proofs.Picked.{Kept}

@@ -5,19 +5,12 @@ use Rattle.rules.specs.Fields.{call, error_call, mode, report, serial, exchange,
 use Rattle.rules.specs.Rules.{Rules}
 use Rattle.rules.specs.Text.{Text, semicolon, span, same, empty}
 use Rattle.fields.specs.declared.CallRead.{CallRead}
-use Rattle.fields.specs.declared.CallRead.TheVariants as CallRead
 use Rattle.fields.specs.declared.ExchangeRead.{ExchangeRead}
-use Rattle.fields.specs.declared.ExchangeRead.TheVariants as ExchangeRead
 use Rattle.fields.specs.declared.LocatorRead.{LocatorRead}
-use Rattle.fields.specs.declared.LocatorRead.TheVariants as LocatorRead
 use Rattle.fields.specs.declared.MarkRead.{MarkRead}
-use Rattle.fields.specs.declared.MarkRead.TheVariants as MarkRead
 use Rattle.fields.specs.declared.ModeRead.{ModeRead}
-use Rattle.fields.specs.declared.ModeRead.TheVariants as ModeRead
 use Rattle.fields.specs.declared.ReportRead.{ReportRead}
-use Rattle.fields.specs.declared.ReportRead.TheVariants as ReportRead
 use Rattle.fields.specs.declared.SerialRead.{SerialRead}
-use Rattle.fields.specs.declared.SerialRead.TheVariants as SerialRead
 
 -- No semicolon.
 abbrev pub in_field : ℕ → Bool

@@ -12,7 +12,6 @@ use Rattle.rules.proofs.NumberLaws.{number_length}
 use Rattle.rules.proofs.Tests.{and_l, and_r, and_i, fails, clash}
 use Rattle.fields.specs.Field.{text_at}
 use Rattle.figures.specs.declared.NumberRead.{NumberRead}
-use Rattle.figures.specs.declared.NumberRead.TheVariants as NumberRead
 use Rattle.figures.specs.Figure.{number_at}
 use Rattle.figures.proofs.NumberLaws.{number_good, number_bad}
 use Rattle.figures.proofs.Picked.{number_picked, number_refused}

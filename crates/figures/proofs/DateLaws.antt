@@ -18,10 +18,8 @@ use Rattle.fields.specs.Field.{text_at, ends_at}
 use Rattle.fields.proofs.FieldLaws.{characters}
 use Rattle.fields.proofs.ShapeLaws.{ended_text}
 use Rattle.figures.specs.declared.DateRead.{DateRead}
-use Rattle.figures.specs.declared.DateRead.TheVariants as DateRead
 use Rattle.figures.specs.declared.DigitsRead.{DigitsRead}
 use Rattle.figures.specs.declared.LongDateRead.{LongDateRead}
-use Rattle.figures.specs.declared.LongDateRead.TheVariants as LongDateRead
 use Rattle.figures.specs.Figure.{digits_at, date_at, long_date_at}
 use Rattle.figures.proofs.ExactLaws.{too_short_lem, not_ended, other_characters, exact_text}
 use Rattle.figures.proofs.NumberLaws.{value_split, is_read_lem, not_read, end_here, end_is_length}

@@ -18,7 +18,6 @@ use Rattle.fields.proofs.PartLaws.{span_length}
 use Rattle.fields.proofs.RunLaws.{text_within}
 use Rattle.figures.specs.declared.DigitsRead.{DigitsRead}
 use Rattle.figures.specs.declared.NumberRead.{NumberRead}
-use Rattle.figures.specs.declared.NumberRead.TheVariants as NumberRead
 use Rattle.figures.specs.Figure.{leading_digits, digits_from, digits_at, number_at}
 
 pub digit_least : (b : ℕ) → digit b ≡ true → 48 ≤ b

@@ -9,14 +9,10 @@ use Rattle.rules.specs.Text.{Text, empty, value}
 use Rattle.rules.proofs.Tests.{picked, passed}
 use Rattle.fields.specs.Field.{text_at, end_of}
 use Rattle.figures.specs.declared.DateRead.{DateRead}
-use Rattle.figures.specs.declared.DateRead.TheVariants as DateRead
 use Rattle.figures.specs.declared.LongDateRead.{LongDateRead}
-use Rattle.figures.specs.declared.LongDateRead.TheVariants as LongDateRead
 use Rattle.figures.specs.declared.NumberRead.{NumberRead}
-use Rattle.figures.specs.declared.NumberRead.TheVariants as NumberRead
 use Rattle.figures.specs.declared.TimeOfDay.{TimeOfDay}
 use Rattle.figures.specs.declared.TimeRead.{TimeRead}
-use Rattle.figures.specs.declared.TimeRead.TheVariants as TimeRead
 use Rattle.figures.specs.Figure.{number_at, date_at, long_date_at, time_at}
 
 no_number : {v e : ℕ} → NumberRead.Bad ≡ NumberRead.Number v e → ⊥

@@ -13,10 +13,8 @@ use Rattle.rules.specs.Text.{Text, digit, all, value, value_after}
 use Rattle.rules.proofs.Tests.{and_l, and_r, passed, picked}
 use Rattle.fields.specs.Field.{text_at, ends_at, end_of}
 use Rattle.figures.specs.declared.TimeMade.{TimeMade}
-use Rattle.figures.specs.declared.TimeMade.TheVariants as TimeMade
 use Rattle.figures.specs.declared.TimeOfDay.{TimeOfDay}
 use Rattle.figures.specs.declared.TimeRead.{TimeRead}
-use Rattle.figures.specs.declared.TimeRead.TheVariants as TimeRead
 use Rattle.figures.specs.Figure.{time_made, time_at}
 use Rattle.figures.proofs.ExactLaws.{too_short_lem, not_ended, other_characters, exact_text}
 use Rattle.figures.proofs.NumberLaws.{value_split, end_is_length}

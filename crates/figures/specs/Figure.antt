@@ -5,17 +5,12 @@ use Rattle.rules.specs.Fields.{short_date, long_date, time_of_day}
 use Rattle.rules.specs.Text.{Text, digit, empty, value, value_after}
 use Rattle.fields.specs.Field.{text_at, end_of}
 use Rattle.figures.specs.declared.DateRead.{DateRead}
-use Rattle.figures.specs.declared.DateRead.TheVariants as DateRead
 use Rattle.figures.specs.declared.DigitsRead.{DigitsRead}
 use Rattle.figures.specs.declared.LongDateRead.{LongDateRead}
-use Rattle.figures.specs.declared.LongDateRead.TheVariants as LongDateRead
 use Rattle.figures.specs.declared.NumberRead.{NumberRead}
-use Rattle.figures.specs.declared.NumberRead.TheVariants as NumberRead
 use Rattle.figures.specs.declared.TimeMade.{TimeMade}
-use Rattle.figures.specs.declared.TimeMade.TheVariants as TimeMade
 use Rattle.figures.specs.declared.TimeOfDay.{TimeOfDay}
 use Rattle.figures.specs.declared.TimeRead.{TimeRead}
-use Rattle.figures.specs.declared.TimeRead.TheVariants as TimeRead
 
 unfoldable pub date_at : Text → ℕ → DateRead
 unfolding text_at end_of short_date

@@ -16,7 +16,6 @@ use Rattle.rules.specs.Rules.{Rules}
 use Rattle.rules.specs.Text.{Text}
 use Rattle.rules.proofs.Tests.{and_l, and_r}
 use Rattle.header.specs.declared.ArgumentRead.{ArgumentRead}
-use Rattle.header.specs.declared.ArgumentRead.TheVariants as ArgumentRead
 use Rattle.header.specs.Header.{first_argument, argument_of}
 
 -- The number is one of these.

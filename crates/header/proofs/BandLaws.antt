@@ -14,7 +14,6 @@ use Rattle.rules.specs.Rules.{Rules, base, band_names}
 use Rattle.rules.specs.Text.{Text, bytes, same}
 use Rattle.rules.proofs.Tests.{picked, passed}
 use Rattle.header.specs.declared.BandRead.{BandRead}
-use Rattle.header.specs.declared.BandRead.TheVariants as BandRead
 use Rattle.header.specs.Header.{band_of}
 
 -- The two tables of the code.

@@ -13,7 +13,6 @@ use Rattle.fields.specs.Field.{text_at, end_of}
 use Rattle.fields.proofs.PartLaws.{reach_first, reach_next, text_of}
 use Rattle.fields.proofs.Picked.{Kept}
 use Rattle.figures.specs.declared.LongDateRead.{LongDateRead}
-use Rattle.figures.specs.declared.LongDateRead.TheVariants as LongDateRead
 use Rattle.figures.specs.Figure.{long_date_at}
 use Rattle.figures.proofs.Picked.{long_date_picked}
 

@@ -16,7 +16,6 @@ use Rattle.fields.specs.Field.{in_field}
 use Rattle.fields.proofs.Picked.{Kept}
 use Rattle.fields.proofs.ShapeLaws.{Shape, ended, one, ended_or, fits, locator_0, locator_is_lem}
 use Rattle.figures.specs.declared.NumberRead.{NumberRead}
-use Rattle.figures.specs.declared.NumberRead.TheVariants as NumberRead
 use Rattle.figures.specs.Figure.{number_at}
 use Rattle.figures.proofs.Picked.{number_picked, number_refused}
 use Rattle.header.proofs.DueLaws.{argument_broken, argument_ends}

@@ -13,7 +13,6 @@ use Rattle.rules.specs.Arguments.{Entry, entries}
 use Rattle.rules.specs.Log.{keyword_start, keywords_of}
 use Rattle.rules.specs.Text.{Text, begins, lower}
 use Rattle.header.specs.declared.KeywordRead.{KeywordRead}
-use Rattle.header.specs.declared.KeywordRead.TheVariants as KeywordRead
 use Rattle.header.specs.Header.{spelling_of, first_keyword, keyword_at, listed_at}
 use Rattle.header.proofs.WordLaws.{has_keyword_by}
 

@@ -7,11 +7,8 @@ use Rattle.rules.specs.Reading.{has_keyword}
 use Rattle.rules.specs.Rules.{Rules}
 use Rattle.rules.specs.Text.{Text, begins, lower}
 use Rattle.header.specs.declared.ArgumentRead.{ArgumentRead}
-use Rattle.header.specs.declared.ArgumentRead.TheVariants as ArgumentRead
 use Rattle.header.specs.declared.BandRead.{BandRead}
-use Rattle.header.specs.declared.BandRead.TheVariants as BandRead
 use Rattle.header.specs.declared.KeywordRead.{KeywordRead}
-use Rattle.header.specs.declared.KeywordRead.TheVariants as KeywordRead
 
 -- Whether a line begins with a word: as it is, with letters in their other case, or not at all.
 unfoldable pub spelling_of : Text → Text → KeywordRead

@@ -34,7 +34,6 @@ use Rattle.places.specs.Places.{declared_at}
 use Rattle.places.proofs.HeaderHeld.{declared_held}
 use Rattle.places.proofs.ToldBounds.{declared_below}
 use Rattle.judge.specs.declared.Weighed.{Weighed}
-use Rattle.judge.specs.declared.Weighed.TheVariants as Weighed
 use Rattle.judge.specs.declared.Judged.TheVariants as Judged
 use Rattle.judge.specs.Bounds.{Small, Closable}
 use Rattle.judge.specs.declared.Tally.{Tally}

@@ -12,7 +12,7 @@ use Rattle.rules.specs.Text.{Text, same, empty}
 use Rattle.rules.specs.Rules.{Rules, base}
 use Rattle.rules.specs.Fields.{Qso, error_call, is_error, empty_or, locator}
 use Rattle.rules.specs.Arguments.{among}
-use Rattle.rules.specs.Judging.{is, some, worked, class_of, square, is_new}
+use Rattle.rules.specs.Judging.{some, worked, class_of, square, is_new}
 use Rattle.rules.proofs.Passing.{same→equal}
 use Rattle.rules.proofs.Tests.{holds, and_l}
 use Rattle.judge.specs.declared.Noted.{Noted}

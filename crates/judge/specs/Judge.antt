@@ -10,8 +10,6 @@ use Rattle.reader.specs.Read.{heading_of, no_heading}
 use Rattle.reader.specs.declared.Heading.{Heading}
 use Rattle.judge.specs.declared.Weighed.{Weighed}
 use Rattle.judge.specs.declared.Judged.{Judged}
-use Rattle.judge.specs.declared.Weighed.TheVariants as Weighed
-use Rattle.judge.specs.declared.Judged.TheVariants as Judged
 
 -- Where the first record of an accepted log begins: its records stand last.
 unfoldable pub first_of : Text → Reading → ℕ

@@ -36,7 +36,7 @@ use Rattle.session.proofs.MoreLaws.{verdicts_more, bytes_more}
 use Rattle.session.proofs.EntryLaws.{length_front}
 use Rattle.session.proofs.BackLaws.{said_back, mode_told_lem}
 use Rattle.link.specs.declared.Link.{Link}
-use Rattle.link.specs.Link.{Holding, holding, stopped, line_of, with_record, record_told, record_line, lent_by}
+use Rattle.link.specs.Link.{Holding, holding, with_record, record_told, record_line, lent_by}
 use Rattle.link.specs.Keeping.{FitsLink, Keeps, worked_of}
 use Rattle.link.proofs.TakenLaws.{record_broken, record_added}
 use Rattle.link.proofs.LogGrows.{records_on, arguments_on, record_on_lem, no_argument_on, records_of, arguments_of, records_grow, arguments_grow}

@@ -21,7 +21,7 @@ use Rattle.places.specs.declared.Declared.{Declared}
 use Rattle.judge.specs.declared.Counts.{Counts}
 use Rattle.judge.specs.declared.Sums.{Sums}
 use Rattle.judge.specs.Bounds.{most_worth}
-use Rattle.judge.specs.Count.{mode_of, modes_in, add_record, add_records, closing, as_declared}
+use Rattle.judge.specs.Count.{mode_of, modes_in, add_record, add_records, as_declared}
 use Rattle.judge.specs.Narrow.{no_counts, low, low_four, tally_in, modes_of, sums_in, totals_in, counts_of}
 use Rattle.judge.specs.Sums.{sums_of, totals_kept}
 use Rattle.judge.proofs.CountLaws.{closed_totals}

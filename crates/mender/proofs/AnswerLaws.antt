@@ -1,11 +1,11 @@
 -- Laws of the mender's answer: what is refused, in which order, and what is handed over.
 -- Assumes nothing.
-use Prim.Native.Nat.{ℕ, ◌+◌, ◌≤◌, ◌<◌}
+use Prim.Native.Nat.{ℕ, ◌≤◌, ◌<◌}
 use native.Mathlib.Nat.{zero-add}
 use native.Mathlib.Omega.{arith}
 use mathlib.Core.Path.{◌≡◌, refl, sym, ap, ap₂, ◌∙◌}
-use mathlib.Core.Bool.{Bool, true, false, cond, ◌&&◌, and-false}
-use mathlib.Core.List.{List, [], map}
+use mathlib.Core.Bool.{Bool, true, false, cond, ◌&&◌}
+use mathlib.Core.List.{List, map}
 use lib.Dec.{leb, ltb}
 use lib.ListN.{length}
 use borrow.Author.Tests.{le-leb, lt-leb, le-ltb, lt-ltb, ltb-true, ltb-false}
@@ -19,15 +19,12 @@ use Rattle.rules.specs.Reading.{Reading, accepted, refused, refusal, read}
 use Rattle.rules.specs.Mending.{texts_of, mended_lines, mended_text, Change, changes_from, changes, Rooms, Mending, mended, unmended, hand_over, mend_reading, mend, bytes_of_mending, kinds_of_mending, lines_of_mending}
 use Rattle.rules.proofs.MendingStays.{accepted_stays}
 use Rattle.reader.specs.declared.ReadAnswer.{ReadAnswer}
-use Rattle.reader.specs.declared.ReadAnswer.TheVariants as ReadAnswer
 use Rattle.reader.specs.declared.Heading.{Heading}
 use Rattle.reader.specs.Read.{read_told, read_of}
 use Rattle.writer.specs.Written.{Puts}
 use Rattle.writer.proofs.WrittenLaws.{front_end, front_laid}
 use Rattle.mender.specs.declared.Checked.{Checked}
-use Rattle.mender.specs.declared.Checked.TheVariants as Checked
 use Rattle.mender.specs.declared.MendAnswer.{MendAnswer}
-use Rattle.mender.specs.declared.MendAnswer.TheVariants as MendAnswer
 use Rattle.mender.specs.Checking.{walk_lines, checked_by, checked_from, checked_of}
 use Rattle.mender.specs.Answer.{rooms_of, mended_by, kept_as, kept_in, Mends}
 use Rattle.mender.proofs.ReadLaws.{read_mended}

@@ -1,20 +1,18 @@
 -- Laws of the count line that is made anew.
 -- Assumes nothing.
-use Prim.Native.Nat.{ℕ, ◌+◌, ◌-◌, ◌^◌, ◌≤◌, ◌<◌}
+use Prim.Native.Nat.{ℕ, ◌+◌, ◌-◌, ◌≤◌}
 use native.Mathlib.Omega.{arith}
 use mathlib.Core.Path.{◌≡◌, refl, sym, ap, ◌∙◌}
 use mathlib.Core.Bool.{Bool, true, false, cond, not, ◌&&◌}
-use mathlib.Core.List.{List, [], ◌∷◌, ◌++◌}
+use mathlib.Core.List.{[], ◌∷◌}
 use lib.Dec.{leb}
-use lib.ListN.{length, take, drop, length-append, length-drop}
-use lib.Seq.{take-append_seam, take_all}
+use lib.ListN.{length, take, drop, length-drop}
+use lib.Seq.{take_all}
 use borrow.Author.Tests.{not-true, not-false, le-leb}
-use Rattle.rules.specs.Answers.{over}
 use Rattle.rules.specs.Log.{count_start, count_line}
 use Rattle.rules.specs.Mending.{digits_then_end}
-use Rattle.rules.specs.Text.{Text, digit, digits, same, span}
+use Rattle.rules.specs.Text.{Text, digit, same, span}
 use Rattle.rules.proofs.TextLaws.{span_short}
-use Rattle.writer.proofs.WrittenLaws.{count_most}
 use Rattle.mender.specs.Lines.{count_kind}
 
 -- What stands behind `[QSORecords;`: digits, and then `]`.

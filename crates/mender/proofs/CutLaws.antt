@@ -9,15 +9,14 @@ use mathlib.Core.List.{List, [], ◌∷◌, ◌++◌, map}
 use lib.Dec.{eqb, leb, ltb}
 use lib.ListN.{length, take, drop, get_or, length-drop, drop_of_length-le}
 use lib.Seq.{drop-drop}
-use borrow.Author.Tests.{eq-eqb, ne_eqb, le-ltb, lt-ltb, le-leb, lt-leb, leb-true, leb-false, ltb-true, ltb-false, not-true}
+use borrow.Author.Tests.{eq-eqb, ne_eqb, le-ltb, lt-ltb, le-leb, lt-leb, leb-true, leb-false, ltb-true, ltb-false}
 use Rattle.rules.specs.Text.{Text, all, allowed, span}
 use Rattle.rules.specs.Mending.{ChewedLine, MendedLine, in_front, chewed_lines, ends_in_cr, without_cr, end_done, end_mended, trimmed}
 use Rattle.rules.proofs.MendingLaws.{no_lf, allowed_is_no_lf, ends_behind, without_behind, trimmed_behind}
 use Rattle.rules.proofs.TextLaws.{span_short}
 use Rattle.reader.specs.Contact.{between}
 use Rattle.writer.proofs.WrittenLaws.{part_more}
-use Rattle.mender.specs.declared.Cut.{Cut}
-use Rattle.mender.specs.Lines.{lines_at, kinds_of, Spans, EndsAt, Trims, Cuts}
+use Rattle.mender.specs.Lines.{lines_at, kinds_of, EndsAt, Trims, Cuts}
 
 -- # The end of a text
 

@@ -1,26 +1,25 @@
 -- Laws of what is done to a line, by where it lies: from the line as it was cut to the line as it is mended.
 -- Assumes nothing.
-use Prim.Native.Nat.{ℕ, zero, suc, ◌+◌, ◌-◌, ◌≤◌, ◌<◌}
+use Prim.Native.Nat.{ℕ, ◌-◌, ◌≤◌, ◌<◌}
 use native.Mathlib.Omega.{arith}
 use mathlib.Core.Path.{◌≡◌, refl, sym, ap, ap₂, subst, ◌∙◌}
 use mathlib.Core.Bool.{Bool, true, false, cond, ◌&&◌}
 use mathlib.Core.List.{List, [], ◌∷◌, ◌++◌, append-nil}
-use lib.Dec.{eqb, leb}
+use lib.Dec.{eqb}
 use lib.ListN.{length, drop, length-append}
 use borrow.Author.Tests.{eqb-true}
 use Rattle.rules.specs.declared.Region.{Region}
-use Rattle.rules.specs.declared.Region.TheVariants as Region
 use Rattle.rules.specs.Text.{Text, all, allowed, begins, empty, same}
 use Rattle.rules.specs.Log.{remarks_line, count_start, count_line}
 use Rattle.rules.specs.Mending.{MendedLine, trimmed, digits_then_end, has_count, count_set, changed_to, region_after, line_mended, lines_mended}
 use Rattle.rules.proofs.MendingLaws.{mended_more, none_begun, set_of_none}
-use Rattle.rules.proofs.Tests.{and_l, and_r, fails}
+use Rattle.rules.proofs.Tests.{fails}
 use Rattle.rules.proofs.TextLaws.{same_refl, same_eq, begins_split}
 use Rattle.reader.specs.Contact.{between}
 use Rattle.writer.proofs.WrittenLaws.{part_length}
 use Rattle.mender.specs.declared.Cut.{Cut}
 use Rattle.mender.specs.declared.Laid.{Laid}
-use Rattle.mender.specs.Lines.{lines_at, mended_at, kinds_of, Spans, Trims, Cuts, text_laid, line_laid, count_kind, Lays}
+use Rattle.mender.specs.Lines.{lines_at, mended_at, kinds_of, Trims, Cuts, text_laid, line_laid, count_kind, Lays}
 
 -- The lines from a place on begin with the line that was laid there.
 pub mended_turn : {region : Region} {s : Text} {at follow : ℕ} {l : Laid} → Lays region s at follow l → follow ≡ length (lines_at s l.next) → mended_at region s at ≡ line_laid s at follow l ∷ mended_at l.region s l.next

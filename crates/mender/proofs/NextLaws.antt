@@ -3,10 +3,10 @@
 use Prim.Native.Nat.{ℕ, ◌+◌, ◌-◌, ◌≤◌, ◌<◌}
 use native.Mathlib.Omega.{arith}
 use mathlib.Core.Path.{◌≡◌, refl, sym, ap, ◌∙◌}
-use mathlib.Core.Bool.{Bool, true, false, cond, not, ◌&&◌, and-false}
-use mathlib.Core.List.{List, [], ◌∷◌, ◌++◌}
-use lib.Dec.{eqb, leb}
-use lib.ListN.{length, take, drop, length-append}
+use mathlib.Core.Bool.{true, false, not, and-false}
+use mathlib.Core.List.{◌++◌}
+use lib.Dec.{leb}
+use lib.ListN.{length, length-append}
 use borrow.Author.Tests.{eq-eqb, ne_eqb, not-true, not-false, le-leb, lt-leb}
 use Rattle.rules.specs.declared.Due.{Due}
 use Rattle.rules.specs.declared.Next.{Next}

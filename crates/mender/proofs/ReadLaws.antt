@@ -1,14 +1,12 @@
 -- Laws of reading mended lines: what reading the text of them tells is what is told line by line.
 -- Assumes nothing.
-use Prim.Native.Nat.{ℕ, suc, ◌+◌, ◌≤◌, ◌<◌}
-use native.Mathlib.Omega.{arith}
+use Prim.Native.Nat.{ℕ, suc, ◌+◌}
 use mathlib.Core.Path.{◌≡◌, refl, sym, ap, ◌∙◌}
 use mathlib.Core.Logic.{⊎_elim}
-use mathlib.Core.Bool.{Bool, true, false, cond, not, ◌&&◌, and-false, and-true}
+use mathlib.Core.Bool.{Bool, true, false, cond, ◌&&◌, and-false, and-true}
 use mathlib.Core.List.{List, [], ◌∷◌, ◌++◌, append_assoc}
 use lib.Dec.{eqb, leb, ltb}
-use lib.ListN.{length, take, drop}
-use lib.Seq.{drop-append_seam}
+use lib.ListN.{length, drop}
 use borrow.Author.Tests.{not-true, ne_eqb, eqb-false}
 use Rattle.rules.specs.declared.Due.{Due}
 use Rattle.rules.specs.declared.Due.TheVariants.{Identifier, Keyword, Remarks, Remark, Record, End}
@@ -18,7 +16,7 @@ use Rattle.rules.specs.Text.{Text, all, allowed, begins, span}
 use Rattle.rules.specs.Rules.{Rules}
 use Rattle.rules.specs.Arguments.{every}
 use Rattle.rules.specs.Log.{crlf, ended, line_rule}
-use Rattle.rules.specs.Reading.{Reading, refused, refusal, FirstLine, a_line, no_line, first_line, on_first_line, Lines, lines, step, at_rest, put, on_next, walk, read}
+use Rattle.rules.specs.Reading.{Reading, refused, refusal, no_line, first_line, on_first_line, Lines, lines, step, at_rest, put, on_next, walk, read}
 use Rattle.rules.specs.Mending.{texts_of, mended_lines, mended_text}
 use Rattle.rules.proofs.LineLaws.{first_front, first_of_none, lines_law}
 use Rattle.rules.proofs.MendingLaws.{no_lf, mended_clean, texts_mended}

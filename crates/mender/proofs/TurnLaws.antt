@@ -1,18 +1,16 @@
 -- Laws of a turn of the walk over the lines: what is left from a place on, and what a line adds to what is measured, read and written.
 -- Assumes nothing.
-use Prim.Native.Nat.{ℕ, suc, ◌+◌, ◌-◌, ◌≤◌, ◌<◌}
-use native.Mathlib.Nat.{add-zero, add_assoc, zero-add}
+use Prim.Native.Nat.{ℕ, ◌+◌, ◌-◌, ◌≤◌, ◌<◌}
+use native.Mathlib.Nat.{add-zero, zero-add}
 use native.Mathlib.Omega.{arith}
 use mathlib.Core.Path.{◌≡◌, refl, sym, ap, ap₂, subst, ◌∙◌}
-use mathlib.Core.Bool.{Bool, true, false, cond}
 use mathlib.Core.List.{List, [], ◌∷◌, ◌++◌, map, map-append, append_assoc}
-use lib.ListN.{length, take, drop, length-append, length-map}
+use lib.ListN.{length, drop, length-append, length-map}
 use Rattle.rules.specs.declared.Due.{Due}
 use Rattle.rules.specs.declared.Due.TheVariants.{Identifier}
 use Rattle.rules.specs.declared.Next.{Next}
 use Rattle.rules.specs.declared.Next.TheVariants.{Goes, Stops}
 use Rattle.rules.specs.declared.Region.{Region}
-use Rattle.rules.specs.declared.Region.TheVariants as Region
 use Rattle.rules.specs.Answers.{over}
 use Rattle.rules.specs.Text.{Text}
 use Rattle.rules.specs.Rules.{Rules}
@@ -22,7 +20,6 @@ use Rattle.rules.specs.Mending.{MendedLine, lines_mended, mended_lines, texts_of
 use Rattle.writer.specs.Written.{Puts, written}
 use Rattle.writer.proofs.WrittenLaws.{written_nothing, written_then, puts_length}
 use Rattle.mender.specs.declared.Checked.{Checked}
-use Rattle.mender.specs.declared.Checked.TheVariants as Checked
 use Rattle.mender.specs.declared.Laid.{Laid}
 use Rattle.mender.specs.Lines.{lines_at, mended_at, kinds_of, text_laid, line_laid, Lays}
 use Rattle.mender.specs.Checking.{line_next, walk_lines, checked_by, rest_told, checked_from, checked_of}

@@ -7,7 +7,6 @@ use Rattle.rules.specs.Reading.{refusal}
 use Rattle.rules.specs.Rules.{Rules}
 use Rattle.rules.specs.Text.{Text}
 use Rattle.mender.specs.declared.MendAnswer.{MendAnswer}
-use Rattle.mender.specs.declared.MendAnswer.TheVariants as MendAnswer
 
 -- The lengths of three lent slices.
 abbrev pub rooms_of : List ℕ → List ℕ → List ℕ → Rooms

@@ -9,9 +9,8 @@ use Rattle.rules.specs.Text.{Text}
 use Rattle.rules.specs.Rules.{Rules}
 use Rattle.rules.specs.Log.{ended, line_rule}
 use Rattle.rules.specs.Reading.{Reading, accepted, refused, step, at_rest, on_next}
-use Rattle.rules.specs.Mending.{MendedLine, texts_of, mended_lines, mended_text, changes_from, changes}
+use Rattle.rules.specs.Mending.{MendedLine, texts_of, mended_lines, changes_from}
 use Rattle.mender.specs.declared.Checked.{Checked}
-use Rattle.mender.specs.declared.Checked.TheVariants as Checked
 
 -- Where this is due, something stands that is no line of a log: 2, but 6 where nothing more is due.
 unfoldable pub no_line_due : Due → Next

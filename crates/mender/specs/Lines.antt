@@ -1,6 +1,6 @@
 -- The lines of a chewed text by their places: a line is a part of the text, or the count line, which alone is made anew.
 -- Assumes nothing.
-use Rattle.std.specs.Prelude.{ℕ, zero, suc, ◌+◌, ◌≤◌, ◌<◌, ◌≡◌, Bool, cond, List, [], ◌∷◌, ◌++◌, map, eqb, ltb, length, drop}
+use Rattle.std.specs.Prelude.{ℕ, zero, suc, ◌+◌, ◌≤◌, ◌<◌, ◌≡◌, cond, List, [], ◌∷◌, ◌++◌, map, eqb, ltb, length, drop}
 use Rattle.rules.specs.declared.Region.{Region}
 use Rattle.rules.specs.Text.{Text, all, allowed, same}
 use Rattle.rules.specs.Log.{count_start, count_line}

@@ -10,23 +10,18 @@ use Rattle.rules.specs.Text.{Text}
 use Rattle.rules.specs.Rules.{base}
 use Rattle.rules.specs.Judging.{zero_totals}
 use Rattle.rules.specs.Reading.{Reading, accepted, refused, read}
-use Rattle.rules.specs.Answers.{Viewing, seen, unseen, view, Judgement, judged, unjudged, judge, Writing, written, unwritten, write, no_refusal}
+use Rattle.rules.specs.Answers.{Viewing, seen, unseen, view, Judgement, judged, unjudged, judge, Writing, written, unwritten, no_refusal}
 use Rattle.rules.specs.Mending.{Mending, mended, unmended}
 use Rattle.reader.specs.declared.Heading.{Heading}
 use Rattle.reader.specs.declared.ReadAnswer.{ReadAnswer}
-use Rattle.reader.specs.declared.ReadAnswer.TheVariants as ReadAnswer
 use Rattle.reader.specs.Read.{read_told, read_of}
 use Rattle.places.specs.declared.ViewRead.{ViewRead}
-use Rattle.places.specs.declared.ViewRead.TheVariants as ViewRead
 use Rattle.places.specs.Places.{view_told, view_of}
 use Rattle.judge.specs.declared.Judged.{Judged}
-use Rattle.judge.specs.declared.Judged.TheVariants as Judged
 use Rattle.judge.specs.Judge.{judged_by, judged_of}
 use Rattle.writer.specs.declared.Wrote.{Wrote}
-use Rattle.writer.specs.declared.Wrote.TheVariants as Wrote
 use Rattle.writer.specs.LogText.{wrote_by}
 use Rattle.mender.specs.declared.MendAnswer.{MendAnswer}
-use Rattle.mender.specs.declared.MendAnswer.TheVariants as MendAnswer
 use Rattle.mender.specs.Answer.{mended_by}
 use Rattle.pad.specs.declared.SumpquinceRefusal.{SumpquinceRefusal}
 use Rattle.pad.specs.declared.SumpquinceReading.{SumpquinceReading}

@@ -4,14 +4,14 @@ use Prim.Native.Nat.{ℕ, zero, suc, ◌+◌, ◌-◌, ◌≤◌, ◌<◌, min}
 use native.Mathlib.Omega.{arith}
 use mathlib.Core.Path.{◌≡◌, refl, sym, ap, ap₂, ◌∙◌}
 use mathlib.Core.Bool.{Bool, true, false, not, ◌&&◌}
-use mathlib.Core.List.{List, [], ◌∷◌, ◌++◌, map, append_assoc}
+use mathlib.Core.List.{List, [], ◌∷◌, ◌++◌}
 use lib.Dec.{T, eqb}
 use lib.ListN.{length, drop, get_or, length-append, length-drop, length-take}
 use lib.Seq.{drop_at}
 use Rattle.rules.specs.Text.{Text, same, same_but_case, begins, value, parts, allowed, span}
 use Rattle.rules.specs.Rules.{Rules}
 use Rattle.rules.specs.Arguments.{Entry, entries, meets, count_bonus_multiplier, count, bonus, multiplier, part}
-use Rattle.rules.specs.Log.{Log, identifier, argument_in, argument, remarks_line, count_line, record_line, keyword_start, keyword_lines, lines_of, render, keyword_rules, argument_rules, valid}
+use Rattle.rules.specs.Log.{Log, argument_in, argument, keyword_start, keyword_lines, lines_of, render, keyword_rules, argument_rules, valid}
 use Rattle.rules.specs.Reading.{read, accepted}
 use Rattle.rules.specs.Judging.{declared, Declared as Judged}
 use Rattle.rules.specs.Answers.{argument_start, is_listed}

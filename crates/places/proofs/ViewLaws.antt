@@ -21,10 +21,8 @@ use Rattle.reader.proofs.DueLaws.{entries_length}
 use Rattle.header.specs.Header.{listed_at}
 use Rattle.reader.specs.declared.Heading.{Heading}
 use Rattle.reader.specs.declared.ReadAnswer.{ReadAnswer}
-use Rattle.reader.specs.declared.ReadAnswer.TheVariants as ReadAnswer
 use Rattle.reader.specs.Read.{read_told, read_of}
 use Rattle.places.specs.declared.ViewRead.{ViewRead}
-use Rattle.places.specs.declared.ViewRead.TheVariants as ViewRead
 use Rattle.places.specs.Places.{line_text_at, line_start, argument_on, argument_at, part_seen, view_told, view_of}
 use Rattle.places.proofs.HeaderHeld.{argument_held, argument_starts, keyword_listed, argument_inside, argument_within}
 

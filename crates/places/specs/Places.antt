@@ -9,7 +9,6 @@ use Rattle.header.specs.Header.{listed_at}
 use Rattle.reader.specs.Contact.{value_by}
 use Rattle.places.specs.declared.Declared.{Declared}
 use Rattle.places.specs.declared.ViewRead.{ViewRead}
-use Rattle.places.specs.declared.ViewRead.TheVariants as ViewRead
 
 -- The allowed characters from a place on: in an accepted log, the line that begins there.
 unfoldable pub line_text_at : Text → ℕ → Text

@@ -11,7 +11,6 @@ use borrow.Author.Tests.{eq-eqb, ne_eqb}
 use Rattle.rules.specs.Text.{Text, before, parts}
 use Rattle.fields.proofs.FieldLaws.{next}
 use Rattle.reader.specs.declared.RecordRead.{RecordRead}
-use Rattle.reader.specs.declared.RecordRead.TheVariants as RecordRead
 use Rattle.reader.specs.Line.{semicolons_in}
 use Rattle.reader.specs.Record.{broken_at}
 

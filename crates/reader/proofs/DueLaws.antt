@@ -12,25 +12,19 @@ use lib.Seq.{drop-cons, take_all}
 use Rattle.rules.specs.Text.{Text, same, begins}
 use Rattle.rules.specs.Rules.{Rules}
 use Rattle.rules.specs.declared.Due.{Due}
-use Rattle.rules.specs.declared.Due.TheVariants as Due
 use Rattle.rules.specs.declared.Next.{Next}
-use Rattle.rules.specs.declared.Next.TheVariants as Next
 use Rattle.rules.specs.Arguments.{Entry, entries, anything, meets}
 use Rattle.rules.specs.Log.{identifier, remarks_line, keyword_start, keywords_of, count_start}
 use Rattle.rules.specs.Reading.{RecordRule, keeps, breaks, record_rule, records_due, whole, spelling_on, argument_on, has_keyword, keyword_line, keyword_due, count_rule, after_record, step}
 use borrow.Author.Tests.{le-ltb, lt-ltb}
-use Rattle.rules.proofs.Tests.{fails}
 use Rattle.rules.proofs.SpellingLaws.{case_length, length_start, keyword_has, listed_has, listed_spelt}
 use Rattle.header.specs.declared.KeywordRead.{KeywordRead}
-use Rattle.header.specs.declared.KeywordRead.TheVariants as KeywordRead
 use Rattle.header.specs.declared.ArgumentRead.{ArgumentRead}
-use Rattle.header.specs.declared.ArgumentRead.TheVariants as ArgumentRead
 use Rattle.header.specs.Header.{first_keyword, keyword_at, first_argument, argument_of}
 use Rattle.header.proofs.WordLaws.{begins_short}
 use Rattle.header.proofs.TableLaws.{word_length, keyword_beyond}
 use Rattle.reader.specs.declared.Contact.{Contact}
 use Rattle.reader.specs.declared.RecordRead.{RecordRead}
-use Rattle.reader.specs.declared.RecordRead.TheVariants as RecordRead
 use Rattle.reader.specs.Contact.{contact_at}
 use Rattle.reader.specs.Record.{record_on, told_by}
 use Rattle.reader.specs.Read.{after_argument, says_respelt, respelt_by, step_of}

@@ -13,18 +13,14 @@ use Rattle.rules.proofs.TextLaws.{same_eq, same_refl}
 use Rattle.rules.proofs.Tests.{and_i, and_l, fails, or_r, passed, picked}
 use Rattle.rules.proofs.NumberLaws.{digits_value}
 use Rattle.fields.specs.declared.CallRead.{CallRead}
-use Rattle.fields.specs.declared.CallRead.TheVariants as CallRead
 use Rattle.fields.specs.Field.{call_at, end_of, in_field, text_at}
 use Rattle.fields.proofs.Picked.{call_picked, call_refused}
 use Rattle.figures.specs.declared.DateRead.{DateRead}
-use Rattle.figures.specs.declared.DateRead.TheVariants as DateRead
 use Rattle.figures.specs.declared.NumberRead.{NumberRead}
-use Rattle.figures.specs.declared.NumberRead.TheVariants as NumberRead
 use Rattle.figures.specs.Figure.{date_at, number_at}
 use Rattle.figures.proofs.Picked.{date_is_empty, date_picked, date_refused, number_picked, number_refused}
 use Rattle.fields.proofs.PartLaws.{end_by_span, end_within}
 use Rattle.reader.specs.declared.DatedRead.{DatedRead}
-use Rattle.reader.specs.declared.DatedRead.TheVariants as DatedRead
 use Rattle.reader.specs.Contact.{field_start}
 use Rattle.reader.specs.Record.{dated_at, fields_from, qso_at, score_rule}
 use Rattle.reader.proofs.PlaceLaws.{field_ends, field_first, next_start, starts_rise}

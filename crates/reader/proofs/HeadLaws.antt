@@ -9,21 +9,16 @@ use lib.Dec.{ltb}
 use lib.ListN.{length, take, drop}
 use borrow.Author.Tests.{le-ltb, lt-ltb, ltb-false}
 use Rattle.rules.specs.declared.Due.{Due}
-use Rattle.rules.specs.declared.Due.TheVariants as Due
 use Rattle.rules.specs.declared.Next.{Next}
-use Rattle.rules.specs.declared.Next.TheVariants as Next
 use Rattle.rules.specs.declared.Refusal.{Refusal}
 use Rattle.rules.specs.Text.{Text}
 use Rattle.rules.specs.Rules.{Rules, base}
 use Rattle.rules.specs.Reading.{Lines, lines, on_first_line, refusal, step}
 use Rattle.reader.specs.declared.CountRead.{CountRead}
-use Rattle.reader.specs.declared.CountRead.TheVariants as CountRead
 use Rattle.reader.specs.declared.HeadRead.{HeadRead}
 use Rattle.reader.specs.declared.Heading.{Heading}
 use Rattle.reader.specs.declared.Stepped.{Stepped}
-use Rattle.reader.specs.declared.HeadRead.TheVariants as HeadRead
 use Rattle.reader.specs.declared.LineRead.{LineRead}
-use Rattle.reader.specs.declared.LineRead.TheVariants as LineRead
 use Rattle.reader.specs.Line.{line_at}
 use Rattle.reader.specs.Read.{claims_by, heading_by, no_heading, respelt_by, step_of, counted_by, early, head_from, head_of}
 use Rattle.reader.proofs.LineLaws.{missed, stood}

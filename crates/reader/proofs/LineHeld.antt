@@ -17,7 +17,6 @@ use Rattle.rules.proofs.Passing.{same→equal}
 use Rattle.fields.specs.Field.{end_of}
 use Rattle.reader.specs.declared.Contact.{Contact}
 use Rattle.reader.specs.declared.RecordRead.{RecordRead}
-use Rattle.reader.specs.declared.RecordRead.TheVariants as RecordRead
 use Rattle.reader.specs.Contact.{contact_at, field_start}
 use Rattle.reader.specs.Record.{Alone, record_on}
 use Rattle.reader.proofs.DueLaws.{kept_told, stops_told}

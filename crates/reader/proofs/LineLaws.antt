@@ -18,7 +18,6 @@ use Rattle.rules.proofs.Tests.{and_r}
 use Rattle.rules.proofs.TextLaws.{span_short}
 use Rattle.fields.proofs.FieldLaws.{Within, run_more}
 use Rattle.reader.specs.declared.LineRead.{LineRead}
-use Rattle.reader.specs.declared.LineRead.TheVariants as LineRead
 use Rattle.reader.specs.Line.{line_from, line_at}
 
 -- Two characters decide whether CR LF stands at the front.

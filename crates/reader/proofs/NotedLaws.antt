@@ -15,11 +15,8 @@ use Rattle.rules.specs.Reading.{refusal}
 use Rattle.reader.specs.declared.Contact.{Contact}
 use Rattle.reader.specs.declared.Heading.{Heading}
 use Rattle.reader.specs.declared.HeadRead.{HeadRead}
-use Rattle.reader.specs.declared.HeadRead.TheVariants as HeadRead
 use Rattle.reader.specs.declared.ReadAnswer.{ReadAnswer}
-use Rattle.reader.specs.declared.ReadAnswer.TheVariants as ReadAnswer
 use Rattle.reader.specs.declared.RecordRead.{RecordRead}
-use Rattle.reader.specs.declared.RecordRead.TheVariants as RecordRead
 use Rattle.reader.specs.Contact.{behind, contact_at, field_start, last_end}
 use Rattle.reader.specs.Record.{record_at}
 use Rattle.reader.specs.Read.{no_heading, head_of, read_of, records_told}

@@ -22,13 +22,10 @@ use Rattle.rules.proofs.LineLaws.{first_front, first_is}
 use Rattle.rules.proofs.ValidLogs.{rule_at}
 use Rattle.reader.specs.declared.Contact.{Contact}
 use Rattle.reader.specs.declared.LineRead.{LineRead}
-use Rattle.reader.specs.declared.LineRead.TheVariants as LineRead
 use Rattle.reader.specs.declared.Parsed.{Parsed}
-use Rattle.reader.specs.declared.Parsed.TheVariants as Parsed
 use Rattle.reader.specs.Line.{line_at}
 use Rattle.reader.specs.Contact.{contact_at, field_start, last_end}
 use Rattle.reader.specs.declared.RecordRead.{RecordRead}
-use Rattle.reader.specs.declared.RecordRead.TheVariants as RecordRead
 use Rattle.reader.specs.Record.{broken_at, broken_from, due_at, fields_from, lineless, parsed_at, parsed_by, qso_at, record_at, record_on, rules_at, told_by}
 use Rattle.reader.proofs.DueLaws.{kept_told}
 use Rattle.reader.proofs.LineLaws.{ends_within, missed, stood}

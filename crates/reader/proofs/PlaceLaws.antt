@@ -18,7 +18,6 @@ use Rattle.rules.proofs.TextLaws.{span_short, same_apart}
 use Rattle.fields.specs.Field.{in_field, text_at, end_of}
 use Rattle.fields.proofs.FieldLaws.{next}
 use Rattle.figures.specs.declared.NumberRead.{NumberRead}
-use Rattle.figures.specs.declared.NumberRead.TheVariants as NumberRead
 use Rattle.figures.specs.Figure.{number_at}
 use Rattle.figures.proofs.Picked.{number_picked, number_refused}
 use Rattle.fields.proofs.PartLaws.{end_by_span, end_within}

@@ -10,9 +10,7 @@ use lib.ListN.{length, drop, length-append, length-drop}
 use lib.Seq.{drop-append-add, drop-drop}
 use borrow.Author.Tests.{le-ltb, lt-ltb}
 use Rattle.rules.specs.declared.Due.{Due}
-use Rattle.rules.specs.declared.Due.TheVariants as Due
 use Rattle.rules.specs.declared.Next.{Next}
-use Rattle.rules.specs.declared.Next.TheVariants as Next
 use Rattle.rules.specs.Text.{Text}
 use Rattle.rules.specs.Rules.{Rules}
 use Rattle.rules.specs.Log.{crlf}
@@ -21,9 +19,7 @@ use Rattle.rules.proofs.LineLaws.{lines_law}
 use Rattle.reader.specs.declared.Contact.{Contact}
 use Rattle.reader.specs.declared.Heading.{Heading}
 use Rattle.reader.specs.declared.ReadAnswer.{ReadAnswer}
-use Rattle.reader.specs.declared.ReadAnswer.TheVariants as ReadAnswer
 use Rattle.reader.specs.declared.RecordRead.{RecordRead}
-use Rattle.reader.specs.declared.RecordRead.TheVariants as RecordRead
 use Rattle.reader.specs.Contact.{behind, contact_at}
 use Rattle.reader.specs.Record.{due_at, lineless, record_at, told_by}
 use Rattle.reader.specs.Read.{record_next, records_told}

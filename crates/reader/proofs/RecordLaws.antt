@@ -17,7 +17,6 @@ use Rattle.fields.specs.Field.{end_of, text_at}
 use Rattle.fields.proofs.Picked.{Kept}
 use Rattle.reader.specs.declared.Contact.{Contact}
 use Rattle.reader.specs.declared.Parsed.{Parsed}
-use Rattle.reader.specs.declared.Parsed.TheVariants as Parsed
 use Rattle.reader.specs.Contact.{contact_at, field_start, last_end, value_by}
 use Rattle.reader.specs.Record.{fields_from, parsed_at, parsed_by, qso_at, rules_at, score_rule}
 use Rattle.reader.proofs.PlaceLaws.{field_first, next_start, start_within}

@@ -11,9 +11,7 @@ use lib.Seq.{take-length, length-take-le}
 use Rattle.rules.specs.Text.{Text, bytes, digit, span, all, same, value, number_from}
 use Rattle.rules.specs.Rules.{Rules}
 use Rattle.rules.specs.declared.Due.{Due}
-use Rattle.rules.specs.declared.Due.TheVariants as Due
 use Rattle.rules.specs.declared.Next.{Next}
-use Rattle.rules.specs.declared.Next.TheVariants as Next
 use Rattle.rules.specs.Reading.{records_due, count_rule}
 use Rattle.rules.proofs.TextLaws.{span_all, same_eq, same_refl, span_short}
 use Rattle.rules.proofs.Tests.{and_i}
@@ -21,7 +19,6 @@ use Rattle.rules.proofs.WalkLaws.{one_test}
 use Rattle.fields.specs.Field.{in_field, text_at}
 use Rattle.fields.proofs.FieldLaws.{next}
 use Rattle.figures.specs.declared.NumberRead.{NumberRead}
-use Rattle.figures.specs.declared.NumberRead.TheVariants as NumberRead
 use Rattle.figures.specs.Figure.{number_at}
 use Rattle.figures.proofs.Picked.{number_picked, number_refused}
 use Rattle.fields.proofs.PartLaws.{whole_span}

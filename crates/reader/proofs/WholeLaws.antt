@@ -11,9 +11,7 @@ use lib.Dec.{ltb}
 use lib.ListN.{length, length-append, length-drop, take, drop}
 use borrow.Author.Tests.{eq-eqb, ne_eqb}
 use Rattle.rules.specs.declared.Due.{Due}
-use Rattle.rules.specs.declared.Due.TheVariants as Due
 use Rattle.rules.specs.declared.Next.{Next}
-use Rattle.rules.specs.declared.Next.TheVariants as Next
 use Rattle.rules.specs.declared.Refusal.{Refusal}
 use Rattle.rules.specs.Text.{Text, begins, same}
 use Rattle.rules.specs.Rules.{Rules}
@@ -27,13 +25,9 @@ use Rattle.header.specs.Header.{keyword_at}
 use Rattle.reader.specs.declared.Contact.{Contact}
 use Rattle.reader.specs.declared.Heading.{Heading}
 use Rattle.reader.specs.declared.CountRead.{CountRead}
-use Rattle.reader.specs.declared.CountRead.TheVariants as CountRead
 use Rattle.reader.specs.declared.HeadRead.{HeadRead}
-use Rattle.reader.specs.declared.HeadRead.TheVariants as HeadRead
 use Rattle.reader.specs.declared.ReadAnswer.{ReadAnswer}
-use Rattle.reader.specs.declared.ReadAnswer.TheVariants as ReadAnswer
 use Rattle.reader.specs.declared.RecordRead.{RecordRead}
-use Rattle.reader.specs.declared.RecordRead.TheVariants as RecordRead
 use Rattle.reader.specs.Contact.{behind, contact_at, contacts_at}
 use Rattle.reader.specs.Record.{record_at}
 use Rattle.reader.specs.Read.{claims_by, claims_start, heading_by, heading_of, says_respelt, no_heading, respelt_by, counted_by, early, head_count, head_from, head_next, head_of, read_of, read_told, records_told}

@@ -5,7 +5,6 @@ use Rattle.rules.specs.Text.{Text, semicolon}
 use Rattle.rules.specs.Rules.{Rules}
 use Rattle.rules.specs.Reading.{FirstLine, a_line, no_line, first_line}
 use Rattle.reader.specs.declared.LineRead.{LineRead}
-use Rattle.reader.specs.declared.LineRead.TheVariants as LineRead
 
 -- The line that starts at a place ends before its CR LF.
 unfoldable pub line_from : ℕ → FirstLine → LineRead

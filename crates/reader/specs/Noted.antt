@@ -11,7 +11,6 @@ use Rattle.rules.specs.Reading.{lines, step}
 use Rattle.rules.specs.Answers.{over}
 use Rattle.reader.specs.declared.Contact.{Contact}
 use Rattle.reader.specs.declared.RecordRead.{RecordRead}
-use Rattle.reader.specs.declared.RecordRead.TheVariants as RecordRead
 use Rattle.reader.specs.Contact.{behind, contact_at}
 use Rattle.reader.specs.Record.{record_at}
 

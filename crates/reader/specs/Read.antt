@@ -12,20 +12,14 @@ use Rattle.rules.specs.Log.{Log, lines_of, ended, record_line, respelt}
 use Rattle.rules.specs.Reading.{Reading, accepted, lines, read, refusal, refused, step}
 use Rattle.reader.specs.declared.Contact.{Contact}
 use Rattle.reader.specs.declared.CountRead.{CountRead}
-use Rattle.reader.specs.declared.CountRead.TheVariants as CountRead
 use Rattle.header.specs.declared.ArgumentRead.{ArgumentRead}
-use Rattle.header.specs.declared.ArgumentRead.TheVariants as ArgumentRead
 use Rattle.header.specs.declared.KeywordRead.{KeywordRead}
-use Rattle.header.specs.declared.KeywordRead.TheVariants as KeywordRead
 use Rattle.header.specs.Header.{keyword_at}
 use Rattle.reader.specs.declared.HeadRead.{HeadRead}
-use Rattle.reader.specs.declared.HeadRead.TheVariants as HeadRead
 use Rattle.reader.specs.declared.ReadAnswer.{ReadAnswer}
-use Rattle.reader.specs.declared.ReadAnswer.TheVariants as ReadAnswer
 use Rattle.reader.specs.declared.Heading.{Heading}
 use Rattle.reader.specs.declared.Stepped.{Stepped}
 use Rattle.reader.specs.declared.RecordRead.{RecordRead}
-use Rattle.reader.specs.declared.RecordRead.TheVariants as RecordRead
 use Rattle.reader.specs.Contact.{behind}
 use Rattle.reader.specs.Record.{record_at}
 

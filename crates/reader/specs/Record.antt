@@ -10,11 +10,8 @@ use Rattle.rules.specs.Judging.{claims_duplicate}
 use Rattle.fields.specs.Field.{end_of, text_at}
 use Rattle.reader.specs.declared.Contact.{Contact}
 use Rattle.reader.specs.declared.DatedRead.{DatedRead}
-use Rattle.reader.specs.declared.DatedRead.TheVariants as DatedRead
 use Rattle.reader.specs.declared.Parsed.{Parsed}
-use Rattle.reader.specs.declared.Parsed.TheVariants as Parsed
 use Rattle.reader.specs.declared.RecordRead.{RecordRead}
-use Rattle.reader.specs.declared.RecordRead.TheVariants as RecordRead
 use Rattle.reader.specs.Contact.{contact_at, Describes}
 
 -- # The fields where they lie

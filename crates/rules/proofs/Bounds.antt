@@ -12,7 +12,7 @@ use Rattle.rules.specs.declared.Class.{Class}
 use Rattle.rules.specs.declared.Class.TheVariants.{Credited, Void, Duplicate, Error}
 use Rattle.rules.specs.declared.Verdict.{Verdict}
 use Rattle.rules.specs.declared.Totals.{Totals}
-use Rattle.rules.specs.Text.{Text, bytes, same, value, number, number_of, parts}
+use Rattle.rules.specs.Text.{Text, bytes, same, value, number_of, parts}
 use Rattle.rules.specs.Rules.{Rules, base}
 use Rattle.rules.specs.Fields.{Qso, is_error, points_rule, field_rules}
 use Rattle.rules.specs.Arguments.{Rule, anything, count_bonus_multiplier, Entry, entries, each, count, bonus, multiplier, part, meets}

@@ -18,7 +18,7 @@ use Rattle.rules.specs.Text.{Text, allowed, all}
 use Rattle.rules.specs.Rules.{Rules}
 use Rattle.rules.specs.Log.{Log, line_rule}
 use Rattle.rules.specs.Judging.{totals_of_log, zero_totals}
-use Rattle.rules.specs.Reading.{step, Reading, accepted, refused, refusal, at_rest, put, with_line, lines, read}
+use Rattle.rules.specs.Reading.{step, Reading, accepted, refused, refusal, at_rest, put, with_line, read}
 use Rattle.rules.specs.Answers.{no_refusal, refusal_of_reading, judged, judge, judge_reading, judge_log, refusal_of_judgement, totals_of_judgement, numbers_of_judgement}
 use Rattle.rules.specs.Link.{Finished, Link, opened, is_open, line_of, rest_of, stopped, Lent, worked_bytes, is_short, goes_on, if_long, after_line, finishes, holding, no_line_here, behind_return, in_line, of_line, placed, counted, taken, byte_in, asked, bytes_in, feed, fed_all, log_from, log_of, Closed, closed_by, closed_if, close, link_verdicts}
 use Rattle.rules.specs.LinkDemands.{joined_all, CutAnywhere, by_line, Settled, announced_in, Suffice, fed, closing, SaysAs, AsJoined, RefusedStays, ThirteenAfter, SevenBefore, TheLink}

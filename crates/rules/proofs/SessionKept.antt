@@ -15,7 +15,7 @@ use Rattle.rules.specs.Text.{Text, parts}
 use Rattle.rules.specs.Rules.{Rules}
 use Rattle.rules.specs.Fields.{Qso, field_rules, qso_of}
 use Rattle.rules.specs.Log.{Log, conjunction, record_rules}
-use Rattle.rules.specs.Judging.{Declared, declared, verdict_number, verdicts, totals, totals_of, verdicts_of_log, totals_of_log}
+use Rattle.rules.specs.Judging.{Declared, verdict_number, verdicts, totals, totals_of, verdicts_of_log, totals_of_log}
 use Rattle.rules.specs.Reading.{accepted, refusal, RecordRule, keeps, breaks, record_rule}
 use Rattle.rules.specs.Answers.{no_refusal, judged, judge, judge_reading, judge_log}
 use Rattle.rules.specs.Session.{Session, session, session_verdicts, session_totals, Call, starts, takes, gives_back, Reply, declared_rule, start_session, has_place, take_by, take_record, give_back, reply_to, session_after}

@@ -4,10 +4,8 @@
 use Prim.Native.Nat.{ℕ, zero, suc, ◌+◌, ◌≤◌}
 use native.Mathlib.Omega.{arith}
 use mathlib.Core.Path.{◌≡◌, refl, sym, ap, ◌∙◌}
-use mathlib.Core.Logic.{◌↔◌}
-use mathlib.Core.Bool.{Bool, true, false, cond, ◌&&◌}
+use mathlib.Core.Bool.{Bool, true, false, cond}
 use mathlib.Core.List.{List, [], ◌∷◌, ◌++◌, map, append_assoc}
-use lib.Dec.{eqb}
 use lib.ListN.{length, take, drop, get_or, length-map, length-append, take-append-drop}
 use lib.Seq.{drop-drop, take-append_seam, drop-append_seam}
 use Rattle.rules.specs.Text.{Text, bytes, same, lower, same_but_case, begins}

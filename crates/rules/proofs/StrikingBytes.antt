@@ -2,11 +2,11 @@
 -- the rule over the numbers. Over any rules.
 -- Assumes nothing.
 use Prim.Native.Nat.{ℕ, zero, suc, ◌+◌, ◌%◌, ◌≤◌, ◌<◌}
-use mathlib.Core.Path.{◌≡◌, refl, sym, ap, ap₂, ◌∙◌}
-use mathlib.Core.Logic.{◌⊎◌, inl, inr, ◌↔◌}
+use mathlib.Core.Path.{◌≡◌, refl, sym, ap, ◌∙◌}
+use mathlib.Core.Logic.{◌⊎◌, inl, inr}
 use mathlib.Core.Bool.{Bool, true, false, cond, not}
 use mathlib.Core.List.{List, [], ◌∷◌, map}
-use lib.Dec.{T, eqb, ltb}
+use lib.Dec.{T, eqb}
 use lib.ListN.{length, get_or}
 use native.Mathlib.Omega.{arith}
 use native.Mathlib.Nat.{le_of_suc-le-suc, not-suc-le-zero}
@@ -17,13 +17,13 @@ use Rattle.rules.specs.declared.Verdict.{Verdict}
 use Rattle.rules.specs.Text.{Text}
 use Rattle.rules.specs.Rules.{Rules}
 use Rattle.rules.specs.Fields.{Qso}
-use Rattle.rules.specs.Log.{Log, render, valid, IsWrittenAs}
-use Rattle.rules.specs.Judging.{class_number, is, verdict_number, claims_points, verdicts, verdicts_of_log, totals_of_log}
-use Rattle.rules.specs.Reading.{accepted, refusal, read}
-use Rattle.rules.specs.Answers.{judged, unjudged, judge_log, judge_reading, judge, written}
-use Rattle.rules.specs.Striking.{Places, later, kept, strike, place_after, marked, strike_out}
-use Rattle.rules.specs.Demands.{qso_at, verdict_at, class_at, same_call_as, StrikesRightly, StrikesCheaply}
-use Rattle.rules.specs.StrikingDemands.{result_of, Tells, IsKept, told_after, ToldDuplicatesClaimNothing, StrikesRightlyInBytes, StrikesCheaplyInBytes, JudgedBeforeAndAfter, StrikingRuleInBytes, NoLonger, NothingStruck, TheStriker}
+use Rattle.rules.specs.Log.{Log, render, valid}
+use Rattle.rules.specs.Judging.{class_number, is, verdict_number, verdicts, verdicts_of_log, totals_of_log}
+use Rattle.rules.specs.Reading.{accepted, read}
+use Rattle.rules.specs.Answers.{judged, judge_log, judge_reading, judge}
+use Rattle.rules.specs.Striking.{Places, later, kept, strike, place_after, marked}
+use Rattle.rules.specs.Demands.{qso_at, verdict_at, class_at, StrikesRightly}
+use Rattle.rules.specs.StrikingDemands.{Tells, IsKept, ToldDuplicatesClaimNothing, StrikesRightlyInBytes, StrikesCheaplyInBytes, StrikingRuleInBytes, NoLonger, NothingStruck, TheStriker}
 use Rattle.rules.proofs.Tests.{holds, either}
 use Rattle.rules.proofs.Classes.{is→equal, length_verdicts}
 use Rattle.rules.proofs.Falls.{striking_rule_lem}

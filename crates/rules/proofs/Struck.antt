@@ -9,7 +9,7 @@ use lib.ListN.{length}
 use native.Mathlib.Omega.{arith}
 use borrow.Author.Tests.{leb-true, le-leb}
 use Rattle.rules.specs.Text.{Text}
-use Rattle.rules.specs.Rules.{Rules, base}
+use Rattle.rules.specs.Rules.{Rules}
 use Rattle.rules.specs.Fields.{Qso, field_rules}
 use Rattle.rules.specs.Arguments.{every}
 use Rattle.rules.specs.Log.{Log, count_line, record_line, ended, render, line_rule, conjunction, record_rules, valid}

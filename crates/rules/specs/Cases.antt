@@ -19,7 +19,7 @@ use Rattle.rules.specs.Reading.{FirstLine, a_line, no_line, first_line, RecordRu
 use Rattle.rules.specs.Answers.{view, refusal_of_view, start_of_view, viewed, listed_of_view, judge, refusal_of_judgement, totals_of_judgement, numbers_of_judgement, write, refusal_of_writing, bytes_of_writing, refusal_of_reading, records_of_reading, respelt_of_reading, over}
 use Rattle.rules.specs.Mending.{mended_text, Change, changes, Rooms, mend, refusal_of_mending, bytes_of_mending, kinds_of_mending, lines_of_mending}
 use Rattle.rules.specs.Session.{Session, session, Call, Reply, session_verdicts, session_totals, has_place, session_after, replies_to}
-use Rattle.rules.specs.Link.{Link, opened, Lent, feed, Closed, close, link_verdicts}
+use Rattle.rules.specs.Link.{Link, opened, Lent, feed, close, link_verdicts}
 use Rattle.rules.specs.Striking.{Places, strike, place_after, struck_worth, strike_out}
 use Rattle.rules.specs.Desk.{desk}
 

@@ -1,7 +1,6 @@
 -- The table's cases of the link (W7).
 -- Assumes nothing.
-use Rattle.std.specs.Prelude.{ℕ, ◌+◌, length, take, drop, replicate}
-use Prim.Native.String.{String}
+use Rattle.std.specs.Prelude.{ℕ, length, take, drop, replicate}
 use mathlib.Core.List.{List, [], ◌∷◌, ◌++◌, flat_map}
 use Rattle.rules.specs.Text.{Text, bytes}
 use Rattle.rules.specs.Cases.{Case, case, LinkCall, feeds, closes, links}

@@ -1,9 +1,9 @@
 -- The table's cases of whole logs.
 -- Assumes nothing.
-use Rattle.std.specs.Prelude.{ℕ, zero, suc, ◌-◌, ◌+◌, ◌*◌, Bool, true, false, ◌||◌, List, [], ◌∷◌, ◌++◌, map, eqb, length, set, take, drop, replicate}
+use Rattle.std.specs.Prelude.{ℕ, zero, suc, ◌-◌, ◌+◌, ◌*◌, true, false, ◌||◌, List, [], ◌∷◌, ◌++◌, map, eqb, length, set, take, drop, replicate}
 use Prim.Native.String.{String}
 use Rattle.rules.specs.Text.{Text, bytes, parts}
-use Rattle.rules.specs.Fields.{Qso, qso_of}
+use Rattle.rules.specs.Fields.{qso_of}
 use Rattle.rules.specs.Log.{Log}
 use Rattle.rules.specs.Striking.{Places}
 use Rattle.rules.specs.TableArguments.{turned}

@@ -1,13 +1,13 @@
 -- From what was read to what is answered: the text that is put together by places is what is left of the log, and where it does not fit nothing is
 -- written.
 -- Assumes nothing.
-use Prim.Native.Nat.{ℕ, ◌+◌, ◌-◌, ◌≤◌, ◌<◌}
+use Prim.Native.Nat.{ℕ, ◌+◌, ◌≤◌, ◌<◌}
 use native.Mathlib.Omega.{arith}
-use mathlib.Core.Bool.{Bool, true, false, cond}
-use mathlib.Core.List.{List, [], ◌∷◌, ◌++◌, map}
+use mathlib.Core.Bool.{false}
+use mathlib.Core.List.{List, ◌++◌}
 use mathlib.Core.Path.{◌≡◌, refl, sym, ap, subst, ◌∙◌}
-use lib.Dec.{leb, ltb}
-use lib.ListN.{length, take, drop, length-append, length-map, length-take}
+use lib.Dec.{ltb}
+use lib.ListN.{length, take, length-append, length-map, length-take}
 use lib.Seq.{length-take-le}
 use borrow.Author.Tests.{leb-true, le-leb, lt-leb, le-ltb, lt-ltb}
 use Rattle.reader.proofs.RecordsHeld.{records_start}
@@ -17,10 +17,9 @@ use Rattle.reader.specs.Read.{read_told, read_of}
 use Rattle.reader.specs.declared.Contact.{Contact}
 use Rattle.reader.specs.declared.Heading.{Heading}
 use Rattle.reader.specs.declared.ReadAnswer.{ReadAnswer}
-use Rattle.reader.specs.declared.ReadAnswer.TheVariants as ReadAnswer
 use Rattle.rules.proofs.Format.{accepted_when_written}
 use Rattle.rules.proofs.StrikingGiven.{strike_accepted, strike_refused}
-use Rattle.rules.specs.Answers.{Writing, written, unwritten, bytes_of_writing, over}
+use Rattle.rules.specs.Answers.{written, unwritten, bytes_of_writing, over}
 use Rattle.rules.specs.Log.{Log, count_line, crlf, render}
 use Rattle.rules.specs.Reading.{Reading, accepted, refused, refusal, read}
 use Rattle.rules.specs.Rules.{Rules}

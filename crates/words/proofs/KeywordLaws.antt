@@ -19,10 +19,8 @@ use Rattle.rules.proofs.SpellingLaws.{case_length, listed_has}
 use Rattle.rules.proofs.Tests.{and_l, and_r, fails}
 use Rattle.fields.proofs.FieldLaws.{characters, take_characters}
 use Rattle.header.specs.declared.KeywordRead.{KeywordRead}
-use Rattle.header.specs.declared.KeywordRead.TheVariants as KeywordRead
 use Rattle.header.specs.Header.{first_keyword, keyword_at}
 use Rattle.words.specs.declared.Named.{Named}
-use Rattle.words.specs.declared.Named.TheVariants as Named
 use Rattle.words.specs.Words.{has_first, keyword_from, count_named, named_by}
 
 -- A line has the keyword in the listed spelling and in any other.

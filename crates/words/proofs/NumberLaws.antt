@@ -17,7 +17,6 @@ use Rattle.rules.proofs.Tests.{and_l, and_r, fails}
 use Rattle.fields.specs.Field.{in_field}
 use Rattle.fields.proofs.PartLaws.{whole_span}
 use Rattle.figures.specs.declared.NumberRead.{NumberRead}
-use Rattle.figures.specs.declared.NumberRead.TheVariants as NumberRead
 use Rattle.figures.specs.Figure.{number_at}
 use Rattle.figures.proofs.Picked.{number_picked, number_refused}
 use Rattle.header.proofs.DueLaws.{argument_broken, argument_ends}

@@ -5,7 +5,6 @@ use Prim.Native.String.{String}
 use Rattle.rules.specs.Rules.{base}
 use Rattle.rules.specs.Text.{bytes}
 use Rattle.words.specs.declared.Named.{Named}
-use Rattle.words.specs.declared.Named.TheVariants as Named
 use Rattle.words.specs.Words.{names_records, marked_by, named_by}
 
 -- # Records

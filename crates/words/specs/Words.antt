@@ -7,7 +7,6 @@ use Rattle.rules.specs.Reading.{has_keyword}
 use Rattle.rules.specs.Rules.{Rules}
 use Rattle.rules.specs.Text.{Text, all, span, same_but_case, value, number_from}
 use Rattle.words.specs.declared.Named.{Named}
-use Rattle.words.specs.declared.Named.TheVariants as Named
 
 -- # Records
 

@@ -2,12 +2,12 @@
 -- Assumes nothing.
 use Prim.Native.Nat.{ℕ, zero, suc, ◌+◌, ◌≤◌, ◌<◌}
 use native.Mathlib.Omega.{arith}
-use mathlib.Core.Bool.{Bool, true, false, cond}
-use mathlib.Core.List.{List, [], ◌∷◌, ◌++◌, map, append_assoc}
+use mathlib.Core.Bool.{Bool, true, cond}
+use mathlib.Core.List.{List, [], ◌∷◌, ◌++◌, append_assoc}
 use mathlib.Core.Path.{◌≡◌, refl, sym, ap, ap₂, subst, subst₂, ◌∙◌}
 use lib.Dec.{eqb}
 use lib.ListN.{length, take, drop, length-append, drop_of_length-le}
-use lib.Seq.{take-append_seam, drop-append_seam, drop-append-add, drop-drop}
+use lib.Seq.{take-append_seam, drop-append_seam, drop-append-add}
 use borrow.Author.Tests.{eqb-true, eq-eqb, ne_eqb}
 use Rattle.header.specs.Header.{listed_at}
 use Rattle.header.proofs.TableLaws.{word_length, listed_within, listed_entry}
@@ -21,7 +21,7 @@ use Rattle.rules.proofs.SpellingLaws.{case_length, length_start, spelling_count,
 use Rattle.rules.proofs.Tests.{never, and_l, and_r}
 use Rattle.rules.proofs.TextLaws.{all_back, span_run}
 use Rattle.rules.specs.Arguments.{Entry, entries, every}
-use Rattle.rules.specs.Log.{Log, identifier, remarks_line, count_line, keyword_start, keyword_lines, keywords_of, respelt, keyword_rules, record_line, lines_of, crlf, ended, render}
+use Rattle.rules.specs.Log.{Log, identifier, keyword_start, keyword_lines, keywords_of, respelt, keyword_rules, crlf, ended, render}
 use Rattle.rules.specs.Demands.{spelt}
 use Rattle.rules.specs.Text.{Text, all, allowed, span, same_but_case}
 use Rattle.writer.specs.ClaimsText.{line_behind}

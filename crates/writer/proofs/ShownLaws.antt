@@ -6,7 +6,6 @@ use mathlib.Core.List.{List, [], ◌∷◌, ◌++◌, append_assoc}
 use mathlib.Core.Path.{◌≡◌, refl, sym, ap, ◌∙◌}
 use lib.ListN.{length, drop, length-append}
 use Rattle.judge.specs.Judge.{judged_by, judged_of}
-use Rattle.judge.specs.declared.Judged.TheVariants as Judged
 use Rattle.judge.specs.declared.Judged.{Judged}
 use Rattle.rules.specs.Answers.{Judgement, judged, unjudged, judge, over}
 use Rattle.rules.specs.Desk.{shown_line, shown_modes, shown_totals, shown_refusal, shown, desk}

@@ -9,7 +9,6 @@ use lib.Seq.{take_at, take_all}
 use borrow.Author.Tests.{leb-true, le-ltb}
 use Rattle.judge.specs.Judge.{first_of, heading_in, weighed_by, weighed_of, verdicts_afterwards}
 use Rattle.judge.specs.declared.Weighed.{Weighed}
-use Rattle.judge.specs.declared.Weighed.TheVariants as Weighed
 use Rattle.reader.proofs.RecordsHeld.{records_start}
 use Rattle.reader.specs.Contact.{contacts_at}
 use Rattle.reader.specs.Noted.{contacts_read, listed}

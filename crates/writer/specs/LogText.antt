@@ -5,7 +5,6 @@ use Rattle.rules.specs.Answers.{Writing, written, unwritten, write, bytes_of_wri
 use Rattle.rules.specs.Rules.{Rules}
 use Rattle.rules.specs.Text.{Text}
 use Rattle.writer.specs.declared.Wrote.{Wrote}
-use Rattle.writer.specs.declared.Wrote.TheVariants as Wrote
 
 -- How long the result is, or the refusal.
 unfoldable pub wrote_by : Writing → Wrote

@@ -1,6 +1,6 @@
 -- The lines of the modes, as they are laid one behind the other.
 -- Assumes nothing.
-use Rattle.std.specs.Prelude.{ℕ, List, [], ◌∷◌, ◌++◌, get_or}
+use Rattle.std.specs.Prelude.{ℕ, List, ◌∷◌, ◌++◌, get_or}
 use Rattle.rules.specs.Text.{Text, bytes, digits}
 use Rattle.writer.specs.Written.{texts}
 

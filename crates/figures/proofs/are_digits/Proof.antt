@@ -6,7 +6,6 @@ use Rattle.rules.specs.Text.{all}
 use Rattle.figures.proofs.are_digits.Statement.{statement}
 use Rattle.figures.proofs.are_digits.Tie as tie
 
-
 is_digit_requires : tie.Need-is_digit-requires
 is_digit_requires c κs = tt
 

@@ -5,7 +5,6 @@ use Rattle.figures.proofs.LimitLaws.{readable, bound_read}
 use Rattle.figures.proofs.bonus_of.Statement.{statement}
 use Rattle.figures.proofs.bonus_of.Tie as tie
 
-
 most_bonus_requires : tie.Need-most_bonus-requires
 most_bonus_requires c κs = tt
 

@@ -4,7 +4,6 @@ use Rattle.figures.proofs.LimitLaws.{readable, digits_read}
 use Rattle.figures.proofs.claimed_bonus.Statement.{statement}
 use Rattle.figures.proofs.claimed_bonus.Tie as tie
 
-
 claimed_bonus_digits_requires : tie.Need-claimed_bonus_digits-requires
 claimed_bonus_digits_requires c κs = tt
 

@@ -4,7 +4,6 @@ use Rattle.figures.proofs.LimitLaws.{readable, digits_read}
 use Rattle.figures.proofs.claimed_points.Statement.{statement}
 use Rattle.figures.proofs.claimed_points.Tie as tie
 
-
 claimed_points_digits_requires : tie.Need-claimed_points_digits-requires
 claimed_points_digits_requires c κs = tt
 

@@ -4,7 +4,6 @@ use Rattle.figures.proofs.LimitLaws.{readable, digits_read}
 use Rattle.figures.proofs.claimed_total.Statement.{statement}
 use Rattle.figures.proofs.claimed_total.Tie as tie
 
-
 claimed_total_digits_requires : tie.Need-claimed_total_digits-requires
 claimed_total_digits_requires c κs = tt
 

@@ -5,7 +5,6 @@ use Rattle.figures.proofs.LimitLaws.{readable, bound_read}
 use Rattle.figures.proofs.count_of.Statement.{statement}
 use Rattle.figures.proofs.count_of.Tie as tie
 
-
 most_count_requires : tie.Need-most_count-requires
 most_count_requires c κs = tt
 

@@ -9,7 +9,6 @@ use Rattle.figures.proofs.DateLaws.{date_empty, date_short, date_unended, date_o
 use Rattle.figures.proofs.date.Statement.{statement}
 use Rattle.figures.proofs.date.Tie as tie
 
-
 -- The field has not ended at its place.
 goes_on_lem : (c : tie.Else-ends) → ends_at c.args.s.now c.args.at ≡ false
 goes_on_lem c = sym c.ends.ensures ∙ c.if-ends.false

@@ -3,7 +3,6 @@ use Rattle.figures.proofs.CalendarLaws.{exists_no_month, exists_beyond, exists_n
 use Rattle.figures.proofs.day_exists.Statement.{statement}
 use Rattle.figures.proofs.day_exists.Tie as tie
 
-
 returns : tie.Need-returns-then-month-lt1
 returns c = exists_no_month _ _ _ c.if-month-lt1.true
 

@@ -4,7 +4,6 @@ use Rattle.figures.proofs.LimitLaws.{readable, digits_read}
 use Rattle.figures.proofs.distance.Statement.{statement}
 use Rattle.figures.proofs.distance.Tie as tie
 
-
 distance_digits_requires : tie.Need-distance_digits-requires
 distance_digits_requires c κs = tt
 

@@ -4,7 +4,6 @@ use Rattle.figures.proofs.CalendarLaws.{year_ninety, year_later}
 use Rattle.figures.proofs.full_year.Statement.{statement}
 use Rattle.figures.proofs.full_year.Tie as tie
 
-
 add_result : tie.Need-overflow_add-result
 add_result c = search rules
 

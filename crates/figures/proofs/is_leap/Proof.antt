@@ -3,7 +3,6 @@ use Rattle.figures.proofs.CalendarLaws.{leap_four_hundred, leap_hundred, leap_fo
 use Rattle.figures.proofs.is_leap.Statement.{statement}
 use Rattle.figures.proofs.is_leap.Tie as tie
 
-
 returns : tie.Need-returns-then-year-eq0
 returns c = leap_four_hundred _ c.if-year-eq0.true
 

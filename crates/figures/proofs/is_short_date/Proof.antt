@@ -12,7 +12,6 @@ use Rattle.figures.proofs.ExactLaws.{goes_on_lem, stops}
 use Rattle.figures.proofs.is_short_date.Statement.{statement}
 use Rattle.figures.proofs.is_short_date.Tie as tie
 
-
 -- The function's start, from each of its places, and the six characters.
 abbrev start1 : tie.Else-not-are_digits → tie.Start
 start1 c = c.before.before

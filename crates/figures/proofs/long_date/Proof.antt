@@ -10,7 +10,6 @@ use Rattle.figures.proofs.NumberLaws.{end_here}
 use Rattle.figures.proofs.long_date.Statement.{statement}
 use Rattle.figures.proofs.long_date.Tie as tie
 
-
 -- The field ends behind the digits that were read.
 ended : (c : tie.Else-not-ends) → ends_at c.args.s.now c.read_digits-run.result.end ≡ true
 ended c = sym c.ends.ensures ∙ not-false _ c.if-not-ends.false-raw

@@ -7,7 +7,6 @@ use Rattle.figures.proofs.CalendarLaws.{length_plain, length_common, length_leap
 use Rattle.figures.proofs.month_length.Statement.{statement}
 use Rattle.figures.proofs.month_length.Tie as tie
 
-
 add_days : tie.Need-overflow_add-days
 add_days c = search rules
 

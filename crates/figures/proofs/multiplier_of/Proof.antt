@@ -5,7 +5,6 @@ use Rattle.figures.proofs.LimitLaws.{readable, bound_read}
 use Rattle.figures.proofs.multiplier_of.Statement.{statement}
 use Rattle.figures.proofs.multiplier_of.Tie as tie
 
-
 most_multiplier_requires : tie.Need-most_multiplier-requires
 most_multiplier_requires c κs = tt
 

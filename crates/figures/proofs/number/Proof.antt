@@ -9,7 +9,6 @@ use Rattle.figures.proofs.NumberLaws.{reads_no_end, reads_none, reads_plain, rea
 use Rattle.figures.proofs.number.Statement.{statement}
 use Rattle.figures.proofs.number.Tie as tie
 
-
 -- The field ends behind the digits that were read.
 ended : (c : tie.Else-not-ends) → ends_at c.args.s.now c.read_digits-run.result.end ≡ true
 ended c = sym c.ends.ensures ∙ not-false _ c.if-not-ends.false-raw

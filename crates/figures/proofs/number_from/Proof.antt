@@ -8,7 +8,6 @@ use Rattle.figures.proofs.BoundLaws.{from_none, from_low, from_high, from_good}
 use Rattle.figures.proofs.number_from.Statement.{statement}
 use Rattle.figures.proofs.number_from.Tie as tie
 
-
 -- The function's start, from where a number was read, and what was read.
 abbrev start : tie.In-Number → tie.Start
 start c = c.before.before.before

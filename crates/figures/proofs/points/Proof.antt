@@ -4,7 +4,6 @@ use Rattle.figures.proofs.LimitLaws.{readable, digits_read}
 use Rattle.figures.proofs.points.Statement.{statement}
 use Rattle.figures.proofs.points.Tie as tie
 
-
 points_digits_requires : tie.Need-points_digits-requires
 points_digits_requires c κs = tt
 

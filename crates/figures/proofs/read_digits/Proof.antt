@@ -13,7 +13,6 @@ use Rattle.figures.proofs.NumberLaws.{digits_more, digits_enough, digits_stop, d
 use Rattle.figures.proofs.read_digits.Statement.{statement}
 use Rattle.figures.proofs.read_digits.Tie as tie
 
-
 abbrev invariant-loop : tie.invariant-loop-i
 invariant-loop s at most value₀ left₀ i₀ value left i =
     (left ≤ most) × (value < 10 ^ (most - left)) × (digits_at most s at ≡ digits_from left value s i)

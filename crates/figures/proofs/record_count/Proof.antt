@@ -4,7 +4,6 @@ use Rattle.figures.proofs.LimitLaws.{readable, bound_read}
 use Rattle.figures.proofs.record_count.Statement.{statement}
 use Rattle.figures.proofs.record_count.Tie as tie
 
-
 most_records_requires : tie.Need-most_records-requires
 most_records_requires c κs = tt
 

@@ -7,7 +7,6 @@ use Rattle.figures.proofs.TimeLaws.{time_short, time_unended, time_none, time_so
 use Rattle.figures.proofs.time.Statement.{statement}
 use Rattle.figures.proofs.time.Tie as tie
 
-
 -- From behind the look at the four characters, back to where the field's end was seen.
 abbrev ended : tie.After-from_digits → tie.Else-not-ends
 ended c = c.before.before.before.before.before

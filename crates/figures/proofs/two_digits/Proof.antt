@@ -8,7 +8,6 @@ use Rattle.figures.proofs.TimeLaws.{two_digits}
 use Rattle.figures.proofs.two_digits.Statement.{statement}
 use Rattle.figures.proofs.two_digits.Tie as tie
 
-
 sub_result : tie.Need-overflow_sub-result
 unfolding all
 sub_result c = digit_least _ (and_l (digit c.args.a) (digit c.args.b && true) c.requires)

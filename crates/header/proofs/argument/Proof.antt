@@ -9,7 +9,6 @@ use Rattle.header.proofs.ArgumentLaws.{one_of, answered, beyond_table}
 use Rattle.header.proofs.argument.Statement.{statement}
 use Rattle.header.proofs.argument.Tie as tie
 
-
 -- The arms of the `match` with single numbers, the last first.
 abbrev arms : List (List ℕ)
 arms =

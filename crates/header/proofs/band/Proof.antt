@@ -10,7 +10,6 @@ use Rattle.header.proofs.BandLaws.{band_here, band_later, no_band, band_told}
 use Rattle.header.proofs.band.Statement.{statement}
 use Rattle.header.proofs.band.Tie as tie
 
-
 abbrev invariant-loop : tie.invariant-loop-k
 invariant-loop t k₀ k = among band_names t ≡ among (drop k band_names) t
 

@@ -9,7 +9,6 @@ use Rattle.header.proofs.WordLaws.{case_more, case_differs, case_done, case_shor
 use Rattle.header.proofs.begins_in_any_case.Statement.{statement}
 use Rattle.header.proofs.begins_in_any_case.Tie as tie
 
-
 abbrev invariant-loop : tie.invariant-loop-i
 invariant-loop word s i₀ i = begins (map lower word) (map lower s) ≡ begins (drop i (map lower word)) (drop i (map lower s))
 

@@ -8,7 +8,6 @@ use Rattle.header.proofs.WordLaws.{begins_more, begins_differs, begins_done, beg
 use Rattle.header.proofs.begins_with.Statement.{statement}
 use Rattle.header.proofs.begins_with.Tie as tie
 
-
 abbrev invariant-loop : tie.invariant-loop-i
 invariant-loop word s i₀ i = begins word s ≡ begins (drop i word) (drop i s)
 

@@ -6,7 +6,6 @@ use Rattle.header.proofs.BandLaws.{band_name, front_fits, front_length}
 use Rattle.header.proofs.is_band.Statement.{statement}
 use Rattle.header.proofs.is_band.Tie as tie
 
-
 mul_name : tie.Need-offset_bounds-k
 mul_name c = search rules
 

@@ -6,7 +6,6 @@ use Rattle.header.proofs.BandLaws.{band_listed, band_differs}
 use Rattle.header.proofs.is_band_name.Statement.{statement}
 use Rattle.header.proofs.is_band_name.Tie as tie
 
-
 band_requires : tie.Need-band-requires
 band_requires c κs = tt
 

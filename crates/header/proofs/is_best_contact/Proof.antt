@@ -17,7 +17,6 @@ use Rattle.header.proofs.RuleLaws.{number_kept}
 use Rattle.header.proofs.is_best_contact.Statement.{statement}
 use Rattle.header.proofs.is_best_contact.Tie as tie
 
-
 abbrev parts_rules : List (Text → Bool)
 parts_rules = empty_or call ∷ empty_or locator ∷ number_of base.distance_digits ∷ []
 

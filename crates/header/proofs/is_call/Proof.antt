@@ -9,7 +9,6 @@ use Rattle.header.proofs.RuleLaws.{call_apart}
 use Rattle.header.proofs.is_call.Statement.{statement}
 use Rattle.header.proofs.is_call.Tie as tie
 
-
 call_requires : tie.Need-call-requires
 call_requires c κs = tt
 

@@ -6,7 +6,6 @@ use Rattle.header.proofs.RuleLaws.{no_number, whole_number}
 use Rattle.header.proofs.is_claimed_bonus.Statement.{statement}
 use Rattle.header.proofs.is_claimed_bonus.Tie as tie
 
-
 claimed_bonus_requires : tie.Need-claimed_bonus-requires
 claimed_bonus_requires c κs = tt
 

@@ -6,7 +6,6 @@ use Rattle.header.proofs.RuleLaws.{no_number, whole_number}
 use Rattle.header.proofs.is_claimed_points.Statement.{statement}
 use Rattle.header.proofs.is_claimed_points.Tie as tie
 
-
 claimed_points_requires : tie.Need-claimed_points-requires
 claimed_points_requires c κs = tt
 

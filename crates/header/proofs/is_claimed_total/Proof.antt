@@ -6,7 +6,6 @@ use Rattle.header.proofs.RuleLaws.{no_number, whole_number}
 use Rattle.header.proofs.is_claimed_total.Statement.{statement}
 use Rattle.header.proofs.is_claimed_total.Tie as tie
 
-
 claimed_total_requires : tie.Need-claimed_total-requires
 claimed_total_requires c κs = tt
 

@@ -16,7 +16,6 @@ use Rattle.header.proofs.RuleLaws.{number_kept}
 use Rattle.header.proofs.is_count_and_multiplier.Statement.{statement}
 use Rattle.header.proofs.is_count_and_multiplier.Tie as tie
 
-
 abbrev parts_rules : List (Text → Bool)
 parts_rules = count base ∷ multiplier base ∷ []
 

@@ -9,7 +9,6 @@ use Rattle.header.proofs.RuleLaws.{call_apart, empty_or_apart}
 use Rattle.header.proofs.is_empty_or_call.Statement.{statement}
 use Rattle.header.proofs.is_empty_or_call.Tie as tie
 
-
 call_or_empty_requires : tie.Need-call_or_empty-requires
 call_or_empty_requires c κs = tt
 

@@ -15,7 +15,6 @@ use Rattle.header.proofs.CallsLaws.{every_broken, every_last, every_more, every_
 use Rattle.header.proofs.is_empty_or_calls.Statement.{statement}
 use Rattle.header.proofs.is_empty_or_calls.Tie as tie
 
-
 abbrev invariant-loop : tie.invariant-loop-at
 invariant-loop t at₀ at = (at ≤ length t) × (every call (parts t) ≡ every call (parts (drop at t)))
 

@@ -10,7 +10,6 @@ use Rattle.header.proofs.RuleLaws.{exchange_apart}
 use Rattle.header.proofs.is_exchange.Statement.{statement}
 use Rattle.header.proofs.is_exchange.Tie as tie
 
-
 exchange_requires : tie.Need-exchange-requires
 exchange_requires c κs = tt
 

@@ -9,7 +9,6 @@ use Rattle.header.proofs.RuleLaws.{locator_apart}
 use Rattle.header.proofs.is_locator.Statement.{statement}
 use Rattle.header.proofs.is_locator.Tie as tie
 
-
 locator_requires : tie.Need-locator-requires
 locator_requires c κs = tt
 

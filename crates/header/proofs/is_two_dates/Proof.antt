@@ -17,7 +17,6 @@ use Rattle.header.proofs.DueLaws.{Due, due_first, due_next, due_broken, due_last
 use Rattle.header.proofs.is_two_dates.Statement.{statement}
 use Rattle.header.proofs.is_two_dates.Tie as tie
 
-
 -- The function's start, from behind each date that was read.
 abbrev start1 : tie.In-Date → tie.Start
 start1 c = c.before.before.before

@@ -8,7 +8,6 @@ use Rattle.header.proofs.TableLaws.{keyword_known, keyword_beyond}
 use Rattle.header.proofs.keyword.Statement.{statement}
 use Rattle.header.proofs.keyword.Tie as tie
 
-
 returns : tie.Need-returns-then-k-ge36
 returns c = keyword_beyond _ _ c.if-k-ge36.true
 

@@ -1,13 +1,11 @@
 -- What is handed out is the word at this place of the paper's table.
 use mathlib.Core.List.{[]}
-use mathlib.Core.Path.{◌∙◌}
 use borrow.Author.Rules.{rules}
 use Rattle.rules.specs.Arguments.{entries}
 use Rattle.rules.specs.Log.{keyword_start, keywords_of}
 use Rattle.header.proofs.TableLaws.{listed_within, listed_beyond}
 use Rattle.header.proofs.listed.Statement.{statement}
 use Rattle.header.proofs.listed.Tie as tie
-
 
 returns : tie.Need-returns-then-k-ge36
 returns c = listed_beyond _ c.if-k-ge36.true

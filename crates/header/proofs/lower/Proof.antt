@@ -6,7 +6,6 @@ use Rattle.header.proofs.WordLaws.{lower_by, capital_low}
 use Rattle.header.proofs.lower.Statement.{statement}
 use Rattle.header.proofs.lower.Tie as tie
 
-
 is_capital_requires : tie.Need-is_capital-requires
 is_capital_requires c κs = tt
 

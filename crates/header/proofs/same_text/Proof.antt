@@ -5,7 +5,6 @@ use Rattle.header.proofs.WordLaws.{same_long}
 use Rattle.header.proofs.same_text.Statement.{statement}
 use Rattle.header.proofs.same_text.Tie as tie
 
-
 returns : tie.Need-returns-then-a-b
 returns c = same_apart _ _ c.if-a-b.true
 

@@ -4,7 +4,6 @@ use Rattle.header.proofs.TableLaws.{spelling_listed, spelling_respelt, spelling_
 use Rattle.header.proofs.spelling.Statement.{statement}
 use Rattle.header.proofs.spelling.Tie as tie
 
-
 begins_with_requires : tie.Need-begins_with-requires
 begins_with_requires c κs = tt
 

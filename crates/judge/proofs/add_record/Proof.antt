@@ -8,7 +8,6 @@ use Rattle.judge.proofs.CountLaws.{void_sums, duplicate_sums, error_sums, other_
 use Rattle.judge.proofs.add_record.Statement.{statement}
 use Rattle.judge.proofs.add_record.Tie as tie
 
-
 enum_told : tie.Need-enum_told-1
 enum_told c = search rules
 

@@ -12,7 +12,6 @@ use Rattle.judge.proofs.SumLaws.{not_few}
 use Rattle.judge.proofs.are_few.Statement.{statement}
 use Rattle.judge.proofs.are_few.Tie as tie
 
-
 -- Where the most records were asked for, from where each count is looked at.
 abbrev look1 : tie.After-struct_known-1 → tie.After-most_records-most
 look1 c = c.before

@@ -12,7 +12,6 @@ use Rattle.judge.proofs.SumLaws.{Nearly, not_sound, sound_without, sound_with}
 use Rattle.judge.proofs.are_sums.Statement.{statement}
 use Rattle.judge.proofs.are_sums.Tie as tie
 
-
 -- Where each test was left, by the one behind it, and where the code begins.
 abbrev start : tie.Else-not-are_few → tie.Start
 start c = c.before.before.before

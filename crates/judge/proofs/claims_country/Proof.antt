@@ -11,7 +11,6 @@ use Rattle.reader.proofs.PlaceLaws.{no_new, new_by_byte}
 use Rattle.judge.proofs.claims_country.Statement.{statement}
 use Rattle.judge.proofs.claims_country.Tie as tie
 
-
 third_mark_requires : tie.Need-third_mark-third-requires
 third_mark_requires c κs = search rules
 

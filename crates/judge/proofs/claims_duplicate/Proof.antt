@@ -13,7 +13,6 @@ use Rattle.judge.proofs.ToldLaws.{three_on}
 use Rattle.judge.proofs.claims_duplicate.Statement.{statement}
 use Rattle.judge.proofs.claims_duplicate.Tie as tie
 
-
 third_mark_requires : tie.Need-third_mark-requires
 third_mark_requires c κs = search rules
 

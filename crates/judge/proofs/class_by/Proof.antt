@@ -3,7 +3,6 @@ use Rattle.judge.proofs.SaidLaws.{class_error, class_duplicate, class_credited, 
 use Rattle.judge.proofs.class_by.Statement.{statement}
 use Rattle.judge.proofs.class_by.Tie as tie
 
-
 returns : tie.Need-returns-then-error
 returns c = class_error _ _ _ c.if-error.true
 

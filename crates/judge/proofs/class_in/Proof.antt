@@ -4,7 +4,6 @@ use Rattle.judge.specs.Sums.{class_in}
 use Rattle.judge.proofs.class_in.Statement.{statement}
 use Rattle.judge.proofs.class_in.Tie as tie
 
-
 returns : tie.Need-returns-then-bits-eq0
 unfolding class_in
 returns c = rw (eq-eqb _ 0 c.if-bits-eq0.true)

@@ -5,7 +5,6 @@ use Rattle.rules.specs.Judging.{class_number}
 use Rattle.judge.proofs.class_number.Statement.{statement}
 use Rattle.judge.proofs.class_number.Tie as tie
 
-
 enum_told : tie.Need-enum_told-1
 enum_told c = search rules
 

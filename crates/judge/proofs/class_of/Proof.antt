@@ -15,7 +15,6 @@ use Rattle.judge.proofs.StepLaws.{noted_error, noted_points, noted_void, noted_m
 use Rattle.judge.proofs.class_of.Statement.{statement}
 use Rattle.judge.proofs.class_of.Tie as tie
 
-
 -- The call lies within the log.
 from : (c : tie.Start) → c.args.p.call ≤ end_of c.args.s.now c.args.p.call
 from c = omega (arith, end_by_span c.args.s.now c.args.p.call)

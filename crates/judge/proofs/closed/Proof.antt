@@ -6,7 +6,6 @@ use Rattle.judge.proofs.CountLaws.{Closes, closes}
 use Rattle.judge.proofs.closed.Statement.{statement}
 use Rattle.judge.proofs.closed.Tie as tie
 
-
 -- Where the code begins, from where the bonuses are made.
 abbrev multiplied : tie.After-struct_known-6-1 → tie.Start
 multiplied c = c.before.before.before.before.before.before

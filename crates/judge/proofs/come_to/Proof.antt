@@ -8,7 +8,6 @@ use Rattle.judge.proofs.SumLaws.{together, come_begun, come_on, come_over, come_
 use Rattle.judge.proofs.come_to.Statement.{statement}
 use Rattle.judge.proofs.come_to.Tie as tie
 
-
 abbrev invariant-loop : tie.invariant-loop-mode
 invariant-loop n list left₀ mode₀ left mode =
     (mode ≤ 11) × (eqb (together list 11 0) n ≡ eqb (together list (11 - mode) mode) left)

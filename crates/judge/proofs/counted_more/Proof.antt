@@ -1,7 +1,6 @@
 -- A record is added in the judge's own numbers, none of which runs over, and the last bytes are kept.
 use native.Mathlib.Omega.{arith}
 use mathlib.Core.Path.{◌≡◌, ap, subst, ◌∙◌}
-use Prim.Native.Nat.{◌-◌}
 use borrow.Author.Rules.{rules}
 use Rattle.judge.specs.Count.{tallied, add_record, mode_place}
 use Rattle.judge.specs.Sums.{verdict_in}
@@ -9,15 +8,6 @@ use Rattle.judge.specs.Narrow.{SmallTally, SmallModes, totals_in, low_four, coun
 use Rattle.judge.proofs.NarrowLaws.{narrow_addable}
 use Rattle.judge.proofs.counted_more.Statement.{statement}
 use Rattle.judge.proofs.counted_more.Tie as tie
-use Rattle.judge.proofs.counted_more.Reads as reads
-use Rattle.judge.proofs.counted_more.Lts as lts
-use Rattle.judge.proofs.add_record.Reads as add-record-reads
-use Rattle.judge.proofs.counts_of.Reads as counts-of-reads
-use Rattle.judge.proofs.mode_place.Reads as mode-place-reads
-use Rattle.judge.proofs.modes_of.Reads as modes-of-reads
-use Rattle.judge.proofs.tally_of.Reads as tally-of-reads
-use Rattle.judge.proofs.verdict_in.Reads as verdict-in-reads
-
 
 modes_of_requires : tie.Need-modes_of-list-requires
 modes_of_requires c κs = search rules

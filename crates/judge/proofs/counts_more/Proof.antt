@@ -11,7 +11,6 @@ use Rattle.judge.proofs.SumLaws.{sound_facts, not_more, more_full, more_by}
 use Rattle.judge.proofs.counts_more.Statement.{statement}
 use Rattle.judge.proofs.counts_more.Tie as tie
 
-
 are_sums_requires : tie.Need-are_sums-requires
 are_sums_requires c κs = search rules
 

@@ -1,14 +1,10 @@
 -- The last two bytes of each count.
 use mathlib.Core.Path.{refl}
-use Prim.Native.Nat.{◌-◌}
 use borrow.Author.Rules.{rules}
 use Rattle.judge.specs.Count.{modes_in}
 use Rattle.judge.specs.Narrow.{counts_of}
 use Rattle.judge.proofs.counts_of.Statement.{statement}
 use Rattle.judge.proofs.counts_of.Tie as tie
-use Rattle.judge.proofs.counts_of.Reads as reads
-use Rattle.judge.proofs.counts_of.Lts as lts
-
 
 cast_t4 : tie.Need-overflow_cast-result
 cast_t4 c = search rules

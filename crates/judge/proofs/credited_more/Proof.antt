@@ -7,7 +7,6 @@ use Rattle.judge.proofs.ModeLaws.{one_counted}
 use Rattle.judge.proofs.credited_more.Statement.{statement}
 use Rattle.judge.proofs.credited_more.Tie as tie
 
-
 -- Where the code begins, from where the mode is known and from where the squares are raised.
 abbrev placed : tie.After-struct_known-1 → tie.Start
 placed c = c.before.before.before

@@ -12,7 +12,6 @@ use Rattle.judge.proofs.StepLaws.{credits}
 use Rattle.judge.proofs.credited_next.Statement.{statement}
 use Rattle.judge.proofs.credited_next.Tie as tie
 
-
 -- The places of the code, each by the one before: where the exchange ends, where it and the square were looked for, and where the marks are said.
 abbrev begun : tie.After-part_end-end → tie.Start
 begun c = c.before.before.before.before.before.before

@@ -11,7 +11,6 @@ use Rattle.judge.proofs.find.Statement.{statement}
 use Rattle.judge.proofs.find.Lts.{then-m-k, else-m-k+then-same_run}
 use Rattle.judge.proofs.find.Tie as tie
 
-
 abbrev invariant_look : tie.invariant-look
 invariant_look s places keys m place key n k₀ k =
     (k ≤ m) × (seek s places keys (part_by s place (get_or keys m 0)) m 0 ≡ seek s places keys (part_by s place (get_or keys m 0)) (m - k) k)
@@ -91,21 +90,23 @@ returns : tie.Need-returns-then-at-m invariant_look decreases_look
 returns c =
     let after = c.before.before in
     let a = c.args in
-    elim c.if-m-k.branch
-    [ then-m-k w ↦ let h = w.if-m-k.true in let k = w.at-is in absurd (omega arith)
-    | else-m-k+then-same_run w ↦
-        ap At w.at-is
-        ∙ sym
-        ((onward after).1
-        ∙ seek_here a.s.now a.places.now a.keys.now _ a.m after.next_key-k.result w.if-m-k.false
-        (compared a.s.now a.places.now a.keys.now a.place a.m after.next_key-k.result after.wide-n.ensures.0 w.wide.ensures.0 after.next_key-k.ensures.stands w.same_run.ensures w.if-same_run.true)) ]
+    elim c.if-m-k.branch [
+      | then-m-k w ↦ let h = w.if-m-k.true in let k = w.at-is in absurd (omega arith)
+      | else-m-k+then-same_run w ↦
+          ap At w.at-is
+          ∙ sym
+          ((onward after).1
+          ∙ seek_here a.s.now a.places.now a.keys.now _ a.m after.next_key-k.result w.if-m-k.false
+          (compared a.s.now a.places.now a.keys.now a.place a.m after.next_key-k.result after.wide-n.ensures.0 w.wide.ensures.0 after.next_key-k.ensures.stands w.same_run.ensures w.if-same_run.true))
+    ]
 
 returns_2 : tie.Need-returns invariant_look decreases_look
 returns_2 c =
     let after = c.before.before in
-    elim c.if-m-k.branch
-    [ then-m-k w ↦ seek_none _ _ _ _ _ _ w.if-m-k.true ∙ sym (onward after).1
-    | else-m-k+then-same_run w ↦ let h = w.if-m-k.false in let k = w.at-is in absurd (omega arith) ]
+    elim c.if-m-k.branch [
+      | then-m-k w ↦ seek_none _ _ _ _ _ _ w.if-m-k.true ∙ sym (onward after).1
+      | else-m-k+then-same_run w ↦ let h = w.if-m-k.false in let k = w.at-is in absurd (omega arith)
+    ]
 
 pub find_spec : {M : Type 1} → statement M
 find_spec =

@@ -7,7 +7,6 @@ use Rattle.judge.proofs.SumLaws.{squares_not, exchanges_not, declared_by}
 use Rattle.judge.proofs.is_declared.Statement.{statement}
 use Rattle.judge.proofs.is_declared.Tie as tie
 
-
 is_rate_requires : tie.Need-is_rate-requires
 is_rate_requires c κs = search rules
 

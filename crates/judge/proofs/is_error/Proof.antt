@@ -5,7 +5,6 @@ use Rattle.judge.proofs.PartLaws.{error_short}
 use Rattle.judge.proofs.is_error.Statement.{statement}
 use Rattle.judge.proofs.is_error.Tie as tie
 
-
 sub_if1 : tie.Need-overflow_sub-e
 sub_if1 c = search rules
 

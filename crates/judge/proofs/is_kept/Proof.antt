@@ -5,7 +5,6 @@ use Rattle.judge.proofs.PartLaws.{kept_found, kept_none}
 use Rattle.judge.proofs.is_kept.Statement.{statement}
 use Rattle.judge.proofs.is_kept.Tie as tie
 
-
 find_requires : tie.Need-find-requires
 find_requires c κs = search rules
 

@@ -8,7 +8,6 @@ use Rattle.judge.proofs.SumLaws.{not_rate, rate_by}
 use Rattle.judge.proofs.is_rate.Statement.{statement}
 use Rattle.judge.proofs.is_rate.Tie as tie
 
-
 most_bonus_requires : tie.Need-most_bonus-requires
 most_bonus_requires c κs = search rules
 

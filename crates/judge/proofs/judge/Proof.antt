@@ -6,7 +6,6 @@ use Rattle.judge.proofs.JudgeLaws.{refusal_alone, totals_alone}
 use Rattle.judge.proofs.judge.Statement.{statement}
 use Rattle.judge.proofs.judge.Tie as tie
 
-
 weigh_requires : tie.Need-weigh-requires
 weigh_requires c κs = search rules
 

@@ -15,7 +15,6 @@ use Rattle.judge.proofs.StepLaws.{classed, steps_credited, steps_other}
 use Rattle.judge.proofs.judge_next.Statement.{statement}
 use Rattle.judge.proofs.judge_next.Tie as tie
 
-
 -- The places of the code, each by the one before: where the key of the call is made, and where the class is known.
 abbrev known : tie.After-slice_known-5-1 → tie.Start
 known c = c.before.before.before.before.before.before

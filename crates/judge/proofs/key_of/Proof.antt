@@ -7,7 +7,6 @@ use Rattle.judge.proofs.PartLaws.{key_told}
 use Rattle.judge.proofs.key_of.Statement.{statement}
 use Rattle.judge.proofs.key_of.Tie as tie
 
-
 sub_if1 : tie.Need-overflow_sub-e
 sub_if1 c = search rules
 

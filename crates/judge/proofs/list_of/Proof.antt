@@ -1,13 +1,9 @@
 -- Eleven numbers of two bytes, one behind the other.
 use native.Mathlib.Omega.{arith}
 use mathlib.Core.Path.{refl}
-use Prim.Native.Nat.{◌-◌}
 use Rattle.judge.proofs.NarrowLaws.{small_cons, small_none}
 use Rattle.judge.proofs.list_of.Statement.{statement}
 use Rattle.judge.proofs.list_of.Tie as tie
-use Rattle.judge.proofs.list_of.Reads as reads
-use Rattle.judge.proofs.list_of.Lts as lts
-
 
 returns : tie.Need-returns
 returns c = (refl, small_cons (omega arith) (small_cons (omega arith) (small_cons (omega arith) (small_cons (omega arith) (small_cons (omega arith) (small_cons (omega arith) (small_cons (omega arith) (small_cons (omega arith) (small_cons (omega arith) (small_cons (omega arith) (small_cons (omega arith) small_none)))))))))))

@@ -4,7 +4,6 @@ use Rattle.rules.specs.Judging.{mode_numbers}
 use Rattle.judge.proofs.mode_numbers.Statement.{statement}
 use Rattle.judge.proofs.mode_numbers.Tie as tie
 
-
 returns : tie.Need-returns
 unfolding mode_numbers
 returns c = refl

@@ -5,7 +5,6 @@ use Rattle.judge.proofs.ModeLaws.{digit_least, code_placed, blank_placed}
 use Rattle.judge.proofs.mode_place.Statement.{statement}
 use Rattle.judge.proofs.mode_place.Tie as tie
 
-
 is_digit_requires : tie.Need-is_digit-requires
 is_digit_requires c κs = search rules
 

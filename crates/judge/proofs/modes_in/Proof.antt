@@ -5,7 +5,6 @@ use Rattle.judge.specs.Count.{modes_in}
 use Rattle.judge.proofs.modes_in.Statement.{statement}
 use Rattle.judge.proofs.modes_in.Tie as tie
 
-
 element_copy_out_t4 : tie.Need-bounds-n-0
 element_copy_out_t4 c = search rules
 

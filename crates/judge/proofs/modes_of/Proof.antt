@@ -1,13 +1,8 @@
 -- The modes of the counts in their order.
-use Prim.Native.Nat.{◌-◌}
 use borrow.Author.Rules.{rules}
 use Rattle.judge.specs.Narrow.{modes_of}
 use Rattle.judge.proofs.modes_of.Statement.{statement}
 use Rattle.judge.proofs.modes_of.Tie as tie
-use Rattle.judge.proofs.modes_of.Reads as reads
-use Rattle.judge.proofs.modes_of.Lts as lts
-use Rattle.judge.proofs.list_of.Reads as list-of-reads
-
 
 list_of_requires : tie.Need-list_of-requires
 list_of_requires c κs = search rules

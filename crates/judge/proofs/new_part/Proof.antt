@@ -5,7 +5,6 @@ use Rattle.judge.proofs.StepLaws.{part_none, key_kept, part_old, part_new}
 use Rattle.judge.proofs.new_part.Statement.{statement}
 use Rattle.judge.proofs.new_part.Tie as tie
 
-
 returns : tie.Need-returns-then-a-e
 returns c = let start = c in let a = start.args in part_none a.s.now a.places.now a.keys.now a.m a.a a.e c.requires.0.0 c.if-a-e.true
 

@@ -7,7 +7,6 @@ use Rattle.judge.proofs.SquareLaws.{locator_square, no_square, square_looked}
 use Rattle.judge.proofs.new_square.Statement.{statement}
 use Rattle.judge.proofs.new_square.Tie as tie
 
-
 returns : tie.Need-returns-then-a-e
 returns c = let a = c.args in no_square a.squares.now a.m a.s.now a.a a.e c.if-a-e.true
 

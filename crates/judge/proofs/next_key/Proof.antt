@@ -9,7 +9,6 @@ use Rattle.judge.proofs.PartLaws.{ahead_more, none_more}
 use Rattle.judge.proofs.next_key.Statement.{statement}
 use Rattle.judge.proofs.next_key.Tie as tie
 
-
 abbrev invariant-loop : tie.invariant-loop-k
 invariant-loop keys from key k₀ k = (from ≤ k) × Ahead keys k key × ((j : ℕ) → from ≤ j → j < k → get_or keys j 0 ≡ key → ⊥)
 

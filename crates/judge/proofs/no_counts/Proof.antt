@@ -1,12 +1,8 @@
 -- Eighteen zeros.
 use mathlib.Core.Path.{refl}
-use Prim.Native.Nat.{◌-◌}
 use Rattle.judge.specs.Narrow.{no_counts}
 use Rattle.judge.proofs.no_counts.Statement.{statement}
 use Rattle.judge.proofs.no_counts.Tie as tie
-use Rattle.judge.proofs.no_counts.Reads as reads
-use Rattle.judge.proofs.no_counts.Lts as lts
-
 
 returns : tie.Need-returns
 unfolding no_counts

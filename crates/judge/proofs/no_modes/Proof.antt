@@ -4,7 +4,6 @@ use Rattle.rules.specs.Judging.{zero_modes}
 use Rattle.judge.proofs.no_modes.Statement.{statement}
 use Rattle.judge.proofs.no_modes.Tie as tie
 
-
 returns : tie.Need-returns
 unfolding zero_modes
 returns c = refl

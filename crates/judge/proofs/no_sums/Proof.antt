@@ -4,7 +4,6 @@ use Rattle.judge.specs.Sums.{no_sums}
 use Rattle.judge.proofs.no_sums.Statement.{statement}
 use Rattle.judge.proofs.no_sums.Tie as tie
 
-
 no_tally_requires : tie.Need-no_tally-requires
 no_tally_requires c κs = search rules
 

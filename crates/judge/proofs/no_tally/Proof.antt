@@ -4,7 +4,6 @@ use Rattle.judge.specs.Count.{no_tally}
 use Rattle.judge.proofs.no_tally.Statement.{statement}
 use Rattle.judge.proofs.no_tally.Tie as tie
 
-
 returns : tie.Need-returns
 unfolding no_tally
 returns c = refl

@@ -4,7 +4,6 @@ use Rattle.rules.specs.Judging.{zero_totals}
 use Rattle.judge.proofs.no_totals.Statement.{statement}
 use Rattle.judge.proofs.no_totals.Tie as tie
 
-
 no_modes_requires : tie.Need-no_modes-requires
 no_modes_requires c κs = search rules
 

@@ -11,7 +11,6 @@ use Rattle.judge.proofs.SumLaws.{more_countable, more_none, more_one}
 use Rattle.judge.proofs.one_more.Statement.{statement}
 use Rattle.judge.proofs.one_more.Tie as tie
 
-
 -- The places: where the record is known to be one that can be counted, from where its verdict is read, and where the code begins.
 abbrev countable : tie.After-verdict_in → tie.Else-not-counts_more
 countable c = c.before.before.before.before.before.before

@@ -12,7 +12,6 @@ use Rattle.judge.proofs.PartLaws.{run_inside}
 use Rattle.judge.proofs.part_end.Statement.{statement}
 use Rattle.judge.proofs.part_end.Tie as tie
 
-
 abbrev invariant-loop : tie.invariant-loop-i
 invariant-loop s at i₀ i = Within in_field s at i
 

@@ -9,7 +9,6 @@ use Rattle.judge.proofs.PartLaws.{same_from, run_begins, run_ends, run_more, run
 use Rattle.judge.proofs.same_run.Statement.{statement}
 use Rattle.judge.proofs.same_run.Tie as tie
 
-
 abbrev invariant-loop : tie.invariant-loop-i
 invariant-loop s a b n i₀ i = same (take n (drop a s)) (take n (drop b s)) ≡ same_from s a b n i
 

@@ -5,7 +5,6 @@ use Rattle.judge.proofs.SquareLaws.{square_at}
 use Rattle.judge.proofs.square_of.Statement.{statement}
 use Rattle.judge.proofs.square_of.Tie as tie
 
-
 shared_slice_read_square_with : tie.Need-bounds-s-a
 shared_slice_read_square_with c = omega (arith, (square_at c.args.s.now c.args.a c.requires).within)
 

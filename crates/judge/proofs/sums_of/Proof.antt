@@ -1,17 +1,10 @@
 -- The counts and the modes, as a caller's sums have them.
 use mathlib.Core.Path.{ap, ◌∙◌}
-use Prim.Native.Nat.{◌-◌}
 use borrow.Author.Rules.{rules}
 use Rattle.judge.specs.Count.{modes_in}
 use Rattle.judge.specs.Narrow.{sums_in}
 use Rattle.judge.proofs.sums_of.Statement.{statement}
 use Rattle.judge.proofs.sums_of.Tie as tie
-use Rattle.judge.proofs.sums_of.Reads as reads
-use Rattle.judge.proofs.sums_of.Lts as lts
-use Rattle.judge.proofs.modes_in.Reads as modes-in-reads
-use Rattle.judge.proofs.modes_of.Reads as modes-of-reads
-use Rattle.judge.proofs.tally_of.Reads as tally-of-reads
-
 
 modes_of_requires : tie.Need-modes_of-list-requires
 modes_of_requires c κs = search rules

@@ -1,13 +1,8 @@
 -- The counts by their names.
-use Prim.Native.Nat.{◌-◌}
 use borrow.Author.Rules.{rules}
 use Rattle.judge.specs.Narrow.{tally_in}
 use Rattle.judge.proofs.tally_of.Statement.{statement}
 use Rattle.judge.proofs.tally_of.Tie as tie
-use Rattle.judge.proofs.tally_of.Reads as reads
-use Rattle.judge.proofs.tally_of.Lts as lts
-use Rattle.judge.proofs.tally_from.Reads as tally-from-reads
-
 
 tally_from_requires : tie.Need-tally_from-requires
 tally_from_requires c κs = search rules

@@ -10,7 +10,6 @@ use Rattle.judge.proofs.ToldLaws.{two_inside, third_inside, two_on}
 use Rattle.judge.proofs.third_mark.Statement.{statement}
 use Rattle.judge.proofs.third_mark.Tie as tie
 
-
 -- The fields behind the points lie within the log.
 inside : (c : tie.Start) →
     let s = c.args.s.now in

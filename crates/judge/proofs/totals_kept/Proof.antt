@@ -13,7 +13,6 @@ use Rattle.judge.proofs.SumLaws.{sound_facts, sound_closable, declared_small, to
 use Rattle.judge.proofs.totals_kept.Statement.{statement}
 use Rattle.judge.proofs.totals_kept.Tie as tie
 
-
 -- The places, each by the one before: where the sums are known to be sound, where what was declared is known to keep its rules, and where the
 -- code begins.
 abbrev start : tie.Else-not-are_sums → tie.Start

@@ -4,7 +4,6 @@ use Rattle.judge.proofs.SaidLaws.{verdict_credited, verdict_other}
 use Rattle.judge.proofs.verdict_by.Statement.{statement}
 use Rattle.judge.proofs.verdict_by.Tie as tie
 
-
 class_number_requires : tie.Need-class_number-requires
 class_number_requires c κs = search rules
 

@@ -9,7 +9,6 @@ use Rattle.judge.specs.Sums.{verdict_in}
 use Rattle.judge.proofs.verdict_in.Statement.{statement}
 use Rattle.judge.proofs.verdict_in.Tie as tie
 
-
 class_in_requires : tie.Need-class_in-requires
 class_in_requires c κs = search rules
 

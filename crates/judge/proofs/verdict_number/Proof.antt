@@ -6,7 +6,6 @@ use Rattle.judge.proofs.CountLaws.{class_number_most, worth_most}
 use Rattle.judge.proofs.verdict_number.Statement.{statement}
 use Rattle.judge.proofs.verdict_number.Tie as tie
 
-
 class_number_requires : tie.Need-class_number-requires
 class_number_requires c κs = search rules
 

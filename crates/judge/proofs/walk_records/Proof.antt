@@ -10,7 +10,6 @@ use Rattle.judge.proofs.WalkLaws.{Walks, walks_begin, walks_end, ready, countabl
 use Rattle.judge.proofs.walk_records.Statement.{statement}
 use Rattle.judge.proofs.walk_records.Tie as tie
 
-
 abbrev invariant-loop : tie.invariant-loop-i
 invariant-loop log n verdicts₀ calls₀ exchanges₀ points pointsends modes₀ callkeys₀ exchangekeys₀ squares₀ kept₀ sums₀ i₀ verdicts calls exchanges modes callkeys exchangekeys squares kept sums i =
     Walks base log n verdicts₀ verdicts calls exchanges points pointsends callkeys exchangekeys squares kept sums modes i

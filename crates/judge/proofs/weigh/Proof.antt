@@ -11,7 +11,6 @@ use Rattle.judge.proofs.JudgeLaws.{accepts, all_listed, contacts_are, few_record
 use Rattle.judge.proofs.weigh.Statement.{statement}
 use Rattle.judge.proofs.weigh.Tie as tie
 
-
 slice_aggregate_survey : tie.Need-slice_bounds-survey-end
 slice_aggregate_survey c = search rules
 

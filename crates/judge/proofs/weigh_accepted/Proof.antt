@@ -5,7 +5,6 @@ use Rattle.judge.proofs.JudgeLaws.{closable, done, kept_short, refused_short, we
 use Rattle.judge.proofs.weigh_accepted.Statement.{statement}
 use Rattle.judge.proofs.weigh_accepted.Tie as tie
 
-
 -- The places of the code: where it begins, from where the slices are known; where there is room, from where the records are walked over; and
 -- where they were, from where the declared is known.
 abbrev start : tie.After-shared_slice_known-3-1 → tie.Start

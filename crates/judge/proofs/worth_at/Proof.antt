@@ -6,7 +6,6 @@ use Rattle.reader.proofs.PlaceLaws.{value_read, value_none}
 use Rattle.judge.proofs.worth_at.Statement.{statement}
 use Rattle.judge.proofs.worth_at.Tie as tie
 
-
 points_requires : tie.Need-points-requires
 points_requires c κs = search rules
 

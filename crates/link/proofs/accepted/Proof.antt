@@ -7,7 +7,6 @@ use Rattle.link.proofs.StateLaws.{accepted_by_lem}
 use Rattle.link.proofs.accepted.Statement.{statement}
 use Rattle.link.proofs.accepted.Tie as tie
 
-
 stopped_requires : tie.Need-stopped-requires
 stopped_requires c κs = search rules
 

@@ -1,19 +1,12 @@
 -- The count line is read: N is known, and the slices suffice for it or 7 is told.
 use mathlib.Core.Path.{sym, ap, ◌∙◌}
-use Prim.Native.Nat.{ℕ, ◌-◌}
+use Prim.Native.Nat.{ℕ}
 use borrow.Author.Rules.{rules}
 use Rattle.link.proofs.TakenLaws.{long_kept, long_lacking}
 use Rattle.link.specs.Link.{went_on}
 use Rattle.rules.specs.Rules.{base}
 use Rattle.link.proofs.announced.Statement.{statement}
 use Rattle.link.proofs.announced.Tie as tie
-use Rattle.link.proofs.announced.Reads as reads
-use Rattle.link.proofs.announced.Lts as lts
-use Rattle.link.proofs.lends_enough.Reads as lends-enough-reads
-use Rattle.link.proofs.low.Reads as low_reads
-use Rattle.link.proofs.stopped.Reads as stopped-reads
-use Rattle.link.proofs.went_on.Reads as went-on-reads
-
 
 low_requires : tie.Need-low-requires
 low_requires c κs = search rules

@@ -4,12 +4,10 @@ use mathlib.Core.Bool.{true}
 use borrow.Author.Rules.{rules}
 use borrow.Author.Tests.{eq-eqb, ne_eqb, not-true, not-false}
 use Rattle.rules.specs.Rules.{base}
-use Rattle.rules.specs.Reading.{refusal}
 use Rattle.link.specs.Link.{is_open, is_sound, lent_of}
 use Rattle.link.proofs.CallLaws.{asked_refused, asked_unsound, asked_short, asked_well}
 use Rattle.link.proofs.asked.Statement.{statement}
 use Rattle.link.proofs.asked.Tie as tie
-
 
 -- Where nothing was refused, and where the state is sound.
 abbrev start : tie.Else-s-ne0 → tie.Start

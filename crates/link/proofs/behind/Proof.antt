@@ -1,12 +1,8 @@
 -- The next line begins behind LF, or behind CR LF.
 use native.Mathlib.Omega.{arith}
-use Prim.Native.Nat.{◌-◌}
 use Rattle.link.proofs.TestLaws.{log_fits, place_returned, place_plain}
 use Rattle.link.proofs.behind.Statement.{statement}
 use Rattle.link.proofs.behind.Tie as tie
-use Rattle.link.proofs.behind.Reads as reads
-use Rattle.link.proofs.behind.Lts as lts
-
 
 add_result : tie.Need-overflow_add-result
 add_result c = omega (arith, log_fits)

@@ -6,15 +6,13 @@ use lib.ListN.{length}
 use borrow.Author.Rules.{rules}
 use borrow.Author.Tests.{eq-eqb, ne_eqb}
 use Rattle.rules.specs.Rules.{base}
-use Rattle.rules.specs.Reading.{refusal}
 use Rattle.link.specs.declared.Link.{Link}
 use Rattle.rules.specs.Link.{Lent}
-use Rattle.link.specs.Link.{is_open, lent_of, asked, unended}
+use Rattle.link.specs.Link.{is_open, lent_of, asked}
 use Rattle.link.proofs.StateLaws.{sound_is}
 use Rattle.link.proofs.CallLaws.{asked_on, close_by, close_unended, close_accepts}
 use Rattle.link.proofs.closed.Statement.{statement}
 use Rattle.link.proofs.closed.Tie as tie
-
 
 -- What the call finds, and what that is where nothing is refused.
 abbrev start : tie.After-asked-a → tie.Start

@@ -1,14 +1,10 @@
 -- Only the count of bytes changes.
 use native.Mathlib.Omega.{arith}
 use mathlib.Core.Path.{refl}
-use Prim.Native.Nat.{◌-◌}
 use Rattle.link.specs.Link.{counted}
 use Rattle.link.proofs.TestLaws.{log_fits}
 use Rattle.link.proofs.counted.Statement.{statement}
 use Rattle.link.proofs.counted.Tie as tie
-use Rattle.link.proofs.counted.Reads as reads
-use Rattle.link.proofs.counted.Lts as lts
-
 
 cast_t7 : tie.Need-overflow_cast-result
 cast_t7 c = omega (arith, log_fits)

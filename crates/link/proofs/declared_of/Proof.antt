@@ -1,13 +1,9 @@
 -- What is declared, number by number.
 use mathlib.Core.Path.{refl}
-use Prim.Native.Nat.{◌-◌}
 use borrow.Author.Rules.{rules}
 use Rattle.link.specs.Link.{declared_in}
 use Rattle.link.proofs.declared_of.Statement.{statement}
 use Rattle.link.proofs.declared_of.Tie as tie
-use Rattle.link.proofs.declared_of.Reads as reads
-use Rattle.link.proofs.declared_of.Lts as lts
-
 
 cast_t2 : tie.Need-overflow_cast-result
 cast_t2 c = search rules

@@ -3,7 +3,6 @@ use Rattle.link.proofs.TestLaws.{declares_squares, declares_exchanges, declares_
 use Rattle.link.proofs.declares.Statement.{statement}
 use Rattle.link.proofs.declares.Tie as tie
 
-
 returns : tie.Need-returns-then-stage-eq29
 returns c = declares_squares _ c.if-stage-eq29.true
 

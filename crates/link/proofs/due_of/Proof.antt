@@ -1,13 +1,9 @@
 -- What is due is told by the stage and by how many records are left.
 use native.Mathlib.Omega.{arith}
-use Prim.Native.Nat.{◌-◌}
 use borrow.Author.Rules.{rules}
 use Rattle.link.proofs.StateLaws.{due_identifier, due_keyword, due_remarks, due_remark, due_record, due_end}
 use Rattle.link.proofs.due_of.Statement.{statement}
 use Rattle.link.proofs.due_of.Tie as tie
-use Rattle.link.proofs.due_of.Reads as reads
-use Rattle.link.proofs.due_of.Lts as lts
-
 
 cast_stage : tie.Need-overflow_cast-stage
 cast_stage c = search rules

@@ -16,7 +16,6 @@ use Rattle.link.proofs.CallLaws.{asked_refused, asked_unsound, asked_short, aske
 use Rattle.link.proofs.fed.Statement.{statement}
 use Rattle.link.proofs.fed.Tie as tie
 
-
 -- What the call has, and what it is fed.
 abbrev had : tie.Start → Holding
 had c = holding c.args.s c.args.verdicts.now c.args.worked.now

@@ -7,7 +7,6 @@ use Rattle.link.proofs.TakenLaws.{some_left, finished_head, finished_record}
 use Rattle.link.proofs.finished.Statement.{statement}
 use Rattle.link.proofs.finished.Tie as tie
 
-
 -- Where a record is due.
 abbrev start : tie.Else-s-lt-RECORDS → tie.Start
 start c = c.before.before.before.before.before

@@ -7,7 +7,6 @@ use Rattle.link.proofs.StateLaws.{rest_returned, rest_plain}
 use Rattle.link.proofs.has_rest.Statement.{statement}
 use Rattle.link.proofs.has_rest.Tie as tie
 
-
 -- The state has room for a line.
 long : (c : tie.Start) → length c.args.s.line ≡ 75
 long c = search (rules, c.well_formed.0.1.1.1.1.1.1.1.1.1.1.1.1.1)

@@ -1,18 +1,12 @@
 -- Each thing that may be due next has its stage.
 use mathlib.Core.Path.{ap, ◌∙◌}
-use Prim.Native.Nat.{ℕ, ◌-◌}
+use Prim.Native.Nat.{ℕ}
 use borrow.Author.Rules.{rules}
 use Rattle.link.specs.Link.{head_goes, went_on}
 use Rattle.link.proofs.TakenLaws.{low_next}
 use Rattle.rules.specs.Rules.{base}
 use Rattle.link.proofs.head_goes.Statement.{statement}
 use Rattle.link.proofs.head_goes.Tie as tie
-use Rattle.link.proofs.head_goes.Reads as reads
-use Rattle.link.proofs.head_goes.Lts as lts
-use Rattle.link.proofs.announced.Reads as announced-reads
-use Rattle.link.proofs.low.Reads as low_reads
-use Rattle.link.proofs.went_on.Reads as went-on-reads
-
 
 enum_told : tie.Need-enum_told-1
 enum_told c = search rules

@@ -1,6 +1,5 @@
 -- A line in front of the records is taken or refused as its step says.
 use mathlib.Core.Path.{◌≡◌, sym, ap, ◌∙◌}
-use Prim.Native.Nat.{◌-◌}
 use borrow.Author.Rules.{rules}
 use Rattle.link.proofs.TakenLaws.{head_stops, head_on}
 use Rattle.rules.specs.Rules.{base}
@@ -11,13 +10,6 @@ use Rattle.reader.specs.Read.{step_of}
 use Rattle.link.specs.Link.{due_of}
 use Rattle.link.proofs.head_line.Statement.{statement}
 use Rattle.link.proofs.head_line.Tie as tie
-use Rattle.link.proofs.head_line.Reads as reads
-use Rattle.link.proofs.head_line.Lts as lts
-use Rattle.link.proofs.due_of.Reads as due-of-reads
-use Rattle.link.proofs.head_goes.Reads as head-goes-reads
-use Rattle.link.proofs.stopped_here.Reads as stopped-here-reads
-use Rattle.reader.proofs.step.Reads as step-reads
-
 
 -- Where the line's step is known, from where the code begins.
 abbrev start : tie.After-step-stepped → tie.Start

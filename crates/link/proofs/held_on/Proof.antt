@@ -17,7 +17,6 @@ use Rattle.link.proofs.TestLaws.{line_long, hold_returned, hold_stray, hold_over
 use Rattle.link.proofs.held_on.Statement.{statement}
 use Rattle.link.proofs.held_on.Tie as tie
 
-
 -- The state has room for a line.
 long : (c : tie.Start) → length c.args.s.line ≡ 75
 long c = search (rules, c.well_formed.0.1.1.1.1.1.1.1.1.1.1.1.1.1)

@@ -1,11 +1,7 @@
 -- Nothing more is due where all records were taken.
-use Prim.Native.Nat.{◌-◌}
 use Rattle.link.proofs.StateLaws.{end_early, end_late}
 use Rattle.link.proofs.is_complete.Statement.{statement}
 use Rattle.link.proofs.is_complete.Tie as tie
-use Rattle.link.proofs.is_complete.Reads as reads
-use Rattle.link.proofs.is_complete.Lts as lts
-
 
 returns : tie.Need-returns-then-s-lt-RECORDS
 returns c = end_early _ _ c.if-s-lt-RECORDS.true

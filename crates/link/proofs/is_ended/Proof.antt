@@ -1,16 +1,11 @@
 -- A line ends at CR LF behind few enough characters, or at LF behind a CR that is held.
 use native.Mathlib.Omega.{arith}
 use mathlib.Core.Path.{◌∙◌}
-use Prim.Native.Nat.{◌-◌}
 use borrow.Author.Rules.{rules}
 use Rattle.link.proofs.TestLaws.{line_long, ended_returned, ended_long, ended_plain}
 use Rattle.rules.specs.Rules.{base}
 use Rattle.link.proofs.is_ended.Statement.{statement}
 use Rattle.link.proofs.is_ended.Tie as tie
-use Rattle.link.proofs.is_ended.Reads as reads
-use Rattle.link.proofs.is_ended.Lts as lts
-use Rattle.reader.proofs.line_ends.Reads as line-ends-reads
-
 
 shared_slice_read_result : tie.Need-bounds-bytes-at
 shared_slice_read_result c = search rules

@@ -1,15 +1,10 @@
 -- The three tests of a sound state, one after the other.
 use native.Mathlib.Omega.{arith}
-use Prim.Native.Nat.{◌-◌}
 use borrow.Author.Rules.{rules}
 use Rattle.link.proofs.StateLaws.{unsound_count, unsound_lines, sound_held}
 use Rattle.rules.specs.Rules.{base}
 use Rattle.link.proofs.is_sound.Statement.{statement}
 use Rattle.link.proofs.is_sound.Tie as tie
-use Rattle.link.proofs.is_sound.Reads as reads
-use Rattle.link.proofs.is_sound.Lts as lts
-use Rattle.rules.proofs.longest_log.Reads as longest-log-reads
-
 
 longest_log_requires : tie.Need-longest_log-requires
 longest_log_requires c κs = search rules

@@ -17,7 +17,6 @@ use Rattle.link.specs.Link.{holding, begun, finishes}
 use Rattle.link.proofs.joined.Statement.{statement}
 use Rattle.link.proofs.joined.Tie as tie
 
-
 -- The state has room for a line.
 long : (c : tie.Start) → length c.args.s.line ≡ 75
 long c = search (rules, c.well_formed.0.1.1.1.1.1.1.1.1.1.1.1.1.1)

@@ -1,12 +1,8 @@
 -- The slices suffice where each is long enough for N.
-use Prim.Native.Nat.{◌-◌}
 use borrow.Author.Rules.{rules}
 use Rattle.link.proofs.StateLaws.{enough_early, enough_not, enough_worked}
 use Rattle.link.proofs.lends_enough.Statement.{statement}
 use Rattle.link.proofs.lends_enough.Tie as tie
-use Rattle.link.proofs.lends_enough.Reads as reads
-use Rattle.link.proofs.lends_enough.Lts as lts
-
 
 returns : tie.Need-returns-then-s-lt-RECORDS
 returns c = enough_early _ _ _ c.if-s-lt-RECORDS.true

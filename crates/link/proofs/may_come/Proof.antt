@@ -1,14 +1,10 @@
 -- What is left of a piece may be a part of a line: the tests, one after the other.
 use native.Mathlib.Omega.{arith}
-use Prim.Native.Nat.{◌-◌}
 use borrow.Author.Rules.{rules}
 use Rattle.link.proofs.TestLaws.{line_long, comes_long, comes_whole, comes_stray, comes_return}
 use Rattle.rules.specs.Rules.{base}
 use Rattle.link.proofs.may_come.Statement.{statement}
 use Rattle.link.proofs.may_come.Tie as tie
-use Rattle.link.proofs.may_come.Reads as reads
-use Rattle.link.proofs.may_come.Lts as lts
-
 
 sub_if1 : tie.Need-overflow_sub-end
 sub_if1 c = search rules

@@ -1,12 +1,8 @@
 -- Six zeros.
 use mathlib.Core.Path.{refl}
-use Prim.Native.Nat.{◌-◌}
 use Rattle.link.specs.Link.{no_rates}
 use Rattle.link.proofs.no_rates.Statement.{statement}
 use Rattle.link.proofs.no_rates.Tie as tie
-use Rattle.link.proofs.no_rates.Reads as reads
-use Rattle.link.proofs.no_rates.Lts as lts
-
 
 returns : tie.Need-returns
 unfolding no_rates

@@ -1,11 +1,7 @@
 -- A byte stands behind the characters, or none does.
-use Prim.Native.Nat.{◌-◌}
 use Rattle.link.proofs.TestLaws.{none_more, one_more}
 use Rattle.link.proofs.one_if_more.Statement.{statement}
 use Rattle.link.proofs.one_if_more.Tie as tie
-use Rattle.link.proofs.one_if_more.Reads as reads
-use Rattle.link.proofs.one_if_more.Lts as lts
-
 
 returns : tie.Need-returns-then-end-bytes
 returns c = none_more _ _ c.if-end-bytes.true

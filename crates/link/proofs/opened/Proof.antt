@@ -1,12 +1,7 @@
 -- A link to which nothing came keeps no refusal.
 use borrow.Author.Rules.{rules}
-use Prim.Native.Nat.{◌-◌}
 use Rattle.link.proofs.opened.Statement.{statement}
 use Rattle.link.proofs.opened.Tie as tie
-use Rattle.link.proofs.opened.Reads as reads
-use Rattle.link.proofs.opened.Lts as lts
-use Rattle.link.proofs.stopped.Reads as stopped-reads
-
 
 stopped_requires : tie.Need-stopped-requires
 stopped_requires c κs = search rules

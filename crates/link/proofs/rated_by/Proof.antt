@@ -12,7 +12,6 @@ use Rattle.link.proofs.TakenLaws.{rated_squares, rated_exchanges, rated_countrie
 use Rattle.link.proofs.rated_by.Statement.{statement}
 use Rattle.link.proofs.rated_by.Tie as tie
 
-
 -- Where the bonus and the multiplier are known.
 abbrev start : tie.Else-not-declares → tie.Start
 start c = c.before.before.before.before

@@ -5,7 +5,6 @@ use Rattle.link.proofs.TakenLaws.{kept_worth, record_refused, record_kept, recor
 use Rattle.link.proofs.record_line.Statement.{statement}
 use Rattle.link.proofs.record_line.Tie as tie
 
-
 -- Where the line is judged, from where the code begins.
 abbrev start : tie.After-keep_line-k → tie.Start
 start k = k.before.before.before.before.before.before.before

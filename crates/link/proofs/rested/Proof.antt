@@ -7,7 +7,6 @@ use Rattle.link.proofs.StateLaws.{rests_early, rests_due, rests_more, rests_whol
 use Rattle.link.proofs.rested.Statement.{statement}
 use Rattle.link.proofs.rested.Tie as tie
 
-
 -- Behind the count line.
 abbrev start : tie.Else-s-lt-RECORDS → tie.Start
 start c = c.before.before

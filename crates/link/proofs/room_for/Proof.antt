@@ -1,13 +1,8 @@
 -- The smaller of the two.
 use native.Mathlib.Omega.{arith}
-use Prim.Native.Nat.{◌-◌}
 use borrow.Author.Rules.{rules}
 use Rattle.link.proofs.room_for.Statement.{statement}
 use Rattle.link.proofs.room_for.Tie as tie
-use Rattle.link.proofs.room_for.Reads as reads
-use Rattle.link.proofs.room_for.Lts as lts
-use Rattle.rules.proofs.longest_log.Reads as longest-log-reads
-
 
 longest_log_requires : tie.Need-longest_log-requires
 longest_log_requires c κs = search rules

@@ -1,14 +1,9 @@
 -- Characters come behind those that are held, and none behind a CR.
 use mathlib.Core.Path.{◌∙◌}
-use Prim.Native.Nat.{◌-◌}
 use borrow.Author.Rules.{rules}
 use Rattle.link.proofs.TestLaws.{run_returned, run_plain}
 use Rattle.link.proofs.run_end.Statement.{statement}
 use Rattle.link.proofs.run_end.Tie as tie
-use Rattle.link.proofs.run_end.Reads as reads
-use Rattle.link.proofs.run_end.Lts as lts
-use Rattle.reader.proofs.allowed_run.Reads as allowed-run-reads
-
 
 returns : tie.Need-returns-then-returned-ne0
 returns c = run_returned _ _ _ c.if-returned-ne0.true

@@ -1,13 +1,8 @@
 -- All numbers are zero but those of the refusal.
-use Prim.Native.Nat.{◌-◌}
 use borrow.Author.Rules.{rules}
 use Rattle.link.proofs.StateLaws.{stopped_bare}
 use Rattle.link.proofs.stopped.Statement.{statement}
 use Rattle.link.proofs.stopped.Tie as tie
-use Rattle.link.proofs.stopped.Reads as reads
-use Rattle.link.proofs.stopped.Lts as lts
-use Rattle.link.proofs.no_rates.Reads as no-rates-reads
-
 
 no_counts_requires : tie.Need-no_counts-requires
 no_counts_requires c κs = search rules

@@ -1,14 +1,9 @@
 -- The refusal is told at the line that is coming.
 use native.Mathlib.Omega.{arith}
 use borrow.Author.Rules.{rules}
-use Prim.Native.Nat.{◌-◌}
 use Rattle.link.proofs.TestLaws.{log_fits}
 use Rattle.link.proofs.stopped_here.Statement.{statement}
 use Rattle.link.proofs.stopped_here.Tie as tie
-use Rattle.link.proofs.stopped_here.Reads as reads
-use Rattle.link.proofs.stopped_here.Lts as lts
-use Rattle.link.proofs.stopped.Reads as stopped-reads
-
 
 add_stopped : tie.Need-overflow_add-s
 add_stopped c = omega (arith, log_fits)

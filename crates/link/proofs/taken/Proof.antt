@@ -1,5 +1,4 @@
 -- As many bytes as there is room for, and number 1 where there are more.
-use Prim.Native.Nat.{◌-◌}
 use native.Mathlib.Omega.{arith}
 use mathlib.Core.Path.{◌≡◌, sym, ap, ◌∙◌}
 use lib.ListN.{length, take}
@@ -12,7 +11,6 @@ use Rattle.link.proofs.StateLaws.{IsSound, sound_is}
 use Rattle.link.proofs.CallLaws.{taken_by}
 use Rattle.link.proofs.taken.Statement.{statement}
 use Rattle.link.proofs.taken.Tie as tie
-
 
 -- The state is sound.
 sound : (c : tie.Start) → IsSound base c.args.s

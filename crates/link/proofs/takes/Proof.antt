@@ -2,19 +2,13 @@
 use native.Mathlib.Omega.{arith}
 use mathlib.Core.Path.{◌≡◌, sym, ◌∙◌}
 use mathlib.Core.Bool.{false}
-use Prim.Native.Nat.{◌-◌, ◌<◌}
+use Prim.Native.Nat.{◌<◌}
 use borrow.Author.Rules.{rules}
 use Rattle.rules.specs.Rules.{base}
 use Rattle.link.specs.Link.{due_of, is_end}
 use Rattle.link.proofs.TestLaws.{line_long, full_log_lem, no_line_due_lem, behind_return_lem, full_line, by_character}
 use Rattle.link.proofs.takes.Statement.{statement}
 use Rattle.link.proofs.takes.Tie as tie
-use Rattle.link.proofs.takes.Reads as reads
-use Rattle.link.proofs.takes.Lts as lts
-use Rattle.link.proofs.is_complete.Reads as is-complete-reads
-use Rattle.reader.proofs.is_allowed.Reads as is-allowed-reads
-use Rattle.rules.proofs.longest_log.Reads as longest-log-reads
-
 
 -- Where the log has room for the byte, and where a line is due.
 room : (c : tie.Else-longest_log-s) → c.args.s.count < base.longest_log

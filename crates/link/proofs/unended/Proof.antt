@@ -4,7 +4,6 @@ use Rattle.link.proofs.StateLaws.{unended_by}
 use Rattle.link.proofs.unended.Statement.{statement}
 use Rattle.link.proofs.unended.Tie as tie
 
-
 no_totals_requires : tie.Need-no_totals-requires
 no_totals_requires c κs = search rules
 

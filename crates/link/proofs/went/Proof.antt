@@ -18,7 +18,6 @@ use Rattle.link.proofs.WalkLaws.{Walks, walks_from, walks_over, walks_end, walks
 use Rattle.link.proofs.went.Statement.{statement}
 use Rattle.link.proofs.went.Tie as tie
 
-
 abbrev invariant-loop : tie.invariant-loop-at
 invariant-loop bytes over verdicts₀ worked₀ t₀ at₀ verdicts worked t at =
     Walks base over bytes (holding t₀ verdicts₀ worked₀) (holding t verdicts worked) at

@@ -1,16 +1,11 @@
 -- A line is taken: what is declared may change, and nothing of the next line is there.
 use native.Mathlib.Omega.{arith}
-use Prim.Native.Nat.{◌-◌}
 use borrow.Author.Rules.{rules}
 use Rattle.link.proofs.TakenLaws.{went_by}
 use Rattle.rules.specs.Rules.{base}
 use Rattle.link.proofs.TestLaws.{log_fits}
 use Rattle.link.proofs.went_on.Statement.{statement}
 use Rattle.link.proofs.went_on.Tie as tie
-use Rattle.link.proofs.went_on.Reads as reads
-use Rattle.link.proofs.went_on.Lts as lts
-use Rattle.link.proofs.rated_by.Reads as rated-by-reads
-
 
 add_t8 : tie.Need-overflow_add-result
 add_t8 c = omega (arith, log_fits)

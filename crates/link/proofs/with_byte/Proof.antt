@@ -10,7 +10,6 @@ use Rattle.link.proofs.TestLaws.{log_fits, line_long, takes_byte_lem}
 use Rattle.link.proofs.with_byte.Statement.{statement}
 use Rattle.link.proofs.with_byte.Tie as tie
 
-
 -- The state has room for a line.
 long : (c : tie.Start) → length c.args.s.line ≡ 75
 long c = search (rules, c.well_formed.0.1.1.1.1.1.1.1.1.1.1.1.1.1)

@@ -1,15 +1,10 @@
 -- The counts have one record more.
 use native.Mathlib.Omega.{arith}
-use Prim.Native.Nat.{◌-◌}
 use borrow.Author.Rules.{rules}
 use Rattle.link.proofs.TakenLaws.{record_by}
 use Rattle.link.proofs.TestLaws.{log_fits, worth_fits}
 use Rattle.link.proofs.with_record.Statement.{statement}
 use Rattle.link.proofs.with_record.Tie as tie
-use Rattle.link.proofs.with_record.Reads as reads
-use Rattle.link.proofs.with_record.Lts as lts
-use Rattle.judge.proofs.counted_more.Reads as counted-more-reads
-
 
 cast_counted_more : tie.Need-overflow_cast-worth
 cast_counted_more c = let small = worth_fits c.args.worth c.requires.2 in search rules

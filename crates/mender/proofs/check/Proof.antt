@@ -16,7 +16,6 @@ use Rattle.mender.proofs.TurnLaws.{Walks, walks_from, walks_some, walks_on, walk
 use Rattle.mender.proofs.check.Statement.{statement}
 use Rattle.mender.proofs.check.Tie as tie
 
-
 abbrev invariant-loop : tie.invariant-loop-at
 invariant-loop s total due₀ region₀ at₀ line₀ follow₀ bytes₀ listed₀ due region at line follow bytes listed =
     Walks s at follow

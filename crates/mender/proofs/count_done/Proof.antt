@@ -6,7 +6,6 @@ use Rattle.mender.proofs.CountLaws.{count_none, count_right, count_wrong}
 use Rattle.mender.proofs.count_done.Statement.{statement}
 use Rattle.mender.proofs.count_done.Tie as tie
 
-
 sub_digits_then_end : tie.Need-slice_bounds-digits_then_end-count
 unfolding count_start
 sub_digits_then_end c = c.requires

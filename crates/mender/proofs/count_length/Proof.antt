@@ -6,7 +6,6 @@ use Rattle.writer.proofs.TextLaid.{count_short}
 use Rattle.mender.proofs.count_length.Statement.{statement}
 use Rattle.mender.proofs.count_length.Tie as tie
 
-
 count_line_requires : tie.Need-count_line-requires
 count_line_requires c κs = search rules
 

@@ -10,7 +10,6 @@ use Rattle.mender.proofs.NextLaws.{count_ruled, next_of_step}
 use Rattle.mender.proofs.count_next.Statement.{statement}
 use Rattle.mender.proofs.count_next.Tie as tie
 
-
 count_line_requires : tie.Need-count_line-end-requires
 count_line_requires c κs = search rules
 

@@ -7,7 +7,6 @@ use Rattle.mender.proofs.CutLaws.{cuts, feed_forth, feed_within}
 use Rattle.mender.proofs.cut_at.Statement.{statement}
 use Rattle.mender.proofs.cut_at.Tie as tie
 
-
 allowed_run_requires : tie.Need-allowed_run-run-requires
 allowed_run_requires c κs = search rules
 

@@ -5,7 +5,6 @@ use Rattle.mender.proofs.CountLaws.{run_within, no_digits, some_digits}
 use Rattle.mender.proofs.digits_then_end.Statement.{statement}
 use Rattle.mender.proofs.digits_then_end.Tie as tie
 
-
 digit_run_requires : tie.Need-digit_run-n-requires
 digit_run_requires c κs = search rules
 

@@ -4,7 +4,6 @@ use Rattle.mender.proofs.KindLaws.{end_open, end_right, end_bare}
 use Rattle.mender.proofs.end_done.Statement.{statement}
 use Rattle.mender.proofs.end_done.Tie as tie
 
-
 returns : tie.Need-returns-then-length-feed
 returns c = end_open _ _ _ c.if-length-feed.true
 

@@ -1,16 +1,13 @@
 -- The count line that is made is compared with the line.
 -- Assumes nothing.
 use borrow.Author.Rules.{rules}
-use mathlib.Core.List.{List}
-use mathlib.Core.Path.{◌≡◌, sym, ap, ◌∙◌}
-use Prim.Native.Nat.{ℕ}
+use mathlib.Core.Path.{sym, ap, ◌∙◌}
 use lib.ListN.{replicate}
 use lib.Seq.{length-take-le}
 use Rattle.rules.specs.Text.{Text, same}
 use Rattle.writer.proofs.TextLaid.{word_fits, word_is}
 use Rattle.mender.proofs.is_count.Statement.{statement}
 use Rattle.mender.proofs.is_count.Tie as tie
-
 
 count_line_requires : tie.Need-count_line-end-requires
 count_line_requires c κs = search rules

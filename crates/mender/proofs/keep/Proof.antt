@@ -8,7 +8,6 @@ use Rattle.mender.proofs.AnswerLaws.{keep_none, keep_laid}
 use Rattle.mender.proofs.keep.Statement.{statement}
 use Rattle.mender.proofs.keep.Tie as tie
 
-
 refuse_requires : tie.Need-refuse-requires
 refuse_requires c κs = search rules
 

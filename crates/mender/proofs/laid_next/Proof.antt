@@ -5,7 +5,6 @@ use Rattle.mender.proofs.NextLaws.{next_count, next_unclean, next_long, next_lin
 use Rattle.mender.proofs.laid_next.Statement.{statement}
 use Rattle.mender.proofs.laid_next.Tie as tie
 
-
 count_next_requires : tie.Need-count_next-requires
 count_next_requires c κs = c.requires.2
 

@@ -1,16 +1,13 @@
 -- What is done to a line by where it lies: in the head, among the remarks, behind the count line.
 -- Assumes nothing.
 use borrow.Author.Rules.{rules}
-use native.Mathlib.Omega.{arith}
 use Prim.Native.Nat.{ℕ}
-use mathlib.Core.Path.{◌≡◌, sym, ap, ◌∙◌}
+use mathlib.Core.Path.{sym, ◌∙◌}
 use Rattle.rules.specs.Log.{count_start}
-use Rattle.rules.specs.Text.{Text}
 use Rattle.mender.specs.Lines.{Cuts}
 use Rattle.mender.proofs.LayLaws.{lays_as, head_remarks, head_other, remark_other, count_lays, count_long, record_kept, record_trimmed}
 use Rattle.mender.proofs.lay.Statement.{statement}
 use Rattle.mender.proofs.lay.Tie as tie
-
 
 -- The places of the code: where the line is cut, and behind what is asked in each of the three regions.
 abbrev begun : tie.After-cut_at-c → tie.Start

@@ -3,13 +3,12 @@
 use borrow.Author.Rules.{rules}
 use Prim.Native.Nat.{◌+◌, ◌-◌, ◌≤◌}
 use native.Mathlib.Omega.{arith}
-use mathlib.Core.Path.{◌≡◌, refl, ap}
+use mathlib.Core.Path.{◌≡◌, ap}
 use lib.ListN.{length}
 use Rattle.mender.specs.Lines.{lines_at}
 use Rattle.mender.proofs.CutLaws.{no_lines_lem}
 use Rattle.mender.proofs.line_count.Statement.{statement}
 use Rattle.mender.proofs.line_count.Tie as tie
-
 
 abbrev invariant-loop : tie.invariant-loop-at
 invariant-loop s n₀ at₀ n at =

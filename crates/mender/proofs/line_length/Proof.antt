@@ -8,7 +8,6 @@ use Rattle.mender.proofs.NextLaws.{length_count, length_part}
 use Rattle.mender.proofs.line_length.Statement.{statement}
 use Rattle.mender.proofs.line_length.Tie as tie
 
-
 count_length_requires : tie.Need-count_length-requires
 count_length_requires c κs = search rules
 

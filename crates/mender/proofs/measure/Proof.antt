@@ -16,7 +16,6 @@ use Rattle.mender.proofs.TurnLaws.{Walks, walks_from, walks_some, walks_on, walk
 use Rattle.mender.proofs.measure.Statement.{statement}
 use Rattle.mender.proofs.measure.Tie as tie
 
-
 abbrev invariant-loop : tie.invariant-loop-at
 invariant-loop s total bytes₀ region₀ at₀ follow₀ bytes region at follow =
     Walks s at follow

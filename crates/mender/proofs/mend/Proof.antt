@@ -2,12 +2,11 @@
 -- Assumes nothing.
 use borrow.Author.Rules.{rules}
 use native.Mathlib.Omega.{arith}
-use mathlib.Core.Path.{◌≡◌, sym, ◌∙◌}
+use mathlib.Core.Path.{sym, ◌∙◌}
 use Rattle.rules.specs.Rules.{base}
 use Rattle.mender.proofs.AnswerLaws.{mend_long, mends_refused, read_accepted, kept_mends}
 use Rattle.mender.proofs.mend.Statement.{statement}
 use Rattle.mender.proofs.mend.Tie as tie
-
 
 -- The places of the code: where it begins, and where the log is read as it is.
 abbrev begun : tie.After-read → tie.Start

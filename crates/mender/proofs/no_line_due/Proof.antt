@@ -5,7 +5,6 @@ use Rattle.mender.specs.Checking.{no_line_due}
 use Rattle.mender.proofs.no_line_due.Statement.{statement}
 use Rattle.mender.proofs.no_line_due.Tie as tie
 
-
 enum_told : tie.Need-enum_told-1
 enum_told c = search rules
 

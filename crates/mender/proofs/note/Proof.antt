@@ -9,7 +9,6 @@ use Rattle.mender.proofs.KindLaws.{one_done, noted_none, noted_one}
 use Rattle.mender.proofs.note.Statement.{statement}
 use Rattle.mender.proofs.note.Tie as tie
 
-
 returns : tie.Need-returns-then-kind-eq0
 returns c =
     let b = c in

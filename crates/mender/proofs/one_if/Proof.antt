@@ -7,7 +7,6 @@ use Rattle.mender.proofs.KindLaws.{none_done, one_done}
 use Rattle.mender.proofs.one_if.Statement.{statement}
 use Rattle.mender.proofs.one_if.Tie as tie
 
-
 returns : tie.Need-returns-then-kind-eq0
 returns c = (sym (ap length (none_done _ c.if-kind-eq0.true)), omega arith)
 

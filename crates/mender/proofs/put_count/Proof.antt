@@ -8,7 +8,6 @@ use Rattle.writer.proofs.TextLaid.{laid_text, word_fits, word_is}
 use Rattle.mender.proofs.put_count.Statement.{statement}
 use Rattle.mender.proofs.put_count.Tie as tie
 
-
 count_line_requires : tie.Need-count_line-end-requires
 count_line_requires c κs = search rules
 

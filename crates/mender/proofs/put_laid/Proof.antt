@@ -11,7 +11,6 @@ use Rattle.mender.proofs.NextLaws.{text_count, text_part}
 use Rattle.mender.proofs.put_laid.Statement.{statement}
 use Rattle.mender.proofs.put_laid.Tie as tie
 
-
 put_count_requires : tie.Need-put_count-requires
 put_count_requires c κs =
     let b = c in

@@ -12,7 +12,6 @@ use Rattle.mender.specs.Lines.{text_laid}
 use Rattle.mender.proofs.put_line.Statement.{statement}
 use Rattle.mender.proofs.put_line.Tie as tie
 
-
 -- The text of the line, seen from where the code begins.
 abbrev text : tie.Start → Text
 text b = text_laid b.args.s.now b.args.at b.args.follow b.args.l

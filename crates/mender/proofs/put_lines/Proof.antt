@@ -16,7 +16,6 @@ use Rattle.mender.proofs.TurnLaws.{Walks, walks_from, walks_some, walks_on, walk
 use Rattle.mender.proofs.put_lines.Statement.{statement}
 use Rattle.mender.proofs.put_lines.Tie as tie
 
-
 abbrev invariant-loop : tie.invariant-loop-at
 invariant-loop s total out₀ kinds₀ lines₀ region₀ at₀ line₀ follow₀ to₀ i₀ out kinds lines region at line follow to i =
     Walks s at follow

@@ -5,7 +5,6 @@ use Rattle.mender.specs.Checking.{rest_told}
 use Rattle.mender.proofs.rest_told.Statement.{statement}
 use Rattle.mender.proofs.rest_told.Tie as tie
 
-
 enum_told : tie.Need-enum_told-1
 enum_told c = search rules
 

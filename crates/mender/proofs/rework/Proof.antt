@@ -1,9 +1,8 @@
 -- The lines are counted, read and measured, and what is handed over is written in the end.
 -- Assumes nothing.
 use borrow.Author.Rules.{rules}
-use Prim.Native.Nat.{ℕ, ◌≤◌}
+use Prim.Native.Nat.{◌≤◌}
 use native.Mathlib.Omega.{arith}
-use mathlib.Core.List.{List}
 use mathlib.Core.Path.{◌≡◌, refl, sym, ◌∙◌}
 use lib.ListN.{length}
 use Rattle.rules.specs.Mending.{Rooms, mended_text}
@@ -15,7 +14,6 @@ use Rattle.mender.specs.Checking.{checked_of}
 use Rattle.mender.proofs.AnswerLaws.{SoundIs, sound_is, mend_over, mend_refused, mend_few_kinds, mend_few_lines, mend_few_bytes, mend_hands, mends_refused, mends_handed}
 use Rattle.mender.proofs.rework.Statement.{statement}
 use Rattle.mender.proofs.rework.Tie as tie
-
 
 -- The places of the code: where it begins, where the lines are read, and behind each of the two answers of that.
 abbrev begun : tie.After-check → tie.Start

@@ -5,7 +5,6 @@ use Rattle.mender.proofs.CutLaws.{end_empty, end_cr, end_other}
 use Rattle.mender.proofs.text_end.Statement.{statement}
 use Rattle.mender.proofs.text_end.Tie as tie
 
-
 returns : tie.Need-returns-then-feed-at
 returns c =
     let b = c in

@@ -7,7 +7,6 @@ use Rattle.mender.proofs.CutLaws.{Trimming, trims_none, trims_here, trims_on}
 use Rattle.mender.proofs.trimmed_end.Statement.{statement}
 use Rattle.mender.proofs.trimmed_end.Tie as tie
 
-
 abbrev invariant-loop : tie.invariant-loop-i
 invariant-loop s at end i₀ i = Trimming s at end i
 

@@ -6,7 +6,6 @@ use Rattle.pad.specs.Face.{totals_face, closing_face}
 use Rattle.pad.proofs.closing_face.Statement.{statement}
 use Rattle.pad.proofs.closing_face.Tie as tie
 
-
 refusal_face_requires : tie.Need-refusal_face-requires
 refusal_face_requires c κs = search rules
 

@@ -5,7 +5,6 @@ use Rattle.pad.specs.Face.{declared_face}
 use Rattle.pad.proofs.declared_face.Statement.{statement}
 use Rattle.pad.proofs.declared_face.Tie as tie
 
-
 cast_t2 : tie.Need-overflow_cast-result
 cast_t2 c = search rules
 

@@ -5,7 +5,6 @@ use mathlib.Core.Path.{refl}
 use Rattle.pad.proofs.no_refusal.Statement.{statement}
 use Rattle.pad.proofs.no_refusal.Tie as tie
 
-
 returns : tie.Need-returns
 unfolding refusal_face no_refusal
 returns c = refl

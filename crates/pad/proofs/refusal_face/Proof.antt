@@ -4,7 +4,6 @@ use mathlib.Core.Path.{refl}
 use Rattle.pad.proofs.refusal_face.Statement.{statement}
 use Rattle.pad.proofs.refusal_face.Tie as tie
 
-
 returns : tie.Need-returns
 unfolding refusal_face
 returns c = refl

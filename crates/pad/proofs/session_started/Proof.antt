@@ -6,7 +6,6 @@ use Rattle.session.specs.Session.{started}
 use Rattle.pad.proofs.session_started.Statement.{statement}
 use Rattle.pad.proofs.session_started.Tie as tie
 
-
 declared_face_requires : tie.Need-declared_face-requires
 declared_face_requires c κs = search rules
 

@@ -5,7 +5,6 @@ use borrow.Author.Rules.{rules}
 use Rattle.pad.proofs.sumpquince_judge.Statement.{statement}
 use Rattle.pad.proofs.sumpquince_judge.Tie as tie
 
-
 judge_requires : tie.Need-judge-requires
 judge_requires c κs = search rules
 

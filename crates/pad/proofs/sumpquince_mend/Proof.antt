@@ -6,7 +6,6 @@ use Rattle.pad.proofs.FaceLaws.{changes_shown, unmended_shown}
 use Rattle.pad.proofs.sumpquince_mend.Statement.{statement}
 use Rattle.pad.proofs.sumpquince_mend.Tie as tie
 
-
 -- The mender's answer, seen from behind each of its two cases.
 abbrev mended : tie.After-no_refusal → tie.After-mend
 mended c = c.before.before.before.before.before.before.before.before

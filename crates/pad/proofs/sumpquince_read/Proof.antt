@@ -5,7 +5,6 @@ use borrow.Author.Rules.{rules}
 use Rattle.pad.proofs.sumpquince_read.Statement.{statement}
 use Rattle.pad.proofs.sumpquince_read.Tie as tie
 
-
 read_requires : tie.Need-read-requires
 read_requires c κs = search rules
 

@@ -5,7 +5,6 @@ use Rattle.pad.specs.Face.{totals_face, session_face}
 use Rattle.pad.proofs.sumpquince_session_totals.Statement.{statement}
 use Rattle.pad.proofs.sumpquince_session_totals.Tie as tie
 
-
 no_refusal_requires : tie.Need-no_refusal-requires
 no_refusal_requires c κs = search rules
 

@@ -7,7 +7,6 @@ use Rattle.pad.proofs.FaceLaws.{written_shown}
 use Rattle.pad.proofs.sumpquince_strike.Statement.{statement}
 use Rattle.pad.proofs.sumpquince_strike.Tie as tie
 
-
 strike_requires : tie.Need-strike-requires
 strike_requires c κs = search rules
 

@@ -5,7 +5,6 @@ use borrow.Author.Rules.{rules}
 use Rattle.pad.proofs.sumpquince_view.Statement.{statement}
 use Rattle.pad.proofs.sumpquince_view.Tie as tie
 
-
 view_requires : tie.Need-view-requires
 view_requires c κs = search rules
 

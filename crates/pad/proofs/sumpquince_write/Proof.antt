@@ -8,7 +8,6 @@ use Rattle.pad.proofs.FaceLaws.{written_shown}
 use Rattle.pad.proofs.sumpquince_write.Statement.{statement}
 use Rattle.pad.proofs.sumpquince_write.Tie as tie
 
-
 write_requires : tie.Need-write-requires
 write_requires c κs = search rules
 

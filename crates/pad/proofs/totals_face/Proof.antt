@@ -4,7 +4,6 @@ use borrow.Author.Rules.{rules}
 use Rattle.pad.proofs.totals_face.Statement.{statement}
 use Rattle.pad.proofs.totals_face.Tie as tie
 
-
 mode_numbers_requires : tie.Need-mode_numbers-numbers-requires
 mode_numbers_requires c κs = search rules
 

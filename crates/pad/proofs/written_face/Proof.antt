@@ -5,7 +5,6 @@ use Rattle.pad.proofs.FaceLaws.{length_shown, unwritten_shown}
 use Rattle.pad.proofs.written_face.Statement.{statement}
 use Rattle.pad.proofs.written_face.Tie as tie
 
-
 enum_known_w : tie.Need-enum_known-w
 enum_known_w c = search rules
 

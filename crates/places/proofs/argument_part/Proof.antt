@@ -7,7 +7,6 @@ use Rattle.places.proofs.ViewLaws.{part_told, run_within}
 use Rattle.places.proofs.argument_part.Statement.{statement}
 use Rattle.places.proofs.argument_part.Tie as tie
 
-
 line_start_requires : tie.Need-line_start-at-requires
 line_start_requires c κs = search rules
 

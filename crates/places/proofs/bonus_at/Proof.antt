@@ -5,7 +5,6 @@ use Rattle.reader.proofs.PlaceLaws.{value_none, value_read}
 use Rattle.places.proofs.bonus_at.Statement.{statement}
 use Rattle.places.proofs.bonus_at.Tie as tie
 
-
 bonus_of_requires : tie.Need-bonus_of-requires
 bonus_of_requires c κs = search rules
 

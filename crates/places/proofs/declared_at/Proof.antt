@@ -6,7 +6,6 @@ use Rattle.places.proofs.LineStarts.{line_next_lem, line_on_lem, declared_told}
 use Rattle.places.proofs.declared_at.Statement.{statement}
 use Rattle.places.proofs.declared_at.Tie as tie
 
-
 next_line_requires : tie.Need-next_line-requires
 next_line_requires c κs = search rules
 

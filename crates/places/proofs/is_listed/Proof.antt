@@ -5,7 +5,6 @@ use Rattle.rules.specs.Text.{Text, begins}
 use Rattle.places.proofs.is_listed.Statement.{statement}
 use Rattle.places.proofs.is_listed.Tie as tie
 
-
 listed_requires : tie.Need-listed-word-requires
 listed_requires c κs = search rules
 

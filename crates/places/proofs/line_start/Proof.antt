@@ -9,7 +9,6 @@ use Rattle.places.proofs.LineStarts.{line_first, line_on_lem, line_stays}
 use Rattle.places.proofs.line_start.Statement.{statement}
 use Rattle.places.proofs.line_start.Tie as tie
 
-
 abbrev invariant-loop : tie.invariant-loop-k
 invariant-loop s i at₀ k₀ at k = (k ≤ i) × (at ≡ min (line_start s k) (length s))
 

@@ -5,7 +5,6 @@ use Rattle.reader.proofs.PlaceLaws.{value_none, value_read}
 use Rattle.places.proofs.multiplier_at.Statement.{statement}
 use Rattle.places.proofs.multiplier_at.Tie as tie
 
-
 multiplier_of_requires : tie.Need-multiplier_of-requires
 multiplier_of_requires c κs = search rules
 

@@ -13,7 +13,6 @@ use Rattle.places.proofs.LineStarts.{line_by_end}
 use Rattle.places.proofs.rates_at.Statement.{statement}
 use Rattle.places.proofs.rates_at.Tie as tie
 
-
 allowed_run_requires : tie.Need-allowed_run-end-requires
 allowed_run_requires c κs = search rules
 

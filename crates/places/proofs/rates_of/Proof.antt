@@ -12,7 +12,6 @@ use Rattle.places.proofs.LineStarts.{second_part, third_part}
 use Rattle.places.proofs.rates_of.Statement.{statement}
 use Rattle.places.proofs.rates_of.Tie as tie
 
-
 field_end_requires : tie.Need-field_end-second-requires
 field_end_requires c κs = search rules
 

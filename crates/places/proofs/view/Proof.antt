@@ -6,7 +6,6 @@ use Rattle.places.proofs.ViewLaws.{view_none, view_beyond, view_refused, view_se
 use Rattle.places.proofs.view.Statement.{statement}
 use Rattle.places.proofs.view.Tie as tie
 
-
 returns : tie.Need-returns-then-k-lt1
 returns c = view_none base _ _ c.if-k-lt1.true
 

@@ -13,7 +13,6 @@ use Rattle.places.proofs.ViewLaws.{view_hides, view_shows, view_starts, view_sta
 use Rattle.places.proofs.viewed.Statement.{statement}
 use Rattle.places.proofs.viewed.Tie as tie
 
-
 view_requires : tie.Need-view-seen-requires
 view_requires c κs = search rules
 

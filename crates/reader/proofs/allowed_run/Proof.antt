@@ -10,7 +10,6 @@ use Rattle.reader.proofs.LineLaws.{run_on}
 use Rattle.reader.proofs.allowed_run.Statement.{statement}
 use Rattle.reader.proofs.allowed_run.Tie as tie
 
-
 abbrev invariant-loop : tie.invariant-loop-i
 invariant-loop s at i₀ i = (i ≤ length s) × Within allowed s at i
 

@@ -7,7 +7,6 @@ use Rattle.fields.proofs.FieldLaws.{Within, run_starts, run_more, run_stops, run
 use Rattle.reader.proofs.allowed_tail.Statement.{statement}
 use Rattle.reader.proofs.allowed_tail.Tie as tie
 
-
 abbrev invariant-loop : tie.invariant-loop-i
 invariant-loop s at i₀ i = Within allowed s at i
 

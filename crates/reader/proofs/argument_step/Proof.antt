@@ -5,7 +5,6 @@ use Rattle.reader.proofs.DueLaws.{argument_breaks, keyword_follows, remarks_foll
 use Rattle.reader.proofs.argument_step.Statement.{statement}
 use Rattle.reader.proofs.argument_step.Tie as tie
 
-
 argument_requires : tie.Need-argument-requires
 argument_requires c κs = search rules
 

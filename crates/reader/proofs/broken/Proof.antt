@@ -4,7 +4,6 @@ use Rattle.reader.proofs.CountLaws.{right_count, wrong_count}
 use Rattle.reader.proofs.broken.Statement.{statement}
 use Rattle.reader.proofs.broken.Tie as tie
 
-
 semicolons_requires : tie.Need-semicolons-requires
 semicolons_requires c κs = search rules
 

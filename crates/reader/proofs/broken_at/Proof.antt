@@ -8,7 +8,6 @@ use Rattle.reader.proofs.ParseLaws.{broken_line, broken_missing, ends_there, goe
 use Rattle.reader.proofs.broken_at.Statement.{statement}
 use Rattle.reader.proofs.broken_at.Tie as tie
 
-
 -- The line that was found.
 found : (c : tie.In-Line) → Stood base c.args.s.now c.args.at c.in-Line.end
 found c = stood base _ _ (sym c.line_end.ensures ∙ c.in-Line.is)

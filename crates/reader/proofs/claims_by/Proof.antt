@@ -5,7 +5,6 @@ use Rattle.reader.specs.Read.{claims_by}
 use Rattle.reader.proofs.claims_by.Statement.{statement}
 use Rattle.reader.proofs.claims_by.Tie as tie
 
-
 enum_known_due : tie.Need-enum_known-due
 enum_known_due c = search rules
 

@@ -7,7 +7,6 @@ use Rattle.reader.proofs.StepLaws.{count_cut, count_known, count_longer, count_n
 use Rattle.reader.proofs.count_step.Statement.{statement}
 use Rattle.reader.proofs.count_step.Tie as tie
 
-
 digit_run_requires : tie.Need-digit_run-n-requires
 digit_run_requires c κs = search rules
 

@@ -4,7 +4,6 @@ use Rattle.reader.specs.Read.{counted_by}
 use Rattle.reader.proofs.counted_by.Statement.{statement}
 use Rattle.reader.proofs.counted_by.Tie as tie
 
-
 enum_known_next : tie.Need-enum_known-next
 enum_known_next c = search rules
 

@@ -5,7 +5,6 @@ use Rattle.reader.proofs.FirstLaws.{date_bad, date_known, date_missed, date_miss
 use Rattle.reader.proofs.dated.Statement.{statement}
 use Rattle.reader.proofs.dated.Tie as tie
 
-
 date_requires : tie.Need-date-read-requires
 date_requires c κs = search rules
 

@@ -3,7 +3,6 @@ use borrow.Author.Rules.{rules}
 use Rattle.reader.proofs.field_end.Statement.{statement}
 use Rattle.reader.proofs.field_end.Tie as tie
 
-
 run_to_requires : tie.Need-run_to-requires
 run_to_requires c κs = search rules
 

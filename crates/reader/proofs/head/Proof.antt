@@ -17,7 +17,6 @@ use Rattle.reader.proofs.LineLaws.{Stood, stood}
 use Rattle.reader.proofs.head.Statement.{statement}
 use Rattle.reader.proofs.head.Tie as tie
 
-
 abbrev invariant-loop : tie.invariant-loop-end
 invariant-loop log due₀ claims₀ respelt₀ at₀ line₀ due claims respelt at line =
     (at ≤ length log)

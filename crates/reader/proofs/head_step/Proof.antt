@@ -9,7 +9,6 @@ use Rattle.reader.proofs.DueLaws.{at_due, at_end_lem, at_identifier, at_remark, 
 use Rattle.reader.proofs.head_step.Statement.{statement}
 use Rattle.reader.proofs.head_step.Tie as tie
 
-
 enum_told : tie.Need-enum_told-1
 enum_told c = search rules
 

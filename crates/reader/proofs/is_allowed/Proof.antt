@@ -3,7 +3,6 @@ use Rattle.fields.proofs.FieldLaws.{range_below, range_from}
 use Rattle.reader.proofs.is_allowed.Statement.{statement}
 use Rattle.reader.proofs.is_allowed.Tie as tie
 
-
 returns : tie.Need-returns-then-b-lt32
 returns c = range_below 32 127 _ c.if-b-lt32.true
 

@@ -9,7 +9,6 @@ use Rattle.reader.proofs.keyword_step.Statement.{statement}
 use Rattle.reader.proofs.keyword_step.Lts.{in-Listed, in-Respelt}
 use Rattle.reader.proofs.keyword_step.Tie as tie
 
-
 keyword_requires : tie.Need-keyword-spelling-requires
 keyword_requires c κs = search rules
 
@@ -30,15 +29,17 @@ returns c = step_differs base _ _ _ (sym c.keyword-spelling.ensures ∙ c.in-Dif
 
 sub_argument_step : tie.Need-slice_bounds-argument_step-count
 sub_argument_step c =
-    elim c.match-spelling.branch
-    [ in-Listed w ↦ keyword_long base _ _ (stands_listed _ _ (sym c.keyword-spelling.ensures ∙ w.in-Listed.is))
-    | in-Respelt w ↦ keyword_long base _ _ (stands_respelt _ _ (sym c.keyword-spelling.ensures ∙ w.in-Respelt.is)) ]
+    elim c.match-spelling.branch [
+      | in-Listed w ↦ keyword_long base _ _ (stands_listed _ _ (sym c.keyword-spelling.ensures ∙ w.in-Listed.is))
+      | in-Respelt w ↦ keyword_long base _ _ (stands_respelt _ _ (sym c.keyword-spelling.ensures ∙ w.in-Respelt.is))
+    ]
 
 part_argument_step_start : tie.Need-slice_bounds-argument_step-start
 part_argument_step_start c =
-    elim c.match-spelling.branch
-    [ in-Listed w ↦ keyword_long base _ _ (stands_listed _ _ (sym c.keyword-spelling.ensures ∙ w.in-Listed.is))
-    | in-Respelt w ↦ keyword_long base _ _ (stands_respelt _ _ (sym c.keyword-spelling.ensures ∙ w.in-Respelt.is)) ]
+    elim c.match-spelling.branch [
+      | in-Listed w ↦ keyword_long base _ _ (stands_listed _ _ (sym c.keyword-spelling.ensures ∙ w.in-Listed.is))
+      | in-Respelt w ↦ keyword_long base _ _ (stands_respelt _ _ (sym c.keyword-spelling.ensures ∙ w.in-Respelt.is))
+    ]
 
 part_argument_step_end : tie.Need-slice_bounds-argument_step-end
 part_argument_step_end c = search rules
@@ -48,9 +49,10 @@ argument_step_requires c κs = search rules
 
 returns_2 : tie.Need-returns
 returns_2 c =
-    elim c.match-spelling.branch
-    [ in-Listed w ↦ step_listed base _ _ _ (sym c.keyword-spelling.ensures ∙ w.in-Listed.is) c.argument_step.ensures w.count-is
-    | in-Respelt w ↦ step_respelt base _ _ _ (sym c.keyword-spelling.ensures ∙ w.in-Respelt.is) c.argument_step.ensures w.count-is ]
+    elim c.match-spelling.branch [
+      | in-Listed w ↦ step_listed base _ _ _ (sym c.keyword-spelling.ensures ∙ w.in-Listed.is) c.argument_step.ensures w.count-is
+      | in-Respelt w ↦ step_respelt base _ _ _ (sym c.keyword-spelling.ensures ∙ w.in-Respelt.is) c.argument_step.ensures w.count-is
+    ]
 
 pub keyword_step_spec : {M : Type 1} → statement M
 keyword_step_spec =

@@ -4,7 +4,6 @@ use Rattle.reader.proofs.PlaceLaws.{last_beyond, last_none, last_marked}
 use Rattle.reader.proofs.last_end.Statement.{statement}
 use Rattle.reader.proofs.last_end.Tie as tie
 
-
 returns : tie.Need-returns-then-s-at
 returns c = last_beyond _ _ c.if-s-at.true
 

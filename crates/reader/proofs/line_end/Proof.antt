@@ -7,7 +7,6 @@ use Rattle.reader.proofs.LineLaws.{line_found, line_missing, line_too_long}
 use Rattle.reader.proofs.line_end.Statement.{statement}
 use Rattle.reader.proofs.line_end.Tie as tie
 
-
 allowed_run_requires : tie.Need-allowed_run-end-requires
 allowed_run_requires c κs = search rules
 

@@ -7,7 +7,6 @@ use Rattle.reader.proofs.LineLaws.{ends_behind, ends_between, ends_by_lf, ends_n
 use Rattle.reader.proofs.line_ends.Statement.{statement}
 use Rattle.reader.proofs.line_ends.Tie as tie
 
-
 returns : tie.Need-returns-then-s-at
 returns c = ends_behind _ _ c.if-s-at.true
 

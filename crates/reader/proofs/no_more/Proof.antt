@@ -4,7 +4,6 @@ use Rattle.reader.proofs.DueLaws.{nothing_due}
 use Rattle.reader.proofs.no_more.Statement.{statement}
 use Rattle.reader.proofs.no_more.Tie as tie
 
-
 returns : tie.Need-returns
 returns c = nothing_due base _
 

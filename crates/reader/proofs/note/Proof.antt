@@ -7,7 +7,6 @@ use Rattle.reader.proofs.HeadLaws.{log_small}
 use Rattle.reader.proofs.note.Statement.{statement}
 use Rattle.reader.proofs.note.Tie as tie
 
-
 cast_list : tie.Need-overflow_cast-list
 cast_list c = omega (arith, c.requires, log_small)
 

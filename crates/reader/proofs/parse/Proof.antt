@@ -19,7 +19,6 @@ use Rattle.reader.proofs.RecordLaws.{Stands, contact_is, country_is_lem, field_b
 use Rattle.reader.proofs.parse.Statement.{statement}
 use Rattle.reader.proofs.parse.Tie as tie
 
-
 -- The text and the first place, at the place behind each field, each by the place behind the field before it.
 abbrev text1 : tie.In-Dated → Text
 text1 c = c.args.s.now

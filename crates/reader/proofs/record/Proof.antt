@@ -6,7 +6,6 @@ use Rattle.reader.proofs.ParseLaws.{bad_alone, kept_alone, late_alone}
 use Rattle.reader.proofs.record.Statement.{statement}
 use Rattle.reader.proofs.record.Tie as tie
 
-
 parse_requires : tie.Need-parse-read-requires
 parse_requires c κs = search rules
 

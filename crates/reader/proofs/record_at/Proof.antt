@@ -8,7 +8,6 @@ use Rattle.reader.proofs.record_at.Statement.{statement}
 use Rattle.reader.proofs.record_at.Lts.{in-Bad, in-Fields+else-line_ends}
 use Rattle.reader.proofs.record_at.Tie as tie
 
-
 parse_requires : tie.Need-parse-read-requires
 parse_requires c κs = search rules
 
@@ -32,11 +31,12 @@ returns_2 : tie.Need-returns
 returns_2 c =
     let a = c.args in
     let told : broken_from base a.s.now a.at c.match-read.field ≡ record_at base a.s.now a.at =
-    elim c.match-read.branch
-    [ in-Bad w ↦ ap (broken_from base a.s.now a.at) w.field-is ∙ bad_due base _ _ (sym c.parse-read.ensures ∙ w.in-Bad.is)
-    | in-Fields+else-line_ends w ↦
-        ap (broken_from base a.s.now a.at) w.field-is
-        ∙ late_due base _ _ (sym c.parse-read.ensures ∙ w.in-Fields.is) (sym w.line_ends.ensures ∙ w.if-line_ends.false) ] in
+    elim c.match-read.branch [
+      | in-Bad w ↦ ap (broken_from base a.s.now a.at) w.field-is ∙ bad_due base _ _ (sym c.parse-read.ensures ∙ w.in-Bad.is)
+      | in-Fields+else-line_ends w ↦
+          ap (broken_from base a.s.now a.at) w.field-is
+          ∙ late_due base _ _ (sym c.parse-read.ensures ∙ w.in-Fields.is) (sym w.line_ends.ensures ∙ w.if-line_ends.false)
+    ] in
     c.broken_at.ensures ∙ told
 
 pub record_at_spec : {M : Type 1} → statement M

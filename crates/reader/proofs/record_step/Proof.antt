@@ -7,7 +7,6 @@ use Rattle.reader.proofs.DueLaws.{record_bad, record_last, record_next_lem}
 use Rattle.reader.proofs.record_step.Statement.{statement}
 use Rattle.reader.proofs.record_step.Tie as tie
 
-
 record_requires : tie.Need-record-read-requires
 record_requires c κs = search rules
 

@@ -3,7 +3,6 @@ use Rattle.reader.proofs.StepLaws.{none_due, some_due}
 use Rattle.reader.proofs.records_due.Statement.{statement}
 use Rattle.reader.proofs.records_due.Tie as tie
 
-
 returns : tie.Need-returns-then-n-eq0
 returns c = none_due _ c.if-n-eq0.true
 

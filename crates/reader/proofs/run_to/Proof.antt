@@ -10,7 +10,6 @@ use Rattle.reader.specs.Line.{other_than}
 use Rattle.reader.proofs.run_to.Statement.{statement}
 use Rattle.reader.proofs.run_to.Tie as tie
 
-
 abbrev invariant-loop : tie.invariant-loop-i
 invariant-loop s at b i₀ i = Within (other_than b) s at i
 

@@ -6,7 +6,6 @@ use Rattle.reader.proofs.FirstLaws.{points_bad, points_left, points_none, points
 use Rattle.reader.proofs.scored.Statement.{statement}
 use Rattle.reader.proofs.scored.Tie as tie
 
-
 points_requires : tie.Need-points-requires
 points_requires c κs = search rules
 

@@ -10,7 +10,6 @@ use Rattle.reader.proofs.semicolons.Statement.{statement}
 use Rattle.reader.proofs.semicolons.Lts.{then-line-i-eq59, else-line-i-eq59}
 use Rattle.reader.proofs.semicolons.Tie as tie
 
-
 abbrev invariant-loop : tie.invariant-loop-i
 invariant-loop line n₀ i₀ n i = (n ≤ i) × (i ≤ length line) × (semicolons_in line ≡ n + semicolons_in (drop i line))
 
@@ -36,9 +35,10 @@ loop_again : tie.Need-loop-i-preserved invariant-loop decreases-loop
 loop_again c =
     let line = c.args.line.now in
     let i = c.loop-i.i in
-    elim c.if-line-i-eq59.branch
-    [ then-line-i-eq59 w ↦ omega (arith, one_semicolon line i (search rules) w.if-line-i-eq59.true, w.n-is)
-    | else-line-i-eq59 w ↦ omega (arith, no_semicolon line i (search rules) w.if-line-i-eq59.false, w.n-is) ]
+    elim c.if-line-i-eq59.branch [
+      | then-line-i-eq59 w ↦ omega (arith, one_semicolon line i (search rules) w.if-line-i-eq59.true, w.n-is)
+      | else-line-i-eq59 w ↦ omega (arith, no_semicolon line i (search rules) w.if-line-i-eq59.false, w.n-is)
+    ]
 
 returns : tie.Need-returns invariant-loop decreases-loop
 returns c = omega (arith, none_left c.args.line.now c.loop-i.i (search rules))

@@ -8,7 +8,6 @@ use Rattle.reader.proofs.DueLaws.{at_end_lem, at_record}
 use Rattle.reader.proofs.step.Statement.{statement}
 use Rattle.reader.proofs.step.Tie as tie
 
-
 enum_known_due : tie.Need-enum_known-due
 enum_known_due c = search rules
 

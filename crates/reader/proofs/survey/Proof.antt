@@ -9,7 +9,6 @@ use Rattle.reader.proofs.NotedLaws.{records_listed, records_read, refused_listed
 use Rattle.reader.proofs.survey.Statement.{statement}
 use Rattle.reader.proofs.survey.Tie as tie
 
-
 -- The places of the code: the start, behind the head, and behind the records.
 abbrev start : tie.In-Head → tie.Start
 start d = d.before.before.before.before.before.before.before.before

@@ -12,7 +12,6 @@ use Rattle.reader.proofs.NotedLaws.{Fills, Placed, Surveys, fills_end, fills_fir
 use Rattle.reader.proofs.survey_records.Statement.{statement}
 use Rattle.reader.proofs.survey_records.Tie as tie
 
-
 abbrev invariant-loop : tie.invariant-loop-i
 invariant-loop log records first claims before calls₀ exchanges₀ points₀ pointsends₀ ends₀ at₀ line₀ i₀ calls exchanges points pointsends ends at line i =
     Surveys base log records first claims before at line i

@@ -7,7 +7,6 @@ use Rattle.reader.proofs.FirstLaws.{end_near, error_known, error_unknown, third_
 use Rattle.reader.proofs.third_is_error.Statement.{statement}
 use Rattle.reader.proofs.third_is_error.Tie as tie
 
-
 field_end_requires : tie.Need-field_end-first-requires
 field_end_requires c κs = search rules
 

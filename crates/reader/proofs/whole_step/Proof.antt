@@ -5,7 +5,6 @@ use Rattle.reader.proofs.DueLaws.{whole_same, whole_other}
 use Rattle.reader.proofs.whole_step.Statement.{statement}
 use Rattle.reader.proofs.whole_step.Tie as tie
 
-
 same_text_requires : tie.Need-same_text-requires
 same_text_requires c κs = search rules
 

@@ -6,7 +6,6 @@ use Rattle.session.proofs.SessionLaws.{brought_credited, brought_void, brought_d
 use Rattle.session.proofs.brought_by.Statement.{statement}
 use Rattle.session.proofs.brought_by.Tie as tie
 
-
 no_tally_requires : tie.Need-no_tally-b-requires
 no_tally_requires c κs = search rules
 

@@ -6,7 +6,6 @@ use Rattle.session.proofs.StepLaws.{call_long, class_error, class_points, class_
 use Rattle.session.proofs.class_of.Statement.{statement}
 use Rattle.session.proofs.class_of.Tie as tie
 
-
 -- The places: the start, from where it is known to be no ERROR; with points, and with none.
 abbrev plain : tie.After-struct_known-2-1 → tie.Else-c
 plain c = c.before.before.before

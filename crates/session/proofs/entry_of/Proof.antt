@@ -5,7 +5,6 @@ use Rattle.session.proofs.StepLaws.{worked_told, entry_told}
 use Rattle.session.proofs.entry_of.Statement.{statement}
 use Rattle.session.proofs.entry_of.Tie as tie
 
-
 -- The places: where each of the three texts was laid, and before them where the length of the square is known.
 abbrev first : tie.After-put_text-2 → tie.After-put_text
 first c = c.before.before.before.before

@@ -4,7 +4,6 @@ use Rattle.session.specs.Entry.{four_at}
 use Rattle.session.proofs.four_at.Statement.{statement}
 use Rattle.session.proofs.four_at.Tie as tie
 
-
 shared_slice_read_four_bytes : tie.Need-bounds-s-at
 shared_slice_read_four_bytes c = search rules
 

@@ -11,7 +11,6 @@ use Rattle.session.proofs.SessionLaws.{Reached, last_read, few_present, reach_fa
 use Rattle.session.proofs.given_back.Statement.{statement}
 use Rattle.session.proofs.given_back.Tie as tie
 
-
 -- The places, each by the one before: where the slices are known to reach, where the records were counted, where the verdict and the mode of
 -- the last were read, and where the code begins.
 abbrev start : tie.Else-not-reach → tie.Start

@@ -4,7 +4,6 @@ use Rattle.session.proofs.StepLaws.{place_narrow, place_wide, place_full, place_
 use Rattle.session.proofs.has_place.Statement.{statement}
 use Rattle.session.proofs.has_place.Tie as tie
 
-
 returns : tie.Need-returns-then-width-lt-WORKED_BYTES
 returns c = place_narrow _ _ _ _ c.if-width-lt-WORKED_BYTES.true
 

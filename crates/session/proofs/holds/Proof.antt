@@ -4,7 +4,6 @@ use Rattle.session.proofs.SessionLaws.{not_holds, holds_last}
 use Rattle.session.proofs.holds.Statement.{statement}
 use Rattle.session.proofs.holds.Tie as tie
 
-
 -- Behind the seven tests, each place by the one behind it.
 returns_8 : tie.Need-returns
 returns_8 c =

@@ -13,7 +13,6 @@ use Rattle.session.proofs.is_held.Statement.{statement}
 use Rattle.session.proofs.is_held.Lts.{then-n-k, else-n-k+then-same_text}
 use Rattle.session.proofs.is_held.Tie as tie
 
-
 abbrev invariant_look : tie.invariant-look
 invariant_look kept width n entry at size mark part four k₀ k =
     let stands = stands_at kept width at (take size (drop at entry)) in
@@ -142,15 +141,16 @@ returns c =
     let s = begun after in
     let a = s.args in
     held_told a.kept.now a.entry.now a.width a.n a.at a.size (room s) c.if-n-k.found
-    (elim c.if-n-k.branch
-    [ then-n-k w ↦
-        let none : c.if-n-k.found ≡ after.next_at-k.result = omega (arith, w.found-is, w.if-n-k.true, within after) in
-        none ∙ sym (onward after ∙ first_over (stands s) a.n after.next_at-k.result w.if-n-k.true)
-    | else-n-k+then-same_text w ↦
-        w.found-is
-        ∙ sym
-        (onward after
-        ∙ first_found (stands s) a.n after.next_at-k.result w.if-n-k.false (sym (compared after) ∙ sym w.same_text.ensures ∙ w.if-same_text.true)) ])
+    (elim c.if-n-k.branch [
+      | then-n-k w ↦
+          let none : c.if-n-k.found ≡ after.next_at-k.result = omega (arith, w.found-is, w.if-n-k.true, within after) in
+          none ∙ sym (onward after ∙ first_over (stands s) a.n after.next_at-k.result w.if-n-k.true)
+      | else-n-k+then-same_text w ↦
+          w.found-is
+          ∙ sym
+          (onward after
+          ∙ first_found (stands s) a.n after.next_at-k.result w.if-n-k.false (sym (compared after) ∙ sym w.same_text.ensures ∙ w.if-same_text.true))
+    ])
 
 pub is_held_spec : {M : Type 1} → statement M
 is_held_spec =

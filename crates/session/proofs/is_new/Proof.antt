@@ -6,7 +6,6 @@ use Rattle.session.proofs.StepLaws.{new_asked}
 use Rattle.session.proofs.is_new.Statement.{statement}
 use Rattle.session.proofs.is_new.Tie as tie
 
-
 returns : tie.Need-returns-then-long-eq0
 returns c = rw (eq-eqb c.args.long 0 c.if-long-eq0.true)
 

@@ -7,7 +7,6 @@ use Rattle.session.proofs.SessionLaws.{unsound, reached_by}
 use Rattle.session.proofs.is_reachable.Statement.{statement}
 use Rattle.session.proofs.is_reachable.Tie as tie
 
-
 are_sums_requires : tie.Need-are_sums-requires
 are_sums_requires c κs = search rules
 

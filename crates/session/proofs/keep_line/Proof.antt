@@ -13,7 +13,6 @@ use Rattle.session.proofs.StepLaws.{keeps_broken, keeps_full, keeps_one}
 use Rattle.session.proofs.keep_line.Statement.{statement}
 use Rattle.session.proofs.keep_line.Tie as tie
 
-
 -- The places: the start, from where the line is read; where it is a record; and where there is a place for it.
 abbrev start : tie.After-record → tie.Start
 start c = c.before.before.before.before

@@ -7,7 +7,6 @@ use Rattle.session.proofs.StepLaws.{PlaceFor, place_for, stepping, bytes_long, r
 use Rattle.session.proofs.keep_record.Statement.{statement}
 use Rattle.session.proofs.keep_record.Tie as tie
 
-
 -- The places: where the entry is known, and the verdict, and its number; and what is kept.
 abbrev start : tie.After-entry_of-entry → tie.Start
 start c = c.before.before.before.before

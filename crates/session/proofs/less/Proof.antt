@@ -5,7 +5,6 @@ use Rattle.session.proofs.SessionLaws.{Holds, holds_facts}
 use Rattle.session.proofs.less.Statement.{statement}
 use Rattle.session.proofs.less.Tie as tie
 
-
 -- Where the code begins, from where each pair of sums is read, and what is known there.
 abbrev pair1 : tie.After-struct_known-2-1 → tie.Start
 pair1 c = c.before.before

@@ -4,7 +4,6 @@ use Rattle.session.specs.Entry.{refused_line}
 use Rattle.session.proofs.line_refused.Statement.{statement}
 use Rattle.session.proofs.line_refused.Tie as tie
 
-
 returns : tie.Need-returns
 unfolding refused_line
 returns c = refl

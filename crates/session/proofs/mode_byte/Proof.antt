@@ -4,7 +4,6 @@ use Rattle.rules.specs.Text.{semicolon}
 use Rattle.session.proofs.mode_byte.Statement.{statement}
 use Rattle.session.proofs.mode_byte.Tie as tie
 
-
 returns : tie.Need-returns-then-first-eq59
 returns c = rw (eq-eqb c.args.first semicolon c.if-first-eq59.true)
 

@@ -7,7 +7,6 @@ use Rattle.session.proofs.LookLaws.{like}
 use Rattle.session.proofs.next_at.Statement.{statement}
 use Rattle.session.proofs.next_at.Tie as tie
 
-
 next_like_requires : tie.Need-next_like-requires
 next_like_requires c κs = rw c.if-width-eq-KEPT_BYTES.true at c.requires
 

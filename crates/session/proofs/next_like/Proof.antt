@@ -9,7 +9,6 @@ use Rattle.session.proofs.LookLaws.{few_records, like, Past, four_inside, past_n
 use Rattle.session.proofs.next_like.Statement.{statement}
 use Rattle.session.proofs.next_like.Tie as tie
 
-
 abbrev invariant-loop : tie.invariant-loop-k
 invariant-loop kept width at from n four k₀ k = (k ≤ n) × Past kept width at from n four k
 

@@ -7,7 +7,6 @@ use Rattle.session.proofs.LookLaws.{like, Past, first_over, four_inside, past_ne
 use Rattle.session.proofs.next_like_tail.Statement.{statement}
 use Rattle.session.proofs.next_like_tail.Tie as tie
 
-
 abbrev invariant-loop : tie.invariant-loop-k
 invariant-loop kept width at from n four k₀ k = (k ≤ n) × Past kept width at from n four k
 

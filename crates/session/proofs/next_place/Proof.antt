@@ -10,7 +10,6 @@ use Rattle.session.proofs.SessionLaws.{few_present, place_unreached, place_next,
 use Rattle.session.proofs.next_place.Statement.{statement}
 use Rattle.session.proofs.next_place.Tie as tie
 
-
 is_reachable_requires : tie.Need-is_reachable-requires
 is_reachable_requires c κs = search rules
 

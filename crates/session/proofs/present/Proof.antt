@@ -4,7 +4,6 @@ use Rattle.rules.specs.Rules.{base}
 use Rattle.session.proofs.present.Statement.{statement}
 use Rattle.session.proofs.present.Tie as tie
 
-
 add_result : tie.Need-overflow_add-result
 unfolding base
 add_result c = search rules

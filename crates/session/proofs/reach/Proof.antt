@@ -12,7 +12,6 @@ use Rattle.session.proofs.SessionLaws.{few_present, not_reached, none_present, s
 use Rattle.session.proofs.reach.Statement.{statement}
 use Rattle.session.proofs.reach.Tie as tie
 
-
 is_reachable_requires : tie.Need-is_reachable-requires
 is_reachable_requires c κs = search rules
 

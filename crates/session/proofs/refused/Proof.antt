@@ -4,7 +4,6 @@ use Rattle.session.specs.Session.{refused_by}
 use Rattle.session.proofs.refused.Statement.{statement}
 use Rattle.session.proofs.refused.Tie as tie
 
-
 returns : tie.Need-returns
 unfolding refused_by
 returns c = refl

@@ -8,7 +8,6 @@ use Rattle.session.proofs.SessionLaws.{start_refused, start_accepted}
 use Rattle.session.proofs.started.Statement.{statement}
 use Rattle.session.proofs.started.Tie as tie
 
-
 is_declared_requires : tie.Need-is_declared-requires
 is_declared_requires c κs = search rules
 

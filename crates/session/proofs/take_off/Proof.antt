@@ -10,7 +10,6 @@ use Rattle.session.proofs.SessionLaws.{mode_read, less_made, off_tally, off_mode
 use Rattle.session.proofs.take_off.Statement.{statement}
 use Rattle.session.proofs.take_off.Tie as tie
 
-
 -- The places, each by the one before: where the sums are known to hold what was brought, and where the counts of the modes are listed.
 abbrev start : tie.Else-not-holds → tie.Start
 start c = c.before.before.before.before

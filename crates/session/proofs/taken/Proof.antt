@@ -8,7 +8,6 @@ use Rattle.session.proofs.SessionLaws.{refused_told, accepted_told, verdicts_tol
 use Rattle.session.proofs.taken.Statement.{statement}
 use Rattle.session.proofs.taken.Tie as tie
 
-
 -- The places, each by the one before: where the line was kept, where its place was found, and where the code begins.
 abbrev line_kept_lem : tie.After-struct_known-1 → tie.After-keep_line-k
 line_kept_lem c = c.before.before.before.before.before.before

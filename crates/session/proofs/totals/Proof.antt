@@ -4,7 +4,6 @@ use Rattle.session.specs.Session.{totals_now}
 use Rattle.session.proofs.totals.Statement.{statement}
 use Rattle.session.proofs.totals.Tie as tie
 
-
 totals_kept_requires : tie.Need-totals_kept-requires
 totals_kept_requires c κs = search rules
 

@@ -14,7 +14,6 @@ use Rattle.session.proofs.StepLaws.{exchange_short_lem, verdict_credited, verdic
 use Rattle.session.proofs.verdict_of.Statement.{statement}
 use Rattle.session.proofs.verdict_of.Tie as tie
 
-
 -- The places: the start, from where the class is known; and where it is known to be credited.
 abbrev start : tie.After-class_of-class → tie.Start
 start c = c.before.before.before

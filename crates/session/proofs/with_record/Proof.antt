@@ -4,7 +4,6 @@ use Rattle.session.specs.Session.{with_record}
 use Rattle.session.proofs.with_record.Statement.{statement}
 use Rattle.session.proofs.with_record.Tie as tie
 
-
 one_more_requires : tie.Need-one_more-sums-requires
 one_more_requires c κs = search rules
 

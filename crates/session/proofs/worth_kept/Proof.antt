@@ -5,7 +5,6 @@ use Rattle.session.proofs.SessionLaws.{points_read}
 use Rattle.session.proofs.worth_kept.Statement.{statement}
 use Rattle.session.proofs.worth_kept.Tie as tie
 
-
 add_three_bytes : tie.Need-overflow_add-at
 add_three_bytes c = search rules
 

@@ -5,7 +5,6 @@ use Rattle.striker.proofs.SpreadLaws.{beyond}
 use Rattle.striker.proofs.byte_or_none.Statement.{statement}
 use Rattle.striker.proofs.byte_or_none.Tie as tie
 
-
 returns : tie.Need-returns-then-list-i
 returns c = beyond c.args.list.now c.args.i c.if-list-i.true
 

@@ -5,7 +5,6 @@ use native.Mathlib.Omega.{arith}
 use Rattle.striker.proofs.bytes_kept.Statement.{statement}
 use Rattle.striker.proofs.bytes_kept.Tie as tie
 
-
 returns : tie.Need-returns-then-struck
 returns c = search rules
 

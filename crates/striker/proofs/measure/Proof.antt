@@ -5,9 +5,8 @@ use borrow.Author.Rules.{rules}
 use native.Mathlib.Omega.{arith}
 use mathlib.Core.Bool.{Bool, cond}
 use mathlib.Core.Path.{◌≡◌, sym, ap, ap₂, ◌∙◌}
-use Prim.Native.Nat.{ℕ, ◌+◌, ◌-◌, ◌≤◌, ◌<◌}
+use Prim.Native.Nat.{ℕ, ◌+◌, ◌-◌, ◌≤◌}
 use lib.ListN.{length, get_or}
-use Rattle.rules.specs.Rules.{base}
 use Rattle.rules.specs.Striking.{marked, place_after}
 use Rattle.writer.proofs.RecordLoops.{log_small}
 use Rattle.writer.proofs.TextsLaws.{nothing_measured, next_measured, starts_first, starts_behind}
@@ -17,7 +16,6 @@ use Rattle.striker.specs.KeptText.{numbered_line}
 use Rattle.striker.proofs.LineLoops.{lies_here, line_long, line_here, lines_are_lem, place_more, none_yet}
 use Rattle.striker.proofs.measure.Statement.{statement}
 use Rattle.striker.proofs.measure.Tie as tie
-
 
 abbrev invariant-loop : tie.invariant-loop-i
 invariant-loop log first ends struck records₀ bytes₀ start₀ i₀ records bytes start i =

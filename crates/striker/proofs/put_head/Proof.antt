@@ -3,19 +3,17 @@
 use borrow.Author.Rules.{rules}
 use native.Mathlib.Omega.{arith}
 use mathlib.Core.List.{◌++◌}
-use mathlib.Core.Path.{◌≡◌, refl, sym, ap, ◌∙◌}
-use Prim.Native.Nat.{ℕ, ◌+◌, ◌≤◌}
+use mathlib.Core.Path.{refl, sym}
+use Prim.Native.Nat.{◌+◌, ◌≤◌}
 use lib.ListN.{length, take, length-append}
 use lib.Seq.{length-take-le}
 use Rattle.rules.specs.Log.{crlf}
-use Rattle.rules.specs.Text.{Text}
 use Rattle.writer.proofs.TextLaid.{laid_text}
 use Rattle.writer.proofs.WrittenLaws.{puts_then, puts_room}
 use Rattle.writer.specs.Written.{Puts}
 use Rattle.striker.specs.KeptText.{head_text}
 use Rattle.striker.proofs.put_head.Statement.{statement}
 use Rattle.striker.proofs.put_head.Tie as tie
-
 
 slice_aggregate_put_text : tie.Need-slice_bounds-put_text-end
 slice_aggregate_put_text c =

@@ -8,7 +8,6 @@ use Rattle.striker.proofs.LineLoops.{line_gone, line_stays}
 use Rattle.striker.proofs.put_line.Statement.{statement}
 use Rattle.striker.proofs.put_line.Tie as tie
 
-
 returns : tie.Need-returns-then-struck
 returns c =
     let b = c in

@@ -3,20 +3,18 @@
 -- Assumes nothing.
 use borrow.Author.Rules.{rules}
 use native.Mathlib.Omega.{arith}
-use mathlib.Core.Path.{◌≡◌, refl, sym, ap, ◌∙◌}
+use mathlib.Core.Path.{◌≡◌, refl, ap}
 use Prim.Native.Nat.{ℕ, ◌-◌, ◌≤◌}
-use lib.ListN.{length, get_or}
+use lib.ListN.{length}
 use Rattle.rules.specs.Striking.{marked}
 use Rattle.rules.specs.Text.{Text}
 use Rattle.writer.proofs.TextsLaws.{nothing_put, next_room, next_put, starts_first, starts_behind}
 use Rattle.writer.proofs.WrittenLaws.{puts_as}
 use Rattle.writer.specs.Written.{texts, start_of, Puts}
-use Rattle.striker.specs.Given.{LineLies}
 use Rattle.striker.specs.KeptText.{kept_line, numbered_line}
 use Rattle.striker.proofs.LineLoops.{lies_here, line_here, lines_are_lem}
 use Rattle.striker.proofs.put_lines.Statement.{statement}
 use Rattle.striker.proofs.put_lines.Tie as tie
-
 
 abbrev invariant-loop : tie.invariant-loop-i
 invariant-loop out₀ at log first ends struck end₀ start₀ i₀ out end start i =

@@ -17,7 +17,6 @@ use Rattle.striker.proofs.SpreadLaws.{turn, all_spread}
 use Rattle.striker.proofs.spread.Statement.{statement}
 use Rattle.striker.proofs.spread.Tie as tie
 
-
 abbrev invariant-loop : tie.invariant-loop-i
 invariant-loop told struck among₀ left₀ i₀ among left i =
     (length among ≡ length among₀)

@@ -1,7 +1,5 @@
 -- `striker::strike` meets its contract: what the reader tells of an accepted log is what striking asks for, and a refusal is the reader's.
 -- Assumes nothing.
-use Prim.Native.Nat.{ℕ}
-use mathlib.Core.List.{List}
 use mathlib.Core.Path.{◌≡◌, refl, sym, ◌∙◌}
 use lib.ListN.{replicate}
 use lib.Seq.{length-take-le}
@@ -13,7 +11,6 @@ use Rattle.rules.specs.Rules.{base}
 use Rattle.striker.proofs.StruckLaws.{Noted, many_noted, strikable, unread_told}
 use Rattle.striker.proofs.strike.Statement.{statement}
 use Rattle.striker.proofs.strike.Tie as tie
-
 
 -- The places of the code, each by the one before it.
 abbrev begun : tie.After-survey → tie.Start

@@ -2,23 +2,18 @@
 -- Assumes nothing.
 use borrow.Author.Rules.{rules}
 use native.Mathlib.Omega.{arith}
-use mathlib.Core.List.{List, ◌++◌}
-use mathlib.Core.Path.{◌≡◌, refl, sym, ap, ◌∙◌}
+use mathlib.Core.Path.{◌≡◌, sym, ap, ◌∙◌}
 use Prim.Native.Nat.{ℕ, ◌+◌, ◌-◌, ◌^◌, ◌≤◌, ◌<◌}
-use lib.ListN.{length, take, replicate, length-append}
+use lib.ListN.{length, take}
 use lib.Seq.{length-take-le}
-use Rattle.rules.specs.Log.{count_line, crlf}
+use Rattle.rules.specs.Log.{count_line}
 use Rattle.rules.specs.Rules.{base}
-use Rattle.rules.specs.Striking.{marked, place_after}
-use Rattle.rules.specs.Text.{Text}
 use Rattle.writer.proofs.RecordLoops.{log_small}
 use Rattle.writer.proofs.TextLaid.{count_short, word_is, word_fits}
 use Rattle.writer.proofs.WrittenLaws.{puts_then, puts_room, puts_as}
-use Rattle.striker.specs.KeptText.{kept_lines, head_text}
-use Rattle.striker.proofs.StruckLaws.{many, in_order, short, few, count_fits, result, body_of, inside, sized, put_together, head_length, few_told, long_told, all_told}
+use Rattle.striker.proofs.StruckLaws.{in_order, short, few, count_fits, result, body_of, inside, sized, put_together, head_length, few_told, long_told, all_told}
 use Rattle.striker.proofs.strike_read.Statement.{statement}
 use Rattle.striker.proofs.strike_read.Tie as tie
-
 
 -- The places of the code, each by the one before it.
 abbrev begun : tie.Else-struck-ends → tie.Start

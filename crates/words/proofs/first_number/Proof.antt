@@ -8,7 +8,6 @@ use Rattle.words.proofs.NumberLaws.{dash_within, first_text}
 use Rattle.words.proofs.first_number.Statement.{statement}
 use Rattle.words.proofs.first_number.Tie as tie
 
-
 run_to_requires : tie.Need-run_to-end-requires
 run_to_requires c κs = tt
 

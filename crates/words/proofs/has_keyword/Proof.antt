@@ -5,7 +5,6 @@ use Rattle.words.proofs.KeywordLaws.{keyword_told}
 use Rattle.words.proofs.has_keyword.Statement.{statement}
 use Rattle.words.proofs.has_keyword.Tie as tie
 
-
 keyword_requires : tie.Need-keyword-spelling-requires
 keyword_requires c κs = tt
 

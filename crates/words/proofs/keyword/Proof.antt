@@ -10,7 +10,6 @@ use Rattle.words.proofs.NumberLaws.{whole_none, whole_more, whole_read, whole_va
 use Rattle.words.proofs.keyword.Statement.{statement}
 use Rattle.words.proofs.keyword.Tie as tie
 
-
 -- Where the word is no keyword, from where a number was read, and what was read.
 abbrev begun : tie.In-Number → tie.Else-k-ne0
 begun c = c.before.before

@@ -11,7 +11,6 @@ use Rattle.words.proofs.KeywordLaws.{keyword_apart, five_line, keyword_here, key
 use Rattle.words.proofs.keyword_number.Statement.{statement}
 use Rattle.words.proofs.keyword_number.Tie as tie
 
-
 abbrev invariant-loop : tie.invariant-loop-k
 invariant-loop word line k₀ k =
     (length word ≡ 5) × (line ≡ word ++ bytes "=") × (keyword_from 1 entries word ≡ keyword_from (k + 1) (drop k entries) word)

@@ -8,7 +8,6 @@ use Rattle.words.proofs.NumberLaws.{last_same, last_behind}
 use Rattle.words.proofs.last_number.Statement.{statement}
 use Rattle.words.proofs.last_number.Tie as tie
 
-
 run_to_requires : tie.Need-run_to-end-requires
 run_to_requires c κs = tt
 

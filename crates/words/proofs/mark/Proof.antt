@@ -9,7 +9,6 @@ use Rattle.words.proofs.MarkLaws.{no_first, no_last, last_within, both, both_mar
 use Rattle.words.proofs.mark.Statement.{statement}
 use Rattle.words.proofs.mark.Tie as tie
 
-
 first_number_requires : tie.Need-first_number-first-requires
 first_number_requires c κs = tt
 

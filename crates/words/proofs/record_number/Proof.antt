@@ -9,7 +9,6 @@ use Rattle.words.proofs.NumberLaws.{whole_none, whole_more, whole_read, whole_va
 use Rattle.words.proofs.record_number.Statement.{statement}
 use Rattle.words.proofs.record_number.Tie as tie
 
-
 -- The function's start, from where a number was read, and what was read.
 abbrev start : tie.In-Number → tie.Start
 start c = c.before.before.before

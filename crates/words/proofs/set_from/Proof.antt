@@ -2,13 +2,12 @@
 use Prim.Native.Nat.{◌-◌, ◌≤◌}
 use native.Mathlib.Omega.{arith}
 use mathlib.Core.Path.{◌≡◌, refl}
-use lib.ListN.{length, set, length-set}
+use lib.ListN.{length, length-set}
 use borrow.Author.Rules.{rules}
 use Rattle.words.specs.Words.{marked_from}
 use Rattle.words.proofs.MarkLaws.{mark_none, mark_turn}
 use Rattle.words.proofs.set_from.Statement.{statement}
 use Rattle.words.proofs.set_from.Tie as tie
-
 
 abbrev invariant-loop : tie.invariant-loop-i
 invariant-loop struck₀ from to i₀ struck i =

@@ -5,7 +5,6 @@ use Rattle.writer.specs.ClaimsText.{claim_numbers}
 use Rattle.writer.proofs.claim_numbers.Statement.{statement}
 use Rattle.writer.proofs.claim_numbers.Tie as tie
 
-
 returns : tie.Need-returns
 unfolding claim_numbers
 returns c = refl

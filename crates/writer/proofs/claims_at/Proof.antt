@@ -13,7 +13,6 @@ use Rattle.writer.proofs.TextsLaws.{row_begins, row_next, row_all}
 use Rattle.writer.proofs.claims_at.Statement.{statement}
 use Rattle.writer.proofs.claims_at.Tie as tie
 
-
 abbrev invariant-loop : tie.invariant-loop-i
 invariant-loop s line starts₀ ends₀ next₀ i₀ starts ends next i =
     (length starts ≡ length starts₀)

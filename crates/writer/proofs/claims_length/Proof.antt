@@ -18,7 +18,6 @@ use Rattle.writer.proofs.WrittenLaws.{part_length}
 use Rattle.writer.proofs.claims_length.Statement.{statement}
 use Rattle.writer.proofs.claims_length.Tie as tie
 
-
 abbrev invariant-loop : tie.invariant-loop-i
 invariant-loop s first starts ends claims sum₀ from₀ i₀ sum from i =
     (i ≤ length claims)

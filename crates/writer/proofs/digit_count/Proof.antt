@@ -11,7 +11,6 @@ use Rattle.writer.proofs.WrittenLaws.{count_one, count_more, count_most}
 use Rattle.writer.proofs.digit_count.Statement.{statement}
 use Rattle.writer.proofs.digit_count.Tie as tie
 
-
 abbrev invariant-loop : tie.invariant-loop-rest
 invariant-loop n rest₀ count₀ rest count = (count + length (digits rest) ≡ 1 + length (digits n)) × (length (digits n) ≤ 20)
 

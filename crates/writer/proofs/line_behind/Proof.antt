@@ -10,7 +10,6 @@ use Rattle.writer.specs.ClaimsText.{line_behind}
 use Rattle.writer.proofs.line_behind.Statement.{statement}
 use Rattle.writer.proofs.line_behind.Tie as tie
 
-
 allowed_run_requires : tie.Need-allowed_run-requires
 allowed_run_requires c κs = search rules
 

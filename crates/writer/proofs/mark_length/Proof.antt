@@ -7,7 +7,6 @@ use Rattle.writer.specs.RecordText.{mark_text}
 use Rattle.writer.proofs.mark_length.Statement.{statement}
 use Rattle.writer.proofs.mark_length.Tie as tie
 
-
 returns : tie.Need-returns-then-marked
 unfolding mark_text new_mark duplicate_mark
 returns c = rw c.if-marked.true (refl, refl, search rules)

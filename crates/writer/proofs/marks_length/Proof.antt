@@ -6,7 +6,6 @@ use Rattle.writer.proofs.RecordWritten.{marks_length}
 use Rattle.writer.proofs.marks_length.Statement.{statement}
 use Rattle.writer.proofs.marks_length.Tie as tie
 
-
 mark_length_requires : tie.Need-mark_length-requires
 mark_length_requires c κs = search rules
 

@@ -5,7 +5,6 @@ use Rattle.writer.proofs.WrittenLaws.{written_byte}
 use Rattle.writer.proofs.put_byte.Statement.{statement}
 use Rattle.writer.proofs.put_byte.Tie as tie
 
-
 slice_write_out : tie.Need-bounds-out-at
 slice_write_out c = search rules
 

@@ -11,7 +11,6 @@ use Rattle.writer.proofs.WrittenLaws.{puts_room, puts_then, part_length}
 use Rattle.writer.proofs.put_claim.Statement.{statement}
 use Rattle.writer.proofs.put_claim.Tie as tie
 
-
 -- The place where the code begins, and what is copied.
 abbrev begun : tie.After-put_part-start → tie.Start
 begun c = c.before.before.before.before

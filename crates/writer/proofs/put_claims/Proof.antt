@@ -15,7 +15,6 @@ use Rattle.writer.proofs.WrittenLaws.{puts_then, puts_as, part_length}
 use Rattle.writer.proofs.put_claims.Statement.{statement}
 use Rattle.writer.proofs.put_claims.Tie as tie
 
-
 abbrev invariant-loop : tie.invariant-loop-i
 invariant-loop out₀ s first starts ends claims at₀ from₀ i₀ out at from i =
     (length out ≡ length out₀)

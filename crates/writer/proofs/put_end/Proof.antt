@@ -8,7 +8,6 @@ use Rattle.writer.proofs.WrittenLaws.{puts_room, puts_then}
 use Rattle.writer.proofs.put_end.Statement.{statement}
 use Rattle.writer.proofs.put_end.Tie as tie
 
-
 put_byte_requires : tie.Need-put_byte-feed-requires
 unfolding crlf
 put_byte_requires c κs = omega arith

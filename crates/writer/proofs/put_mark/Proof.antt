@@ -11,7 +11,6 @@ use Rattle.writer.proofs.WrittenLaws.{puts_room, puts_then, puts_as}
 use Rattle.writer.proofs.put_mark.Statement.{statement}
 use Rattle.writer.proofs.put_mark.Tie as tie
 
-
 -- The places of the code, each by the one before it.
 abbrev begun : tie.After-put_byte-field → tie.Start
 begun c = c.before.before.before

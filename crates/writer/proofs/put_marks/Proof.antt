@@ -1,6 +1,5 @@
 -- `writer::put_marks` meets its contract: four fields and the line's end, each behind what was written before it.
 -- Assumes nothing.
-use Prim.Native.Nat.{◌+◌}
 use mathlib.Core.List.{◌++◌}
 use lib.ListN.{length}
 use borrow.Author.Rules.{rules}
@@ -13,7 +12,6 @@ use Rattle.writer.proofs.RecordWritten.{room_exchange, room_square, room_country
 use Rattle.writer.proofs.WrittenLaws.{puts_room, puts_then}
 use Rattle.writer.proofs.put_marks.Statement.{statement}
 use Rattle.writer.proofs.put_marks.Tie as tie
-
 
 -- The places of the code, each by the one before it.
 abbrev begun : tie.After-put_mark-second → tie.Start

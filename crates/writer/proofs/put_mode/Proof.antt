@@ -6,7 +6,6 @@ use Rattle.writer.specs.Shown.{mode_line}
 use Rattle.writer.proofs.put_mode.Statement.{statement}
 use Rattle.writer.proofs.put_mode.Tie as tie
 
-
 array_write_word : tie.Need-bounds-word-5
 array_write_word c = search rules
 

@@ -6,13 +6,12 @@ use native.Mathlib.Omega.{arith}
 use mathlib.Core.Path.{◌≡◌, refl, ◌∙◌}
 use lib.ListN.{length}
 use borrow.Author.Rules.{rules}
-use Rattle.writer.specs.Shown.{mode_marks, mode_line_at, mode_lines}
+use Rattle.writer.specs.Shown.{mode_marks, mode_line_at}
 use Rattle.writer.specs.Written.{texts, Puts}
 use Rattle.writer.proofs.ShownLaws.{all_modes}
 use Rattle.writer.proofs.TextsLaws.{nothing_put, next_put}
 use Rattle.writer.proofs.put_modes.Statement.{statement}
 use Rattle.writer.proofs.put_modes.Tie as tie
-
 
 abbrev invariant-loop : tie.invariant-loop-i
 invariant-loop out₀ at modes marks end₀ i₀ out end i =

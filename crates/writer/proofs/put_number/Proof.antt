@@ -12,7 +12,6 @@ use Rattle.writer.proofs.WrittenLaws.{count_more, count_some, digit_turn, digit_
 use Rattle.writer.proofs.put_number.Statement.{statement}
 use Rattle.writer.proofs.put_number.Tie as tie
 
-
 abbrev invariant-loop : tie.invariant-loop-rest
 invariant-loop out₀ at n end rest₀ i₀ out rest i =
     (i + 1 ≡ at + length (digits rest)) × (length out ≡ length out₀) × (at + length (digits rest) ≤ length out₀)

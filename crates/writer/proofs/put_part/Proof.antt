@@ -12,7 +12,6 @@ use Rattle.writer.proofs.WrittenLaws.{part_length, part_none, part_turn}
 use Rattle.writer.proofs.put_part.Statement.{statement}
 use Rattle.writer.proofs.put_part.Tie as tie
 
-
 abbrev invariant-loop : tie.invariant-loop-i
 invariant-loop out₀ at s from to i₀ end₀ out i end =
     (from ≤ i) × (i ≤ to) × (end ≡ at + (i - from)) × (length out ≡ length out₀) × (out ≡ written out₀ at (between s from i))

@@ -1,6 +1,6 @@
 -- `writer::put_record` meets its contract: what is copied, a duplicate's `0` and the marks, each behind what was written before it.
 -- Assumes nothing.
-use Prim.Native.Nat.{◌+◌, ◌-◌, ◌≤◌}
+use Prim.Native.Nat.{◌-◌, ◌≤◌}
 use native.Mathlib.Omega.{arith}
 use mathlib.Core.List.{◌++◌}
 use mathlib.Core.Path.{◌≡◌, sym}
@@ -14,7 +14,6 @@ use Rattle.writer.proofs.RecordWritten.{copied_behind, copied_inside, marks, rec
 use Rattle.writer.proofs.WrittenLaws.{puts_room, puts_then, puts_as, part_length}
 use Rattle.writer.proofs.put_record.Statement.{statement}
 use Rattle.writer.proofs.put_record.Tie as tie
-
 
 -- The places of the code, each by the one before it.
 abbrev begun : tie.After-copied_to-to → tie.Start

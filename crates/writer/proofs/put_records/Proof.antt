@@ -15,7 +15,6 @@ use Rattle.writer.proofs.WrittenLaws.{puts_as}
 use Rattle.writer.proofs.put_records.Statement.{statement}
 use Rattle.writer.proofs.put_records.Tie as tie
 
-
 abbrev invariant-loop : tie.invariant-loop-i
 invariant-loop out₀ at s first points pointsends ends numbers end₀ start₀ i₀ out end start i =
     (length out ≡ length out₀)

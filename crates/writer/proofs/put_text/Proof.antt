@@ -7,7 +7,6 @@ use Rattle.writer.proofs.WrittenLaws.{puts_as, part_whole}
 use Rattle.writer.proofs.put_text.Statement.{statement}
 use Rattle.writer.proofs.put_text.Tie as tie
 
-
 returns : tie.Need-returns-then-out-at
 returns c =
     let b = c in

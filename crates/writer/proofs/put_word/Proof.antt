@@ -11,7 +11,6 @@ use Rattle.writer.proofs.WrittenLaws.{puts_as, puts_room, puts_then, count_most,
 use Rattle.writer.proofs.put_word.Statement.{statement}
 use Rattle.writer.proofs.put_word.Tie as tie
 
-
 -- The places of the code, each by the one before it.
 abbrev begun : tie.After-put_part-number → tie.Start
 begun c = c.before.before.before.before

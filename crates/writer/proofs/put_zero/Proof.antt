@@ -9,7 +9,6 @@ use Rattle.writer.proofs.WrittenLaws.{puts_as, puts_nothing}
 use Rattle.writer.proofs.put_zero.Statement.{statement}
 use Rattle.writer.proofs.put_zero.Tie as tie
 
-
 returns : tie.Need-returns-then-not-duplicate
 returns c = puts_nothing (no_zero_lem c.args.duplicate c.if-not-duplicate.true-raw) (omega (arith, c.requires))
 

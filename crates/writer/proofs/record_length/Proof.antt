@@ -11,7 +11,6 @@ use Rattle.writer.proofs.WrittenLaws.{part_length}
 use Rattle.writer.proofs.record_length.Statement.{statement}
 use Rattle.writer.proofs.record_length.Tie as tie
 
-
 -- The places of the code, each by the one before it.
 abbrev begun : tie.After-copied_to-to → tie.Start
 begun c = c.before.before.before

@@ -14,7 +14,6 @@ use Rattle.writer.proofs.TextsLaws.{nothing_measured, next_measured, starts_firs
 use Rattle.writer.proofs.records_length.Statement.{statement}
 use Rattle.writer.proofs.records_length.Tie as tie
 
-
 abbrev invariant-loop : tie.invariant-loop-i
 invariant-loop s first points pointsends ends numbers sum₀ start₀ i₀ sum start i =
     (i ≤ length numbers)

@@ -12,7 +12,6 @@ use Rattle.writer.proofs.WrittenLaws.{puts_length, puts_room}
 use Rattle.writer.proofs.respell.Statement.{statement}
 use Rattle.writer.proofs.respell.Tie as tie
 
-
 abbrev invariant-loop : tie.invariant-loop-k
 invariant-loop out₀ respelt at₀ k₀ out at k =
     (k ≤ 36)

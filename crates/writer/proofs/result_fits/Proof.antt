@@ -8,7 +8,6 @@ use Rattle.rules.specs.Rules.{base}
 use Rattle.writer.proofs.result_fits.Statement.{statement}
 use Rattle.writer.proofs.result_fits.Tie as tie
 
-
 longest_log_requires : tie.Need-longest_log-requires
 longest_log_requires c κs = search rules
 

@@ -6,7 +6,6 @@ use Rattle.writer.proofs.ShownLaws.{desk_totals, desk_refusal, all_shown}
 use Rattle.writer.proofs.show.Statement.{statement}
 use Rattle.writer.proofs.show.Tie as tie
 
-
 -- The places of the code, each by the one before it.
 abbrev begun : tie.After-judge → tie.Start
 begun c = c.before.before.before

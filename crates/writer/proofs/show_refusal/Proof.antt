@@ -6,7 +6,6 @@ use Rattle.writer.proofs.WrittenLaws.{puts_as, puts_then}
 use Rattle.writer.proofs.show_refusal.Statement.{statement}
 use Rattle.writer.proofs.show_refusal.Tie as tie
 
-
 -- The places of the code, each by the one before it.
 abbrev begun : tie.After-put_word-line → tie.Start
 begun c = c.before.before.before.before.before

@@ -10,7 +10,6 @@ use Rattle.writer.proofs.WrittenLaws.{puts_as, puts_then}
 use Rattle.writer.proofs.show_totals.Statement.{statement}
 use Rattle.writer.proofs.show_totals.Tie as tie
 
-
 -- The places of the code, each by the one before it.
 abbrev first : tie.After-put_word-third → tie.After-put_word-second
 first c = c.before.before.before.before

@@ -15,7 +15,6 @@ use Rattle.writer.proofs.WeighedLaws.{Noted, many_numbers, many_places_lem, writ
 use Rattle.writer.proofs.write.Statement.{statement}
 use Rattle.writer.proofs.write.Tie as tie
 
-
 -- The places of the code, each by the one before it.
 abbrev empty : tie.After-weigh → tie.After-verdicts-1
 empty c = c.before.before.before.before

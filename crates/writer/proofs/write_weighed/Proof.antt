@@ -19,7 +19,6 @@ use Rattle.writer.proofs.WrittenLaws.{puts_room, puts_then, puts_as}
 use Rattle.writer.proofs.write_weighed.Statement.{statement}
 use Rattle.writer.proofs.write_weighed.Tie as tie
 
-
 -- The places of the code, each by the one before it.
 abbrev begun : tie.After-slice_known-1 → tie.Start
 begun c = c.before.before.before.before.before.before

@@ -11,7 +11,6 @@ use Rattle.figures.proofs.TimeLaws.{made_kind, made_hours, made_minutes, made_ti
 use Rattle.figures.proofs.TimeOfDay.from_digits.Statement.{statement}
 use Rattle.figures.proofs.TimeOfDay.from_digits.Tie as tie
 
-
 -- The four characters; and as many of them as were passed are digits.
 abbrev four : tie.Start → Text
 four c = c.args.a ∷ c.args.b ∷ c.args.c ∷ c.args.d ∷ []

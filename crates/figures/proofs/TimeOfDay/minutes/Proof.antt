@@ -5,7 +5,6 @@ use Rattle.figures.specs.Figure.{minutes_of}
 use Rattle.figures.proofs.TimeOfDay.minutes.Statement.{statement}
 use Rattle.figures.proofs.TimeOfDay.minutes.Tie as tie
 
-
 mul_result : tie.Need-overflow_mul-result
 mul_result c = search rules
 
