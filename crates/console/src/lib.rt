@@ -98,10 +98,12 @@ pub fn fill<R: Read>(input: &mut R, log: &mut [u8]) -> Taken
 }
 
 // Takes the log, and where a read fails says so in the name of the program.
-pub fn take(rt: &(impl Input + EprintBytes), log: &mut [u8], program: &[u8]) -> Taken
-    ensures { IsPrefixLen result.bytes log.new }
+pub fn take<R: Read>(rt: &impl EprintBytes, input: &mut R, log: &mut [u8], program: &[u8]) -> Taken
+    ensures count { IsPrefixLen result.bytes log.new }
+    ensures bytes { Consumes (R.remaining input.old) (R.remaining input.new) (take result.bytes log.new) }
+    ensures end { result.failed ≡ false → result.bytes < length log.new → IsAtEnd (R.remaining input.new) }
 {
-    let taken = fill(&mut rt.reader(), log);
+    let taken = fill(input, log);
     if taken.failed {
         say(rt, program);
         say(rt, b": cannot read the log: the system tells of an error\n");

@@ -397,7 +397,7 @@ fn main(rt: HostRuntime) {
         return;
     }
     let mut log = [0u8; rules::LONGEST_LOG + 1];
-    let taken = console::take(&rt, &mut log, b"desk");
+    let taken = console::take(&rt, &mut rt.reader(), &mut log, b"desk");
     if taken.failed {
         return;
     }

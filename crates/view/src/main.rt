@@ -43,7 +43,7 @@ fn show_argument(rt: &(impl Print + EprintBytes), argument: &[u8]) {
 // A log has at most 65,535 bytes: one byte more tells that there are too many.
 fn view(rt: &(impl Input + Print + EprintBytes), keyword: usize) {
     let mut log = [0u8; rules::LONGEST_LOG + 1];
-    let taken = console::take(rt, &mut log, b"desk");
+    let taken = console::take(rt, &mut rt.reader(), &mut log, b"desk");
     if taken.failed {
         return;
     }

@@ -18,7 +18,7 @@ fn write(rt: &(impl Print + EprintBytes), log: &[u8]) {
 // A log has at most 65,535 bytes: one byte more tells that there are too many.
 fn main(rt: HostRuntime) {
     let mut log = [0u8; rules::LONGEST_LOG + 1];
-    let taken = console::take(&rt, &mut log, b"desk");
+    let taken = console::take(&rt, &mut rt.reader(), &mut log, b"desk");
     if taken.failed {
         return;
     }
