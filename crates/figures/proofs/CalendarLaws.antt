@@ -1,9 +1,9 @@
 -- Laws of the calendar: leap years, the lengths of months, and the days that exist.
 -- Assumes nothing.
-use Prim.Native.Nat.{ℕ, zero, suc, ◌+◌, ◌-◌, ◌/◌, ◌%◌, ◌≤◌, ◌<◌}
+use Prim.Native.Nat.{ℕ, zero, suc, ◌+◌, ◌-◌, ◌%◌, ◌≤◌, ◌<◌}
 use native.Mathlib.Nat.{add-zero}
 use native.Mathlib.Omega.{arith}
-use mathlib.Core.Bool.{Bool, true, false, cond, not, ◌&&◌, and-false, and-true, or-false, or-true}
+use mathlib.Core.Bool.{Bool, true, false, not, ◌&&◌, and-false, and-true, or-false, or-true}
 use mathlib.Core.List.{List, [], ◌∷◌}
 use mathlib.Core.Path.{◌≡◌, refl, sym, ap, ◌∙◌}
 use lib.Dec.{leb, eqb}
@@ -11,6 +11,7 @@ use lib.ListN.{length, get_or}
 use borrow.Author.Tests.{not-true, eqb-true, eq-eqb, ne_eqb, le-leb, lt-leb}
 use Rattle.rules.specs.Fields.{month_lengths, leap, month_length, day_exists, full_year}
 use Rattle.rules.proofs.Tests.{and_l, and_r}
+use Rattle.figures.proofs.Turns.{turn, common, february}
 
 module _ (year : ℕ) where
   pub leap_four_hundred : year % 400 ≡ 0 → true ≡ leap year
@@ -38,13 +39,6 @@ each_given f at (n ∷ l) (suc i) t h =
     let further : at + suc i ≡ at + 1 + i = omega arith in
     ap f further ∙ each_given f (at + 1) l i (and_r (eqb (f at) n) (gives f (at + 1) l) t) (omega (arith, h))
 
--- The days of a month by its turn, as the code reckons them, and from these a month of a common year.
-abbrev turn : ℕ → ℕ
-turn month = 30 + (month + month / 8) % 2
-
-unfoldable common : ℕ → ℕ
-common month = turn month - cond (eqb month 2) 2 0
-
 -- From the first month on they are the calendar's twelve.
 twelve : gives common 1 month_lengths ≡ true
 unfolding common gives month_lengths
@@ -62,7 +56,7 @@ module _ (year month : ℕ) where
     unfolding month_length common
     length_plain h = rw (sym (common_length month is), ne_eqb month 2 h) (omega arith)
 
-    pub length_common : month ≡ 2 → not (leap year) ≡ true → turn month - 2 ≡ month_length year month
+    pub length_common : month ≡ 2 → not (leap year) ≡ true → february month ≡ month_length year month
     unfolding month_length common
     length_common e h = rw (sym (common_length month is), eq-eqb month 2 e, not-true (leap year) h) (omega arith)
 

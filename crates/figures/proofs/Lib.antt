@@ -2,6 +2,7 @@
 pub mod NumberLaws
 pub mod ExactLaws
 pub mod TimeLaws
+pub mod Turns
 pub mod CalendarLaws
 pub mod DateLaws
 pub mod Picked
