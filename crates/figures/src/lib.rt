@@ -177,6 +177,7 @@ pub fn claimed_total(s: &[u8], at: usize) -> NumberRead
 }
 
 // A number from the least to the most. One that a u64 may not hold is above the most, so it need not be read to its end.
+#[tactic(auto, using(crate::proofs::BoundLaws::from_high))]
 fn number_from(s: &[u8], at: usize, least: u64, most: u64) -> NumberRead
     requires { most < 10 ^ 19 }
     ensures { result ≡ number_at (number_from least most) s.now at }

@@ -437,7 +437,8 @@ fn judge_next(
     callkeys[m] = key_of(s, call, end);
     let class = class_of(s, p, end, calls, callkeys, m);
     let number = class_number(class);
-    if number == 0 {
+    let credited = number == 0;
+    if credited {
         let mode = mode_place(s[end + 1]);
         return credited_next(s, p, mode, kept, calls, exchanges, exchangekeys, squares);
     }

@@ -610,6 +610,7 @@ fn counted_by(next: Due) -> CountRead
 }
 
 // Where the claims begin, behind a line where this was due: behind the line of the keyword that comes after 25.
+#[tactic(auto, unfolding(crate::specs::Read::claims_by))]
 fn claims_by(due: Due, claims: usize, at: usize) -> usize
     ensures { result ≡ claims_by due claims at }
 {

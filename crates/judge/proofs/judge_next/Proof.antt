@@ -26,7 +26,7 @@ abbrev keyed : tie.After-class_number-number → tie.After-key_of
 keyed c = c.before.before
 
 -- Where a record was found to be credited, from where its mode is known.
-abbrev taken : tie.After-mode_place-mode → tie.Then-number-eq0
+abbrev taken : tie.After-mode_place-mode → tie.Then-credited
 taken c = c.before.before
 
 key_is : (c : tie.After-key_of) → c.key_of.result ≡ key_of (call_noted (begun c).args.s.now (begun c).args.p)
@@ -86,22 +86,22 @@ credited_next_requires c κs =
       exchange_short = ready.exchange_short;
     }
 
-same_length : tie.Need-shape_of-calls-then-number-eq0
+same_length : tie.Need-shape_of-calls-then-credited
 same_length c = search rules
 
-same_length_2 : tie.Need-shape_of-callkeys-then-number-eq0
+same_length_2 : tie.Need-shape_of-callkeys-then-credited
 same_length_2 c = search rules
 
-same_length_3 : tie.Need-shape_of-exchanges-then-number-eq0
+same_length_3 : tie.Need-shape_of-exchanges-then-credited
 same_length_3 c = search rules
 
-same_length_4 : tie.Need-shape_of-exchangekeys-then-number-eq0
+same_length_4 : tie.Need-shape_of-exchangekeys-then-credited
 same_length_4 c = search rules
 
-same_length_5 : tie.Need-shape_of-squares-then-number-eq0
+same_length_5 : tie.Need-shape_of-squares-then-credited
 same_length_5 c = search rules
 
-returns : tie.Need-returns-then-number-eq0
+returns : tie.Need-returns-then-credited
 returns c =
     let back = c.before.before.before.before in
     let credited = back.before.before.before.before in
@@ -110,7 +110,7 @@ returns c =
     let key = keyed number in
     let a = (begun key).args in
     let mode = placed.mode_place-mode.ensures ∙ ap (λ (n : ℕ). mode_place (get_or a.s.now (n + 1) 0)) key.part_end-end.ensures in
-    steps_credited base home_base a.s.now a.p a.kept a.calls.now a.callkeys.now a.exchanges.now a.exchangekeys.now a.squares.now (begun key).requires (key_is key) number.class_of-class.ensures number.class_number-number.ensures (taken placed).if-number-eq0.true mode credited.credited_next.ensures
+    steps_credited base home_base a.s.now a.p a.kept a.calls.now a.callkeys.now a.exchanges.now a.exchangekeys.now a.squares.now (begun key).requires (key_is key) number.class_of-class.ensures number.class_number-number.ensures (taken placed).if-credited.true mode credited.credited_next.ensures
 
 verdict_by_requires : tie.Need-verdict_by-verdict-requires
 verdict_by_requires c κs = search rules
@@ -126,7 +126,7 @@ returns_2 c =
     let number = c.before.before in
     let key = keyed number in
     let a = (begun key).args in
-    steps_other base home_base a.s.now a.p a.kept a.calls.now a.callkeys.now a.exchanges.now a.exchangekeys.now a.squares.now (begun key).requires (key_is key) number.class_of-class.ensures number.class_number-number.ensures c.if-number-eq0.false c.verdict_by-verdict.ensures
+    steps_other base home_base a.s.now a.p a.kept a.calls.now a.callkeys.now a.exchanges.now a.exchangekeys.now a.squares.now (begun key).requires (key_is key) number.class_of-class.ensures number.class_number-number.ensures c.if-credited.false c.verdict_by-verdict.ensures
 
 pub judge_next_spec : {M : Type 1} → statement M
 judge_next_spec =
