@@ -53,25 +53,25 @@
  *
  * and nothing else: no other function, no start-up code, no file, no clock.
  *
- * Bytes of flash and of stack, as `bench/sizes` measured them of the library as the older kit built it, before rattle-kit-13f. Flash is the code and
- * the constants that a program takes which calls this function alone; functions share much of it. Stack was measured on logs of 26 and of 999 records,
- * on sessions of them, and on links that they came over:
+ * Bytes of flash and of stack, as `bench/sizes` measures them of the library as rattle-kit-13f builds it. Flash is the code and the constants that a
+ * program takes which calls this function alone; functions share much of it. Stack was measured on logs of 26 and of 999 records, on sessions of
+ * them, and on links that they came over:
  *
  *                                     flash     stack
- *     sumpquince_read                11,049       824
- *     sumpquince_view                11,764       856
- *     sumpquince_judge               15,723    17,496
- *     sumpquince_write               19,804    18,936
- *     sumpquince_strike              12,507     2,904
- *     sumpquince_mend                15,419     1,128
+ *     sumpquince_read                10,748       568
+ *     sumpquince_view                11,727       600
+ *     sumpquince_judge               16,258    17,240
+ *     sumpquince_write               20,710    18,696
+ *     sumpquince_strike              12,431     2,696
+ *     sumpquince_mend                15,701       840
  *     sumpquince_session_start          359       232
- *     sumpquince_session_take         7,563     1,256
- *     sumpquince_session_give_back    2,071       520
- *     sumpquince_session_totals         858       232
+ *     sumpquince_session_take         7,548     1,064
+ *     sumpquince_session_give_back    2,207       472
+ *     sumpquince_session_totals         849       232
  *     sumpquince_link_open               49         8
- *     sumpquince_link_feed           19,200     1,800
- *     sumpquince_link_close           3,265       456
- *     all thirteen                   44,044
+ *     sumpquince_link_feed           20,628     2,456
+ *     sumpquince_link_close           2,269       472
+ *     all thirteen                   46,726
  *
  * No bound of the stack is proved. None of the functions calls itself, so what is measured does not grow with the log.
  */
