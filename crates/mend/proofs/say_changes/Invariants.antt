@@ -1,3 +1,4 @@
+-- The loop ends: each turn says one entry of the n.
 use Rattle.std.proofs.Common.{◌-◌}
 use Rattle.mend.proofs.say_changes.Given as goal
 

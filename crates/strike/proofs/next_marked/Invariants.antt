@@ -1,3 +1,4 @@
+-- The loop ends: each turn passes over one of the places that a log has room for.
 use Rattle.std.proofs.Common.{◌-◌}
 use Rattle.strike.proofs.next_marked.Given as goal
 

@@ -1,3 +1,4 @@
+-- The loop ends: each turn passes over one of the eight fields.
 use Rattle.std.proofs.Common.{◌-◌}
 use Rattle.strike.proofs.points_at.Given as goal
 

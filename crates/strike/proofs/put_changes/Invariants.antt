@@ -1,3 +1,4 @@
+-- The loop ends: each turn looks at one record of the log.
 use Rattle.std.proofs.Common.{◌-◌, length}
 use Rattle.strike.proofs.put_changes.Given as goal
 

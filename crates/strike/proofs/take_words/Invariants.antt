@@ -1,3 +1,4 @@
+-- The loop ends: each turn takes one word of the command line.
 use Rattle.std.proofs.Common.{◌-◌}
 use Rattle.strike.proofs.take_words.Given as goal
 

@@ -1,3 +1,4 @@
+-- The loop ends: each turn tells of one of the places that a log has room for.
 use Rattle.std.proofs.Common.{◌-◌}
 use Rattle.strike.proofs.tell_strikes.Given as goal
 

@@ -1,3 +1,4 @@
+-- The loop ends: each turn shows one of the eleven modes.
 use Rattle.std.proofs.Common.{◌-◌}
 use Rattle.trials.proofs.show_modes.Given as goal
 

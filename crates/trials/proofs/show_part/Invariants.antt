@@ -1,3 +1,4 @@
+-- The loop ends: each turn shows one change of the part.
 use Rattle.std.proofs.Common.{◌-◌}
 use Rattle.trials.proofs.show_part.Given as goal
 

@@ -1,3 +1,4 @@
+-- The loop ends: each turn shows one verdict.
 use Rattle.std.proofs.Common.{◌-◌, length}
 use Rattle.trials.proofs.show_verdicts.Given as goal
 
