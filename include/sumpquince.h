@@ -58,20 +58,20 @@
  * them, and on links that they came over:
  *
  *                                     flash     stack
- *     sumpquince_read                10,748       568
- *     sumpquince_view                11,727       600
- *     sumpquince_judge               16,258    17,240
- *     sumpquince_write               20,710    18,696
- *     sumpquince_strike              12,431     2,696
- *     sumpquince_mend                15,701       840
+ *     sumpquince_read                13,145       560
+ *     sumpquince_view                13,622       592
+ *     sumpquince_judge               17,844    17,248
+ *     sumpquince_write               22,214    18,688
+ *     sumpquince_strike              14,982     2,704
+ *     sumpquince_mend                17,735       816
  *     sumpquince_session_start          359       232
- *     sumpquince_session_take         7,548     1,064
- *     sumpquince_session_give_back    2,207       472
- *     sumpquince_session_totals         849       232
+ *     sumpquince_session_take         8,007     1,136
+ *     sumpquince_session_give_back    2,216       456
+ *     sumpquince_session_totals         881       232
  *     sumpquince_link_open               49         8
- *     sumpquince_link_feed           20,628     2,456
- *     sumpquince_link_close           2,269       472
- *     all thirteen                   46,726
+ *     sumpquince_link_feed           22,275     3,104
+ *     sumpquince_link_close           2,301       472
+ *     all thirteen                   48,126
  *
  * No bound of the stack is proved. None of the functions calls itself, so what is measured does not grow with the log.
  */

@@ -3,52 +3,59 @@
 
 #![tactic(auto)]
 
-ghost use Rattle.std.specs.Prelude.{◌%◌, ◌≡◌, ◌<◌, take, drop, length, false};
+ghost use Rattle.std.specs.Prelude.{◌%◌, ◌-◌, ◌≡◌, ◌<◌, ◌≤◌, [], take, drop, length, false};
 ghost use Rattle.std.specs.Counts.{IsPrefixLen};
 ghost use Rattle.std.specs.Io.KnownBytes.{Consumes, IsAtEnd};
-ghost use Rattle.rules.specs.Text.{digits};
-ghost use Rattle.console.specs.Words.{class_word, part_of};
+ghost use Rattle.rules.specs.Text.{Text, digits};
+ghost use Rattle.rules.specs.Judging.{class_number};
+ghost use Rattle.console.specs.Words.{class_word, part_of, laid, spaced};
 
-use rules::Refusal;
+use rules::{Class, Refusal};
 use std::io::Read;
+use std::marker::Model;
 
 // # Standard error
 
-// What says bytes on standard error. They need not be text, as a word of the command line need not, and std's `Eprint` takes text alone.
+// What says bytes on standard error that need not be text, as a word of the command line need not: std's `Eprint` takes text alone. A failed write is
+// passed over, of this as of all that is said there: there is nowhere left to tell of it.
 pub trait EprintBytes {
-    // A failed write is passed over: there is nowhere left to tell of it.
-    fn eprint_bytes(&self, text: &[u8]);
+    fn eprint_bytes(&self, bytes: &[u8]);
 }
 
 impl EprintBytes for HostRuntime {
-    fn eprint_bytes(&self, text: &[u8]) {
-        let _ = self.stderr().write_all(text);
+    fn eprint_bytes(&self, bytes: &[u8]) {
+        let _ = self.stderr().write_all(bytes);
     }
 }
 
-pub fn say(rt: &impl EprintBytes, text: &[u8]) {
-    rt.eprint_bytes(text);
+// A word of the command line, and what is wrong with it.
+pub fn say_word(rt: &impl EprintBytes, word: &[u8], wrong: &str) {
+    rt.eprint_bytes(b"desk: \"");
+    rt.eprint_bytes(word);
+    rt.eprint_bytes(b"\" ");
+    rt.eprint_bytes(wrong.as_bytes());
+    rt.eprint_bytes(b"\n");
 }
 
-// A word and a number behind it.
-pub fn say_number(rt: &impl EprintBytes, word: &[u8], n: u64) {
-    say(rt, word);
-    let mut text = [0u8; DIGITS];
-    let start = decimal(n, &mut text);
-    say(rt, &text[start..]);
-}
+// Room for what is said of a refusal: a word of seven letters, and three numbers of ten digits at most, each with a space or the line's end.
+const REFUSAL: usize = 64;
 
 pub fn say_refusal(rt: &impl EprintBytes, r: Refusal) {
-    say_number(rt, b"REFUSED ", r.number as u64);
-    say_number(rt, b" ", r.line as u64);
-    say_number(rt, b" ", r.field as u64);
-    say(rt, b"\n");
+    let mut line = Page::<REFUSAL>::new();
+    line.put(b"REFUSED ");
+    line.put_number(u64::from(r.number));
+    line.put(b" ");
+    line.put_number(u64::from(r.line));
+    line.put(b" ");
+    line.put_number(u64::from(r.field));
+    line.put(b"\n");
+    rt.eprint_bytes(line.text());
 }
 
 // # Standard output
 
 pub fn say_unwritten(rt: &impl EprintBytes) {
-    say(rt, b"desk: cannot write the answer\n");
+    rt.eprint_bytes(b"desk: cannot write the answer\n");
 }
 
 // The whole answer, or that it cannot be written.
@@ -105,8 +112,8 @@ pub fn take<R: Read>(rt: &impl EprintBytes, input: &mut R, log: &mut [u8], progr
 {
     let taken = fill(input, log);
     if taken.failed {
-        say(rt, program);
-        say(rt, b": cannot read the log: the system tells of an error\n");
+        rt.eprint_bytes(program);
+        rt.eprint_bytes(b": cannot read the log: the system tells of an error\n");
     }
     taken
 }
@@ -142,13 +149,10 @@ pub fn decimal(n: u64, out: &mut [u8; DIGITS]) -> usize
 pub fn part(text: &[u8], from: usize, to: usize) -> &[u8]
     ensures { result.now ≡ part_of text.now from to }
 {
-    if text.len() < to {
-        return &text[0..0];
+    match text.get(from..to) {
+        Some(part) => part,
+        None => &[],
     }
-    if to < from {
-        return &text[0..0];
-    }
-    &text[from..to]
 }
 
 // The word for the class of a record, by the number of its verdict, with spaces behind it up to nine characters.
@@ -156,15 +160,98 @@ pub fn part(text: &[u8], from: usize, to: usize) -> &[u8]
 pub fn class_word(verdict: u8) -> [u8; 9]
     ensures { result ≡ class_word (verdict % 4) }
 {
-    let class = verdict % 4;
-    if class == 0 {
-        return *b"credited ";
+    match verdict % 4 {
+        0 => *b"credited ",
+        1 => *b"void     ",
+        2 => *b"duplicate",
+        _ => *b"error    ",
     }
-    if class == 1 {
-        return *b"void     ";
+}
+
+// The same, by the class itself.
+pub fn word_of(class: Class) -> [u8; 9]
+    ensures { result ≡ class_word (class_number class) }
+{
+    class_word(class as u8)
+}
+
+// # Pages
+
+// A text of at most N bytes, laid piece by piece. A piece that there is no room for is left out.
+#[derive(Drop)]
+pub struct Page<const N: usize> {
+    text: [u8; N],
+    end: usize,
+}
+
+impl<const N: usize> Model for Page<N> {
+    ghost Value = { Text };
+
+    ghost view = { λ p. take p.end p.text };
+
+    ghost invariant = { λ p. p.end ≤ N };
+}
+
+impl<const N: usize> Page<N> {
+    pub fn new() -> Page<N>
+        ensures { result ≡ [] }
+    {
+        Page {
+            text: [0; N],
+            end: 0,
+        }
     }
-    if class == 2 {
-        return *b"duplicate";
+
+    pub fn text(&self) -> &[u8]
+        ensures { result.now ≡ self.now }
+    {
+        &self.text[..self.end]
     }
-    *b"error    "
+
+    pub fn put(&mut self, piece: &[u8])
+        ensures { self.new ≡ laid N self.old piece.now }
+    {
+        if N - self.end < piece.len() {
+            return;
+        }
+        let start = self.end;
+        let end = start + piece.len();
+        self.end = end;
+        let text = &mut self.text[..];
+        text[start..end].copy_from_slice(piece);
+    }
+
+    // A number, without zeros in front.
+    pub fn put_number(&mut self, n: u64)
+        ensures { self.new ≡ laid N self.old (digits n) }
+    {
+        let mut digits = [0; DIGITS];
+        let start = decimal(n, &mut digits);
+        self.put(&digits[start..]);
+    }
+
+    pub fn put_spaces(&mut self, n: usize)
+        ensures { self.new ≡ spaced N n self.old }
+    {
+        for _ in 0..n {
+            self.put(b" ");
+        }
+    }
+
+    // A piece, and behind it spaces up to this width.
+    pub fn put_left(&mut self, piece: &[u8], width: usize)
+        ensures { self.new ≡ spaced N (width - length piece.now) (laid N self.old piece.now) }
+    {
+        self.put(piece);
+        self.put_spaces(width.saturating_sub(piece.len()));
+    }
+
+    // A piece, and in front of it spaces up to this width.
+    pub fn put_right(&mut self, piece: &[u8], width: usize)
+        ensures { self.new ≡ laid N (spaced N (width - length piece.now) self.old) piece.now }
+    {
+        let gap = width.saturating_sub(piece.len());
+        self.put_spaces(gap);
+        self.put(piece);
+    }
 }

@@ -6,19 +6,12 @@ use native.Mathlib.Omega.{arith}
 use mathlib.Core.Bool.{Bool, true, false, cond, not, ◌&&◌, true≢false}
 use mathlib.Core.List.{[], ◌∷◌}
 use mathlib.Core.Path.{◌≡◌, refl, sym, ap, ◌∙◌}
-use lib.Dec.{leb, eqb}
+use lib.Dec.{eqb}
 use lib.ListN.{length, take, drop, get_or, drop_of_length-le}
 use lib.Seq.{drop-cons, drop-drop}
-use borrow.Author.Tests.{le-leb, lt-leb, eqb-true, not-true, not-false}
+use borrow.Author.Tests.{eqb-true, not-true, not-false}
 use Rattle.rules.specs.Text.{Text, span, all, empty}
 use Rattle.fields.specs.Field.{in_field, text_at, ends_at, end_of}
-
--- A range of codes, from the least to the most.
-pub range_below : (least most b : ℕ) → b < least → false ≡ (leb least b && leb b most)
-range_below least most b h = rw (lt-leb least b h)
-
-pub range_from : (least most b : ℕ) → least ≤ b → leb b most ≡ (leb least b && leb b most)
-range_from least most b h = rw (le-leb least b h)
 
 pub next : (s : Text) (i : ℕ) → i < length s → drop i s ≡ get_or s i 0 ∷ drop (i + 1) s
 next s i h = rw (add-one, drop-cons s i 0)

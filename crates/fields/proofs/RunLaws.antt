@@ -1,20 +1,19 @@
 -- Laws of the fields that are a run of one kind of characters: how long the field is, and what its rule says of that.
 -- Assumes nothing.
+use Rattle.std.specs.Prelude.{Some, None}
 use Prim.Native.Nat.{ℕ, ◌+◌, ◌-◌, ◌≤◌, ◌<◌}
 use native.Mathlib.Omega.{arith}
-use mathlib.Core.Bool.{Bool, true, false, not, ◌&&◌, and-false}
+use mathlib.Core.Bool.{Bool, true, false, not, ◌&&◌, and-false, and-true}
 use mathlib.Core.List.{◌∷◌}
 use mathlib.Core.Path.{◌≡◌, refl, sym, ap, ◌∙◌}
-use lib.Dec.{leb, ltb}
-use lib.ListN.{length, take, drop, length-take, length-drop}
+use lib.Dec.{leb, ltb, eqb}
+use lib.ListN.{length, get_or, take, drop, length-take, length-drop}
 use borrow.Author.Tests.{le-leb, lt-leb, le-ltb, lt-ltb, leb-true, leb-false, eq-eqb, ne_eqb, not-true, not-false}
 use Rattle.rules.specs.Fields.{exchange, exchange_character, call, call_character, error_call}
 use Rattle.rules.specs.Rules.{Rules}
 use Rattle.rules.specs.Text.{Text, span, all, same}
 use Rattle.rules.proofs.TextLaws.{same_apart, take_its_length}
-use Rattle.fields.specs.declared.CallRead.{CallRead}
-use Rattle.fields.specs.declared.ExchangeRead.{ExchangeRead}
-use Rattle.fields.specs.Field.{exchange_at, in_field, text_at, ends_at, end_of, call_at}
+use Rattle.fields.specs.Field.{exchange_at, in_field, text_at, ends_at, end_of, end_by, call_by, call_at}
 use Rattle.fields.proofs.FieldLaws.{characters, take_characters, run_is_field, run_is_as_long}
 
 -- The run from a place on ended: the field is no run of the kind, or it is, and ends there.
@@ -53,35 +52,31 @@ other_length : (t : Text) → (length t ≡ 5 → ⊥) → false ≡ same t erro
 unfolding error_call
 other_length t h = same_apart t error_call h
 
-pub error_first : (s : Text) (i : ℕ) → i + 5 ≤ length s → same (take 5 (drop i s)) error_call ≡ same (characters s i 5) error_call
+error_first : (s : Text) (i : ℕ) → i + 5 ≤ length s → same (take 5 (drop i s)) error_call ≡ same (characters s i 5) error_call
 error_first s i h = ap (λ (t : Text). same t error_call) (take_characters s i 5 h)
 
--- Two texts, compared one character after another.
-module _ {a b : ℕ} (t u : Text) where
-  pub same_on : a ≡ b → same (a ∷ t) (b ∷ u) ≡ same t u
-  unfolding same
-  same_on e = rw (eq-eqb a b e)
-
-  pub same_off : (a ≡ b → ⊥) → same (a ∷ t) (b ∷ u) ≡ false
-  unfolding same
-  same_off n = rw (ne_eqb a b n)
+pub error_by : (s : Text) (i : ℕ) → i + 5 ≤ length s
+    → same (take 5 (drop i s)) error_call
+    ≡ (eqb (get_or s i 0) 69 && (eqb (get_or s (i + 1) 0) 82 && (eqb (get_or s (i + 2) 0) 82 && (eqb (get_or s (i + 3) 0) 79 && eqb (get_or s (i + 4) 0) 82))))
+unfolding same error_call
+error_by s i h = error_first s i h ∙ rw (and-true (eqb (get_or s (i + 4) 0) 82))
 
 -- A call.
-pub call_kind : (s : Text) (at : ℕ) → all call_character (text_at s at) ≡ false → CallRead.Bad ≡ call_at s at
-unfolding call_at call
+pub call_kind : (s : Text) (at : ℕ) → all call_character (text_at s at) ≡ false → None ≡ call_at s at
+unfolding call_by call
 call_kind s at e = rw (e, and-false (leb 3 (length (text_at s at)) && leb (length (text_at s at)) 14))
 
 module _ {s : Text} {at end : ℕ} (r : Run call_character s at end) where
-  pub call_short_lem : end - at < 3 → CallRead.Bad ≡ call_at s at
-  unfolding call_at call
+  pub call_short_lem : end - at < 3 → None ≡ call_at s at
+  unfolding call_by call
   call_short_lem h = rw (lt-leb 3 (length (text_at s at)) (omega arith))
 
-  pub call_long : 14 < end - at → CallRead.Bad ≡ call_at s at
-  unfolding call_at call
+  pub call_long : 14 < end - at → None ≡ call_at s at
+  unfolding call_by call
   call_long h = rw (lt-leb (length (text_at s at)) 14 (omega arith), and-false (leb 3 (length (text_at s at))))
 
-  call_read : 3 ≤ end - at → end - at ≤ 14 → CallRead.Call end (same (text_at s at) error_call) ≡ call_at s at
-  unfolding call_at call
+  call_read : 3 ≤ end - at → end - at ≤ 14 → Some (record { end = end; error = same (text_at s at) error_call }) ≡ call_at s at
+  unfolding call_by call
   call_read h l =
       rw (
         le-leb 3 (length (text_at s at)) (omega arith),
@@ -90,13 +85,13 @@ module _ {s : Text} {at end : ℕ} (r : Run call_character s at end) where
         r.ending,
       )
 
-  pub call_other : 3 ≤ end - at → end - at ≤ 14 → (end - at ≡ 5 → ⊥) → CallRead.Call end false ≡ call_at s at
+  pub call_other : 3 ≤ end - at → end - at ≤ 14 → (end - at ≡ 5 → ⊥) → Some (record { end = end; error = false }) ≡ call_at s at
   call_other h l n =
-      ap (CallRead.Call end) (other_length (text_at s at) (λ e. n (sym r.count ∙ e))) ∙ call_read h l
+      ap (λ (b : Bool). Some (record { end = end; error = b })) (other_length (text_at s at) (λ e. n (sym r.count ∙ e))) ∙ call_read h l
 
-  pub call_five : {b : Bool} → end - at ≡ 5 → b ≡ same (take 5 (drop at s)) error_call → CallRead.Call end b ≡ call_at s at
+  pub call_five : {b : Bool} → end - at ≡ 5 → b ≡ same (take 5 (drop at s)) error_call → Some (record { end = end; error = b }) ≡ call_at s at
   call_five e h =
-      ap (CallRead.Call end) (h ∙ ap (λ (t : Text). same t error_call) (sym (text_of_length s at 5 (r.count ∙ e))))
+      ap (λ (b : Bool). Some (record { end = end; error = b })) (h ∙ ap (λ (t : Text). same t error_call) (sym (text_of_length s at 5 (r.count ∙ e))))
       ∙ call_read (omega arith) (omega arith)
 
   pub five_within : end - at ≡ 5 → at + 5 ≤ length s
@@ -104,41 +99,15 @@ module _ {s : Text} {at end : ℕ} (r : Run call_character s at end) where
 
 -- An exchange.
 module _ (R : Rules) where
-  pub exchange_kind : (s : Text) (at : ℕ) → all exchange_character (text_at s at) ≡ false → ExchangeRead.Bad ≡ exchange_at R s at
-  unfolding exchange_at exchange
+  pub exchange_kind : (s : Text) (at : ℕ) → all exchange_character (text_at s at) ≡ false → None ≡ exchange_at R s at
+  unfolding end_by exchange
   exchange_kind s at e = rw (e, and-false (leb (length (text_at s at)) R.longest_exchange))
 
   module _ {s : Text} {at end most : ℕ} (r : Run exchange_character s at end) (m : most ≡ R.longest_exchange) where
-    pub exchange_long : most < end - at → ExchangeRead.Bad ≡ exchange_at R s at
-    unfolding exchange_at exchange
+    pub exchange_long : most < end - at → None ≡ exchange_at R s at
+    unfolding end_by exchange
     exchange_long h = rw (lt-leb (length (text_at s at)) R.longest_exchange (omega arith))
 
-    pub exchange_read : end - at ≤ most → ExchangeRead.Exchange end ≡ exchange_at R s at
-    unfolding exchange_at exchange
+    pub exchange_read : end - at ≤ most → Some end ≡ exchange_at R s at
+    unfolding end_by exchange
     exchange_read h = rw (le-leb (length (text_at s at)) R.longest_exchange (omega arith), r.kind, r.ending)
-
--- An exchange's characters: the allowed ones, but for the semicolon and the small letters.
-module _ (b : ℕ) where
-  pub exchange_below : b < 32 → false ≡ exchange_character b
-  exchange_below h = rw (lt-leb 32 b h)
-
-  pub exchange_above : 127 < b → false ≡ exchange_character b
-  exchange_above h = rw (lt-leb b 127 h, and-false (leb 32 b))
-
-  pub exchange_semicolon : b ≡ 59 → false ≡ exchange_character b
-  exchange_semicolon e = rw e
-
-  pub exchange_first : 32 ≤ b → b < 97 → (b ≡ 59 → ⊥) → true ≡ exchange_character b
-  exchange_first h l n =
-      rw (le-leb 32 b h, le-leb b 127 (omega arith), ne_eqb b 59 n, lt-leb 97 b l)
-
-  above : ltb 122 b ≡ not (leb b 122)
-  above = by (leb b 122) refl
-    where
-      by : (x : Bool) → leb b 122 ≡ x → ltb 122 b ≡ not x
-      by true e = le-ltb 122 b (leb-true b 122 e)
-      by false e = lt-ltb 122 b (leb-false b 122 e)
-
-  pub exchange_last : b ≤ 127 → 97 ≤ b → ltb 122 b ≡ exchange_character b
-  exchange_last h l =
-      above ∙ rw (le-leb 32 b (omega arith), le-leb b 127 h, ne_eqb b 59 (omega arith), le-leb 97 b l)

@@ -1,5 +1,6 @@
 -- Laws of the fields that are read place by place: each place has its kind of character, and the field ends behind the last, or where it may.
 -- Assumes nothing.
+use Rattle.std.specs.Prelude.{Some, None}
 use Prim.Native.Nat.{ℕ, zero, suc, ◌+◌, ◌≤◌, ◌<◌}
 use native.Mathlib.Nat.{not-suc-le-zero, le_of_suc-le-suc}
 use native.Mathlib.Omega.{arith}
@@ -11,13 +12,7 @@ use lib.ListN.{length, get_or, get_or-eq_default}
 use borrow.Author.Tests.{eq-eqb, eqb-true, lt-leb, leb-true, leb-false, ne_eqb, not-true, not-false}
 use Rattle.rules.specs.Fields.{mode, report, serial, locator, square_letter, sub_letter, empty_or}
 use Rattle.rules.specs.Text.{Text, digit, capital, span, all, same, empty}
-use Rattle.fields.specs.declared.CallRead.{CallRead}
-use Rattle.fields.specs.declared.LocatorRead.{LocatorRead}
-use Rattle.fields.specs.declared.MarkRead.{MarkRead}
-use Rattle.fields.specs.declared.ModeRead.{ModeRead}
-use Rattle.fields.specs.declared.ReportRead.{ReportRead}
-use Rattle.fields.specs.declared.SerialRead.{SerialRead}
-use Rattle.fields.specs.Field.{text_at, ends_at, end_of, call_at, call_or_empty_at, mode_at, report_at, serial_at, locator_at, locator_or_empty_at, mark_at}
+use Rattle.fields.specs.Field.{text_at, ends_at, end_of, end_by, call_by, call_at, call_or_empty_at, locator_at, locator_or_empty_at, mark_at}
 use Rattle.fields.proofs.FieldLaws.{next, ends_with_line, ends_at_semicolon}
 use Rattle.fields.proofs.Picked.{Kept}
 
@@ -170,6 +165,16 @@ module _ (f : ℕ → Bool) (apart : f 59 ≡ false) {rule : Text → Bool} {p :
       by true h = no_one g h
       by false h = other_one g h 59 (looked ∙ not-true b e)
 
+-- What is answered where the rule is broken, and where it is kept.
+module _ (rule : Text → Bool) (s : Text) (at : ℕ) where
+  pub end_none : rule (text_at s at) ≡ false → None ≡ end_by rule s at
+  unfolding end_by
+  end_none e = rw e
+
+  pub end_some : {i : ℕ} → Kept rule s at i → Some i ≡ end_by rule s at
+  unfolding end_by
+  end_some k = rw (k.holds, ← k.ending)
+
 -- A mode.
 abbrev pub mode_0 : Shape
 mode_0 = ended_or (one digit ended)
@@ -179,14 +184,6 @@ unfolding mode all fits
 mode_is_lem [] = refl
 mode_is_lem (a ∷ []) = refl
 mode_is_lem (a ∷ b ∷ t) = rw (ne_eqb (length (a ∷ b ∷ t)) 1 (omega arith), and-false (digit a))
-
-pub mode_bad : (s : Text) (at : ℕ) → mode (text_at s at) ≡ false → ModeRead.Bad ≡ mode_at s at
-unfolding mode_at
-mode_bad s at e = rw e
-
-pub mode_kept : (s : Text) (at i : ℕ) → Kept mode s at i → ModeRead.Mode i ≡ mode_at s at
-unfolding mode_at
-mode_kept s at i k = rw (k.holds, ← k.ending)
 
 -- A report: what may stand behind its two digits, and the whole.
 abbrev pub digit_or_capital : ℕ → Bool
@@ -223,14 +220,6 @@ report_is (a ∷ b ∷ c ∷ d ∷ t) =
       and-false (digit a),
     )
 
-pub report_bad : (s : Text) (at : ℕ) → report (text_at s at) ≡ false → ReportRead.Bad ≡ report_at s at
-unfolding report_at
-report_bad s at e = rw e
-
-pub report_kept : (s : Text) (at i : ℕ) → Kept report s at i → ReportRead.Report i ≡ report_at s at
-unfolding report_at
-report_kept s at i k = rw (k.holds, ← k.ending)
-
 -- A serial number: what may stand behind its three digits, and the whole.
 abbrev pub serial_3 : Shape
 serial_3 = ended_or (one digit ended)
@@ -255,21 +244,13 @@ serial_is (a ∷ b ∷ c ∷ d ∷ e ∷ t) =
       and-false (digit a),
     )
 
-pub serial_bad : (s : Text) (at : ℕ) → serial (text_at s at) ≡ false → SerialRead.Bad ≡ serial_at s at
-unfolding serial_at
-serial_bad s at e = rw e
-
-pub serial_kept : (s : Text) (at i : ℕ) → Kept serial s at i → SerialRead.Serial i ≡ serial_at s at
-unfolding serial_at
-serial_kept s at i k = rw (k.holds, ← k.ending)
-
 -- A call, where there may be none.
-pub no_call : (s : Text) (at : ℕ) → ends_at s at ≡ true → CallRead.Call at false ≡ call_or_empty_at s at
-unfolding call_or_empty_at
+pub no_call : (s : Text) (at : ℕ) → ends_at s at ≡ true → Some (record { end = at; error = false }) ≡ call_or_empty_at s at
+unfolding call_by empty_or
 no_call s at e = rw (ended_here s at e, ended_text s at e)
 
 pub some_call : (s : Text) (at : ℕ) → ends_at s at ≡ false → call_at s at ≡ call_or_empty_at s at
-unfolding call_at call_or_empty_at ends_at empty_or
+unfolding call_by ends_at empty_or
 some_call s at e = rw e
 
 -- A locator: what may stand behind its square, behind the square's letters, and the whole.
@@ -312,21 +293,13 @@ locator_is_lem (a ∷ b ∷ c ∷ d ∷ e ∷ f ∷ g ∷ t) =
       and-false (square_letter a),
     )
 
-pub locator_bad : (s : Text) (at : ℕ) → locator (text_at s at) ≡ false → LocatorRead.Bad ≡ locator_at s at
-unfolding locator_at
-locator_bad s at e = rw e
-
-pub locator_kept : (s : Text) (at i : ℕ) → Kept locator s at i → LocatorRead.Locator i ≡ locator_at s at
-unfolding locator_at
-locator_kept s at i k = rw (k.holds, ← k.ending)
-
 -- A locator, where there may be none.
-pub no_locator : (s : Text) (at : ℕ) → ends_at s at ≡ true → LocatorRead.Locator at ≡ locator_or_empty_at s at
-unfolding locator_or_empty_at
+pub no_locator : (s : Text) (at : ℕ) → ends_at s at ≡ true → Some at ≡ locator_or_empty_at s at
+unfolding end_by empty_or
 no_locator s at e = rw (ended_here s at e, ended_text s at e)
 
 pub some_locator : (s : Text) (at : ℕ) → ends_at s at ≡ false → locator_at s at ≡ locator_or_empty_at s at
-unfolding locator_at locator_or_empty_at ends_at empty_or
+unfolding end_by ends_at empty_or
 some_locator s at e = rw e
 
 -- A mark of a letter.
@@ -340,24 +313,24 @@ mark_is letter (a ∷ []) = refl
 mark_is letter (a ∷ b ∷ t) = refl
 
 module _ (letter : ℕ) (s : Text) (at : ℕ) where
-  pub mark_bad : empty_or (same (letter ∷ [])) (text_at s at) ≡ false → MarkRead.Bad ≡ mark_at letter s at
+  pub mark_bad : empty_or (same (letter ∷ [])) (text_at s at) ≡ false → None ≡ mark_at letter s at
   unfolding mark_at
   mark_bad e = rw e
 
   module _ {x : ℕ} (k : x ≡ get_or s at 59) where
-    pub mark_none : x ≡ 59 → MarkRead.Mark false at ≡ mark_at letter s at
+    pub mark_none : x ≡ 59 → Some (record { end = at; set = false }) ≡ mark_at letter s at
     unfolding mark_at empty_or
     mark_none q = rw (ended_here s at (at_end_lem s at k q), ended_text s at (at_end_lem s at k q))
 
     module _ (n : x ≡ 59 → ⊥) where
-      pub mark_set : (i : ℕ) → Kept (empty_or (same (letter ∷ []))) s at i → MarkRead.Mark true i ≡ mark_at letter s at
+      pub mark_set : (i : ℕ) → Kept (empty_or (same (letter ∷ []))) s at i → Some (record { end = i; set = true }) ≡ mark_at letter s at
       unfolding mark_at ends_at
       mark_set i h = rw (h.holds, ← h.ending, at_none s at k n)
 
       marked : Goes (empty_or (same (letter ∷ []))) (one (eqb letter) ended) s at at
       marked = may_go_on k (goes s at (mark_is letter)) n
 
-      pub mark_other : (x ≡ letter → ⊥) → MarkRead.Bad ≡ mark_at letter s at
+      pub mark_other : (x ≡ letter → ⊥) → None ≡ mark_at letter s at
       mark_other m =
           mark_bad (other_one marked (at_none s at k n) 59 (ne_eqb letter (get_or s at 59) (λ q. m (k ∙ sym q))))
 

@@ -1,5 +1,6 @@
 -- Laws of dates: what their digits say, and the answers of their readers.
 -- Assumes nothing.
+use Rattle.std.specs.Prelude.{Some, None}
 use Prim.Native.Nat.{ℕ, ◌+◌, ◌*◌, ◌-◌, ◌/◌, ◌%◌, ◌≤◌, ◌<◌}
 use native.Mathlib.Omega.{arith}
 use mathlib.Core.Bool.{Bool, true, false, not, ◌&&◌}
@@ -18,9 +19,7 @@ use Rattle.fields.specs.Field.{text_at, ends_at}
 use Rattle.fields.proofs.FieldLaws.{characters}
 use Rattle.fields.proofs.ShapeLaws.{ended_text}
 use Rattle.figures.specs.declared.DateRead.{DateRead}
-use Rattle.figures.specs.declared.DigitsRead.{DigitsRead}
-use Rattle.figures.specs.declared.LongDateRead.{LongDateRead}
-use Rattle.figures.specs.Figure.{digits_at, date_at, long_date_at}
+use Rattle.figures.specs.Figure.{digits_at, date_at, long_date_at, number_at}
 use Rattle.figures.proofs.ExactLaws.{too_short_lem, not_ended, other_characters, exact_text}
 use Rattle.figures.proofs.NumberLaws.{value_split, is_read_lem, not_read, end_here, end_is_length}
 
@@ -142,49 +141,49 @@ module _ (s : Text) (at : ℕ) where
     date_other h r = date_bad (other_characters 6 short_date short_long s at h r)
 
 -- The answers of the reader of long dates, one for each.
-module _ (s : Text) (at : ℕ) (r : DigitsRead) (e : r ≡ digits_at 8 s at) where
-  long_bad : long_date (text_at s at) ≡ false → LongDateRead.Bad ≡ long_date_at s at
-  unfolding long_date_at
+module _ (s : Text) (at : ℕ) (r : ℕ × ℕ) (e : r ≡ digits_at 8 s at) where
+  long_bad : long_date (text_at s at) ≡ false → None ≡ long_date_at s at
+  unfolding number_at
   long_bad h = rw h
 
-  pub long_date_unended : not (ends_at s r.end) ≡ true → LongDateRead.Bad ≡ long_date_at s at
-  long_date_unended h = long_bad (long_unended (text_at s at) (not_read 8 s at r e (not-true (ends_at s r.end) h)))
+  pub long_date_unended : not (ends_at s r.1) ≡ true → None ≡ long_date_at s at
+  long_date_unended h = long_bad (long_unended (text_at s at) (not_read 8 s at r e (not-true (ends_at s r.1) h)))
 
-  module _ (h : ends_at s r.end ≡ true) where
-    same : r.value ≡ value (text_at s at)
+  module _ (h : ends_at s r.1 ≡ true) where
+    same : r.0 ≡ value (text_at s at)
     same = (is_read_lem 8 s at r e h).value
 
     digits : all digit (text_at s at) ≡ true
     digits = (is_read_lem 8 s at r e h).digits
 
-    pub long_date_other : (r.end - at ≡ 8 → ⊥) → LongDateRead.Bad ≡ long_date_at s at
+    pub long_date_other : (r.1 - at ≡ 8 → ⊥) → None ≡ long_date_at s at
     long_date_other m = long_bad (long_other (text_at s at) (λ k. m (omega (arith, end_here 8 s at r e h))))
 
-    module _ (l : r.end - at ≡ 8) where
+    module _ (l : r.1 - at ≡ 8) where
       eight : length (text_at s at) ≡ 8
       eight = omega (arith, end_here 8 s at r e h)
 
-      pub long_date_below : r.value < 100000000
+      pub long_date_below : r.0 < 100000000
       long_date_below = omega (arith, same, rw eight at (value_below (text_at s at) digits))
 
-      pub long_date_early : r.value / 10000 < 1990 → LongDateRead.Bad ≡ long_date_at s at
+      pub long_date_early : r.0 / 10000 < 1990 → None ≡ long_date_at s at
       long_date_early k = long_bad (long_early (text_at s at) eight digits (omega (arith, same)))
 
-      module _ (j : 1990 ≤ r.value / 10000) where
-        pub long_date_late : 2089 < r.value / 10000 → LongDateRead.Bad ≡ long_date_at s at
+      module _ (j : 1990 ≤ r.0 / 10000) where
+        pub long_date_late : 2089 < r.0 / 10000 → None ≡ long_date_at s at
         long_date_late k = long_bad (long_late (text_at s at) eight digits (omega (arith, same)) (omega (arith, same)))
 
-        module _ (k : r.value / 10000 ≤ 2089) {b : Bool}
-            (d : b ≡ day_exists (r.value / 10000) (r.value / 100 % 100) (r.value % 100)) where
+        module _ (k : r.0 / 10000 ≤ 2089) {b : Bool}
+            (d : b ≡ day_exists (r.0 / 10000) (r.0 / 100 % 100) (r.0 % 100)) where
           long_date_is : long_date (text_at s at) ≡ b
           long_date_is =
               long_is (text_at s at) eight digits (omega (arith, same)) (omega (arith, same))
               ∙ ap (λ (v : ℕ). day_exists (v / 10000) (v / 100 % 100) (v % 100)) (sym same)
               ∙ sym d
 
-          pub long_date_no_day : not b ≡ true → LongDateRead.Bad ≡ long_date_at s at
+          pub long_date_no_day : not b ≡ true → None ≡ long_date_at s at
           long_date_no_day n = long_bad (long_date_is ∙ not-true b n)
 
-          pub long_date_good : not b ≡ false → LongDateRead.Date r.value r.end ≡ long_date_at s at
-          unfolding long_date_at
+          pub long_date_good : not b ≡ false → Some (r.0, r.1) ≡ long_date_at s at
+          unfolding number_at
           long_date_good n = rw (long_date_is ∙ not-false b n, same, (is_read_lem 8 s at r e h).end)

@@ -1,11 +1,11 @@
 -- The limits of the base rules: the code can read each of them, and a number that is read up to a limit is the definition's.
 -- Assumes nothing.
+use Rattle.std.specs.Prelude.{Option}
 use Prim.Native.Nat.{ℕ, ◌^◌, ◌≤◌, ◌<◌}
 use native.Mathlib.Omega.{arith}
 use mathlib.Core.Path.{◌≡◌, ap, ◌∙◌}
 use Rattle.rules.specs.Rules.{Rules, base}
 use Rattle.rules.specs.Text.{Text, number_of, number_from}
-use Rattle.figures.specs.declared.NumberRead.{NumberRead}
 use Rattle.figures.specs.Figure.{number_at}
 
 -- No number that the rules allow has more digits than a u64 holds.
@@ -25,7 +25,7 @@ unfolding base
 readable = omega arith
 
 -- What was read up to a number was read up to the limit that this number is.
-module _ {r : NumberRead} (s : Text) (at : ℕ) {n limit : ℕ} where
+module _ {r : Option (ℕ × ℕ)} (s : Text) (at : ℕ) {n limit : ℕ} where
   pub digits_read : n ≡ limit → r ≡ number_at (number_of n) s at → r ≡ number_at (number_of limit) s at
   digits_read e p = p ∙ ap (λ (k : ℕ). number_at (number_of k) s at) e
 

@@ -1,5 +1,6 @@
 -- Laws of digits and of the numbers that they write.
 -- Assumes nothing.
+use Rattle.std.specs.Prelude.{Some, None}
 use Prim.Native.Nat.{ℕ, zero, suc, ◌+◌, ◌*◌, ◌-◌, ◌^◌, ◌≤◌, ◌<◌}
 use native.Mathlib.Nat.{pow-succ', one-le-pow, add-zero, add-mul, mul_assoc, mul_comm}
 use native.Mathlib.Omega.{arith}
@@ -16,8 +17,6 @@ use Rattle.fields.specs.Field.{in_field, text_at, ends_at, end_of}
 use Rattle.fields.proofs.FieldLaws.{next as at_place}
 use Rattle.fields.proofs.PartLaws.{span_length}
 use Rattle.fields.proofs.RunLaws.{text_within}
-use Rattle.figures.specs.declared.DigitsRead.{DigitsRead}
-use Rattle.figures.specs.declared.NumberRead.{NumberRead}
 use Rattle.figures.specs.Figure.{leading_digits, digits_from, digits_at, number_at}
 
 pub digit_least : (b : ℕ) → digit b ≡ true → 48 ≤ b
@@ -26,8 +25,8 @@ digit_least b e = leb-true 48 b (and_l (leb 48 b) (leb b 57) e)
 pub digit_most : (b : ℕ) → digit b ≡ true → b ≤ 57
 digit_most b e = leb-true b 57 (and_r (leb 48 b) (leb b 57) e)
 
-abbrev read : ℕ → ℕ → DigitsRead
-read v e = record { value = v; end = e }
+abbrev read : ℕ → ℕ → ℕ × ℕ
+read v e = (v, e)
 
 -- A reading of digits, by one digit more, and where it stops.
 module _ (v : ℕ) (s : Text) (i : ℕ) where
@@ -121,18 +120,18 @@ text_first s at h =
     ∙ ap (λ (c : ℕ). c ∷ drop 1 (field (drop at s))) (get_or-drop at s 0 0 ∙ ap (λ (i : ℕ). get_or s i 0) (add-zero at))
 
 -- Digits were read, and the field ends behind them: they are the field.
-pub record Read (most : ℕ) (s : Text) (at : ℕ) (r : DigitsRead) : Type 0 where
+pub record Read (most : ℕ) (s : Text) (at : ℕ) (r : ℕ × ℕ) : Type 0 where
   pub digits : all digit (text_at s at) ≡ true
   pub short : leb (length (text_at s at)) most ≡ true
-  pub value : r.value ≡ value (text_at s at)
-  pub end : r.end ≡ end_of s at
+  pub value : r.0 ≡ value (text_at s at)
+  pub end : r.1 ≡ end_of s at
 
-module _ (most : ℕ) (s : Text) (at : ℕ) (r : DigitsRead) (e : r ≡ digits_at most s at) where
-  ends_is : ends_at s r.end ≡ (all digit (text_at s at) && leb (length (text_at s at)) most)
+module _ (most : ℕ) (s : Text) (at : ℕ) (r : ℕ × ℕ) (e : r ≡ digits_at most s at) where
+  ends_is : ends_at s r.1 ≡ (all digit (text_at s at) && leb (length (text_at s at)) most)
   unfolding digits_at digits_from ends_at text_at
   ends_is = rw (e, ← drop-drop (leading_digits most (drop at s)) at s) (whole most (drop at s)).0
 
-  pub is_read_lem : ends_at s r.end ≡ true → Read most s at r
+  pub is_read_lem : ends_at s r.1 ≡ true → Read most s at r
   unfolding digits_at digits_from ends_at text_at end_of value
   is_read_lem h = record { digits = and_l (all digit (text_at s at)) (leb (length (text_at s at)) most) g; short = and_r (all digit (text_at s at)) (leb (length (text_at s at)) most) g; value = rw (e, count); end = rw (e, count, span_length) }
     where
@@ -142,17 +141,17 @@ module _ (most : ℕ) (s : Text) (at : ℕ) (r : DigitsRead) (e : r ≡ digits_a
       count : leading_digits most (drop at s) ≡ span in_field (drop at s)
       count = (whole most (drop at s)).1 g
 
-  pub not_read : ends_at s r.end ≡ false → (all digit (text_at s at) && leb (length (text_at s at)) most) ≡ false
+  pub not_read : ends_at s r.1 ≡ false → (all digit (text_at s at) && leb (length (text_at s at)) most) ≡ false
   not_read h = sym ends_is ∙ h
 
 -- What a reader answers of a number: from its rule, its value and its end.
 module _ (rule : Text → Bool) (s : Text) (at : ℕ) where
   pub number_good : {v e : ℕ} → rule (text_at s at) ≡ true → v ≡ value (text_at s at) → e ≡ end_of s at
-      → NumberRead.Number v e ≡ number_at rule s at
+      → Some (v, e) ≡ number_at rule s at
   unfolding number_at
   number_good h p q = rw (h, p, q)
 
-  pub number_bad : rule (text_at s at) ≡ false → NumberRead.Bad ≡ number_at rule s at
+  pub number_bad : rule (text_at s at) ≡ false → None ≡ number_at rule s at
   unfolding number_at
   number_bad h = rw h
 
@@ -190,21 +189,21 @@ rule_none most [] h = refl
 rule_none most (c ∷ t) h = absurd (omega arith)
 
 -- The answers of the reader of numbers, one for each.
-module _ (most : ℕ) (s : Text) (at : ℕ) (r : DigitsRead) (e : r ≡ digits_at most s at) where
-  pub reads_no_end : not (ends_at s r.end) ≡ true → NumberRead.Bad ≡ number_at (number_of most) s at
+module _ (most : ℕ) (s : Text) (at : ℕ) (r : ℕ × ℕ) (e : r ≡ digits_at most s at) where
+  pub reads_no_end : not (ends_at s r.1) ≡ true → None ≡ number_at (number_of most) s at
   reads_no_end h =
       number_bad (number_of most) s at (rule_long most (text_at s at) (not_read most s at r e (not-true _ h)))
 
   -- the field ends behind the digits
-  module _ (h : ends_at s r.end ≡ true) where
-    pub end_here : r.end ≡ at + length (text_at s at)
+  module _ (h : ends_at s r.1 ≡ true) where
+    pub end_here : r.1 ≡ at + length (text_at s at)
     end_here = (is_read_lem most s at r e h).end ∙ end_is_length s at
 
-    pub reads_none : r.end ≡ at → NumberRead.Bad ≡ number_at (number_of most) s at
+    pub reads_none : r.1 ≡ at → None ≡ number_at (number_of most) s at
     reads_none n =
         number_bad (number_of most) s at (rule_none most (text_at s at) (omega (arith, end_here)))
 
-    module _ (n : r.end ≡ at → ⊥) where
+    module _ (n : r.1 ≡ at → ⊥) where
       longer : 0 < length (text_at s at)
       longer = omega (arith, end_here)
 
@@ -218,21 +217,21 @@ module _ (most : ℕ) (s : Text) (at : ℕ) (r : DigitsRead) (e : r ≡ digits_a
       short_first = sym (ap (λ (t : Text). leb (length t) most) first) ∙ (is_read_lem most s at r e h).short
 
       good : number_of most (get_or s at 0 ∷ drop 1 (text_at s at)) ≡ true
-          → NumberRead.Number r.value r.end ≡ number_at (number_of most) s at
+          → Some (r.0, r.1) ≡ number_at (number_of most) s at
       good g =
           number_good (number_of most) s at (ap (number_of most) first ∙ g) (is_read_lem most s at r e h).value
           (is_read_lem most s at r e h).end
 
-      pub reads_plain : (get_or s at 0 ≡ 48 → ⊥) → NumberRead.Number r.value r.end ≡ number_at (number_of most) s at
+      pub reads_plain : (get_or s at 0 ≡ 48 → ⊥) → Some (r.0, r.1) ≡ number_at (number_of most) s at
       reads_plain z = good (rule_plain most _ _ all_first short_first z)
 
-      pub reads_zeros : get_or s at 0 ≡ 48 → (r.end - at ≡ 1 → ⊥) → NumberRead.Bad ≡ number_at (number_of most) s at
+      pub reads_zeros : get_or s at 0 ≡ 48 → (r.1 - at ≡ 1 → ⊥) → None ≡ number_at (number_of most) s at
       reads_zeros z m =
           number_bad (number_of most) s at
           (ap (number_of most) first
           ∙ rule_zeros most _ _ z (omega (arith, end_here, ap length first)))
 
-      pub reads_zero : get_or s at 0 ≡ 48 → r.end - at ≡ 1 → NumberRead.Number r.value r.end ≡ number_at (number_of most) s at
+      pub reads_zero : get_or s at 0 ≡ 48 → r.1 - at ≡ 1 → Some (r.0, r.1) ≡ number_at (number_of most) s at
       reads_zero z m = good (rule_zero most _ _ short_first z (omega (arith, end_here, ap length first)))
 
       pub starts_within : at < length s

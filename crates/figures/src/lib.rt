@@ -8,7 +8,7 @@ ghost use Rattle.rules.specs.Arguments.{count, bonus, multiplier};
 ghost use Rattle.rules.specs.Fields.{leap, month_length, day_exists, full_year, short_date};
 ghost use Rattle.rules.specs.Rules.{base};
 ghost use Rattle.rules.specs.Text.{digit, all, value, number_of, number_from};
-ghost use Rattle.figures.specs.Figure.{date_at, long_date_at, time_at, minutes_of, number_at, digits_at, time_made};
+ghost use Rattle.figures.specs.Figure.{date_at, long_date_at, time_at, minutes_of, number_at, value_told, digits_at, time_made};
 
 use fields::{ends, is_digit};
 
@@ -25,24 +25,24 @@ impl TimeOfDay {
     pub const LAST: u32 = 2359;
 
     // The time that four digits write: two of hours and two of minutes.
-    pub fn from_digits(a: u8, b: u8, c: u8, d: u8) -> TimeMade
+    pub fn from_digits(a: u8, b: u8, c: u8, d: u8) -> Option<TimeOfDay>
         ensures { result ≡ time_made a b c d }
     {
         if !are_digits(a, b) {
-            return TimeMade::Bad;
+            return None;
         }
         if !are_digits(c, d) {
-            return TimeMade::Bad;
+            return None;
         }
         let hours = two_digits(a, b);
         if Self::LAST / 100 < hours {
-            return TimeMade::Bad;
+            return None;
         }
         let minutes = two_digits(c, d);
         if Self::LAST % 100 < minutes {
-            return TimeMade::Bad;
+            return None;
         }
-        TimeMade::Time(TimeOfDay {
+        Some(TimeOfDay {
             digits: 100 * hours + minutes,
         })
     }
@@ -56,176 +56,137 @@ impl TimeOfDay {
 }
 
 #[derive(Clone, Copy)]
-pub enum TimeMade {
-    Time(TimeOfDay),
-    Bad,
-}
-
-#[derive(Clone, Copy)]
 pub enum DateRead {
     Date(usize),
     Empty,
     Bad,
 }
 
-#[derive(Clone, Copy)]
-pub enum LongDateRead {
-    Date(u32, usize),
-    Bad,
-}
-
-#[derive(Clone, Copy)]
-pub enum TimeRead {
-    Time(TimeOfDay, usize),
-    Bad,
-}
-
-#[derive(Clone, Copy)]
-pub enum NumberRead {
-    Number(u64, usize),
-    Bad,
-}
-
 // A u64 holds so many digits, whichever they are.
 const U64_DIGITS: usize = 19;
 
-// Digits from a place on: what they write, and the place behind them.
-#[derive(Clone, Copy)]
-struct DigitsRead {
-    value: u64,
-    end: usize,
-}
-
-// The digits from here on, and no more than so many: a longer run is left where it goes on, so that the field does not end there.
-fn read_digits(s: &[u8], at: usize, most: usize) -> DigitsRead
+// What the digits from here on write, and the place behind them. They are no more than so many: a longer run is left where it goes on, so that
+// the field does not end there.
+fn read_digits(s: &[u8], at: usize, most: usize) -> (u64, usize)
     requires { most ≤ 19 }
     ensures { result ≡ digits_at most s.now at }
 {
     let mut value: u64 = 0;
     let mut left = most;
-    let mut i = at;
-    while i < s.len() {
-        if left == 0 {
-            return DigitsRead { value, end: i };
-        }
+    for i in at..s.len() {
         let b = s[i];
-        if !is_digit(b) {
-            return DigitsRead { value, end: i };
+        if left == 0 || !is_digit(b) {
+            return (value, i);
         }
-        value = 10 * value + (b - 48) as u64;
+        value = 10 * value + (b - b'0') as u64;
         left -= 1;
-        i += 1;
     }
-    DigitsRead { value, end: i }
+    (value, at.max(s.len()))
 }
 
 // A number of at most so many digits.
-fn number(s: &[u8], at: usize, most: usize) -> NumberRead
+fn number(s: &[u8], at: usize, most: usize) -> Option<(u64, usize)>
     requires { most ≤ 19 }
     ensures { result ≡ number_at (number_of most) s.now at }
 {
-    let run = read_digits(s, at, most);
-    let value = run.value;
-    let end = run.end;
-    if !ends(s, end) {
-        return NumberRead::Bad;
-    }
-    if end == at {
-        return NumberRead::Bad;
-    }
-    if s[at] != 48 {
-        return NumberRead::Number(value, end);
+    let (value, end) = read_digits(s, at, most);
+    if !ends(s, end) || end == at {
+        return None;
     }
     // a zero leads no number but itself
-    if end - at != 1 {
-        return NumberRead::Bad;
+    if s[at] == b'0' && end - at != 1 {
+        return None;
     }
-    NumberRead::Number(value, end)
+    Some((value, end))
+}
+
+// The value of a number that was read, and 0 where none was.
+pub fn value_of(number: Option<(u64, usize)>) -> u64
+    ensures { result ≡ value_told number }
+{
+    match number {
+        Some((value, _)) => value,
+        None => 0,
+    }
 }
 
 // A record's points.
-pub fn points(s: &[u8], at: usize) -> NumberRead
+pub fn points(s: &[u8], at: usize) -> Option<(u64, usize)>
     ensures { result ≡ number_at (number_of base.points_digits) s.now at }
 {
     number(s, at, rules::points_digits())
 }
 
 // The best contact's distance. It has a limit of its own beside that of points, so that either may change alone.
-pub fn distance(s: &[u8], at: usize) -> NumberRead
+pub fn distance(s: &[u8], at: usize) -> Option<(u64, usize)>
     ensures { result ≡ number_at (number_of base.distance_digits) s.now at }
 {
     number(s, at, rules::distance_digits())
 }
 
 // The claims, by what they are the sum of.
-pub fn claimed_points(s: &[u8], at: usize) -> NumberRead
+pub fn claimed_points(s: &[u8], at: usize) -> Option<(u64, usize)>
     ensures { result ≡ number_at (number_of base.claimed_points_digits) s.now at }
 {
     number(s, at, rules::claimed_points_digits())
 }
 
-pub fn claimed_bonus(s: &[u8], at: usize) -> NumberRead
+pub fn claimed_bonus(s: &[u8], at: usize) -> Option<(u64, usize)>
     ensures { result ≡ number_at (number_of base.claimed_bonus_digits) s.now at }
 {
     number(s, at, rules::claimed_bonus_digits())
 }
 
-pub fn claimed_total(s: &[u8], at: usize) -> NumberRead
+pub fn claimed_total(s: &[u8], at: usize) -> Option<(u64, usize)>
     ensures { result ≡ number_at (number_of base.claimed_total_digits) s.now at }
 {
     number(s, at, rules::claimed_total_digits())
 }
 
 // A number from the least to the most. One that a u64 may not hold is above the most, so it need not be read to its end.
-#[tactic(auto, using(crate::proofs::BoundLaws::from_high))]
-fn number_from(s: &[u8], at: usize, least: u64, most: u64) -> NumberRead
+fn number_from(s: &[u8], at: usize, least: u64, most: u64) -> Option<(u64, usize)>
     requires { most < 10 ^ 19 }
     ensures { result ≡ number_at (number_from least most) s.now at }
 {
-    let NumberRead::Number(value, end) = number(s, at, U64_DIGITS) else {
-        return NumberRead::Bad;
+    let Some((value, end)) = number(s, at, U64_DIGITS) else {
+        return None;
     };
-    if value < least {
-        return NumberRead::Bad;
+    if value < least || most < value {
+        return None;
     }
-    if most < value {
-        return NumberRead::Bad;
-    }
-    NumberRead::Number(value, end)
+    Some((value, end))
 }
 
-pub fn count_of(s: &[u8], at: usize) -> NumberRead
+pub fn count_of(s: &[u8], at: usize) -> Option<(u64, usize)>
     ensures { result ≡ number_at (count base) s.now at }
 {
     number_from(s, at, 0, rules::most_count())
 }
 
-pub fn bonus_of(s: &[u8], at: usize) -> NumberRead
+pub fn bonus_of(s: &[u8], at: usize) -> Option<(u64, usize)>
     ensures { result ≡ number_at (bonus base) s.now at }
 {
     number_from(s, at, 0, rules::most_bonus())
 }
 
-pub fn multiplier_of(s: &[u8], at: usize) -> NumberRead
+pub fn multiplier_of(s: &[u8], at: usize) -> Option<(u64, usize)>
     ensures { result ≡ number_at (multiplier base) s.now at }
 {
     number_from(s, at, 1, rules::most_multiplier())
 }
 
 // The N of the count line.
-pub fn record_count(s: &[u8], at: usize) -> NumberRead
+pub fn record_count(s: &[u8], at: usize) -> Option<(u64, usize)>
     ensures { result ≡ number_at (number_from 0 base.most_records) s.now at }
 {
     number_from(s, at, 0, rules::most_records() as u64)
 }
 
+#[tactic(auto, unfolding(rules::specs::Text::all))]
 fn are_digits(a: u8, b: u8) -> bool
     ensures { result ≡ all digit (a ∷ b ∷ []) }
 {
-    if !is_digit(a) {
-        return false;
-    }
-    is_digit(b)
+    is_digit(a) && is_digit(b)
 }
 
 // The number that two digits write.
@@ -233,38 +194,33 @@ fn two_digits(a: u8, b: u8) -> u32
     requires { all digit (a ∷ b ∷ []) ≡ true }
     ensures { result ≡ value (a ∷ b ∷ []) }
 {
-    10 * (a - 48) as u32 + (b - 48) as u32
+    10 * (a - b'0') as u32 + (b - b'0') as u32
 }
 
-pub fn time(s: &[u8], at: usize) -> TimeRead
+pub fn time(s: &[u8], at: usize) -> Option<(TimeOfDay, usize)>
     ensures { result ≡ time_at s.now at }
 {
     // taken from the length, since no sum with `at` need fit
     if s.len() < 4 {
-        return TimeRead::Bad;
+        return None;
     }
     if s.len() - 4 < at {
-        return TimeRead::Bad;
+        return None;
     }
     if !ends(s, at + 4) {
-        return TimeRead::Bad;
+        return None;
     }
-    let TimeMade::Time(t) = TimeOfDay::from_digits(s[at], s[at + 1], s[at + 2], s[at + 3]) else {
-        return TimeRead::Bad;
+    let Some(t) = TimeOfDay::from_digits(s[at], s[at + 1], s[at + 2], s[at + 3]) else {
+        return None;
     };
-    TimeRead::Time(t, at + 4)
+    Some((t, at + 4))
 }
 
+#[tactic(auto, unfolding(rules::specs::Fields::leap))]
 fn is_leap(year: u32) -> bool
     ensures { result ≡ leap year }
 {
-    if year % 400 == 0 {
-        return true;
-    }
-    if year % 100 == 0 {
-        return false;
-    }
-    year % 4 == 0
+    year % 4 == 0 && year % 100 != 0 || year % 400 == 0
 }
 
 // Months of 31 and of 30 days take turns, and with the eighth the turns begin anew. February has two days fewer than its turn, one in a leap year.
@@ -282,19 +238,11 @@ fn month_length(year: u32, month: u32) -> u32
     days - 1
 }
 
+#[tactic(auto, unfolding(rules::specs::Fields::day_exists))]
 pub fn day_exists(year: u32, month: u32, day: u32) -> bool
     ensures { result ≡ day_exists year month day }
 {
-    if month < 1 {
-        return false;
-    }
-    if 12 < month {
-        return false;
-    }
-    if day < 1 {
-        return false;
-    }
-    day <= month_length(year, month)
+    matches!(month, 1..=12) && 1 <= day && day <= month_length(year, month)
 }
 
 // Of a year's last two digits: 90 to 99 are the 1990s, and the rest the 2000s.
@@ -312,13 +260,7 @@ fn full_year(yy: u32) -> u32
 fn is_short_date(a: u8, b: u8, c: u8, d: u8, e: u8, f: u8) -> bool
     ensures { result ≡ short_date (a ∷ b ∷ c ∷ d ∷ e ∷ f ∷ []) }
 {
-    if !are_digits(a, b) {
-        return false;
-    }
-    if !are_digits(c, d) {
-        return false;
-    }
-    if !are_digits(e, f) {
+    if !are_digits(a, b) || !are_digits(c, d) || !are_digits(e, f) {
         return false;
     }
     let year = full_year(two_digits(a, b));
@@ -349,27 +291,23 @@ pub fn date(s: &[u8], at: usize) -> DateRead
 }
 
 // The years run from 1990 to 2089, so that a long date's last six digits are a short one.
-pub fn long_date(s: &[u8], at: usize) -> LongDateRead
+pub fn long_date(s: &[u8], at: usize) -> Option<(u32, usize)>
     ensures { result ≡ long_date_at s.now at }
 {
-    let run = read_digits(s, at, 8);
-    let end = run.end;
+    let (digits, end) = read_digits(s, at, 8);
     if !ends(s, end) {
-        return LongDateRead::Bad;
+        return None;
     }
     if end - at != 8 {
-        return LongDateRead::Bad;
+        return None;
     }
-    let value = run.value as u32;
+    let value = digits as u32;
     let year = value / 10000;
-    if year < 1990 {
-        return LongDateRead::Bad;
-    }
-    if 2089 < year {
-        return LongDateRead::Bad;
+    if year < 1990 || 2089 < year {
+        return None;
     }
     if !day_exists(year, value / 100 % 100, value % 100) {
-        return LongDateRead::Bad;
+        return None;
     }
-    LongDateRead::Date(value, end)
+    Some((value, end))
 }

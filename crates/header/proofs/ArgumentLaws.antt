@@ -3,7 +3,7 @@
 use Prim.Native.Nat.{ℕ, zero, suc, ◌+◌, ◌≤◌, ◌<◌}
 use native.Mathlib.Decide.{ℕ_discrete}
 use native.Mathlib.Omega.{arith}
-use mathlib.Core.Bool.{Bool, true, false, cond, ◌&&◌, ◌||◌, true≢false}
+use mathlib.Core.Bool.{Bool, true, false, ◌&&◌, ◌||◌, true≢false}
 use mathlib.Core.List.{List, [], ◌∷◌, ◌++◌, map, head-eq_of_cons-eq, tail-eq_of_cons-eq}
 use mathlib.Core.Logic.{◌⊎◌, inl, inr}
 use mathlib.Core.Path.{◌≡◌, sym, ap, ◌∙◌}
@@ -15,7 +15,6 @@ use Rattle.rules.specs.Arguments.{Rule, meets, entries}
 use Rattle.rules.specs.Rules.{Rules}
 use Rattle.rules.specs.Text.{Text}
 use Rattle.rules.proofs.Tests.{and_l, and_r}
-use Rattle.header.specs.declared.ArgumentRead.{ArgumentRead}
 use Rattle.header.specs.Header.{first_argument, argument_of}
 
 -- The number is one of these.
@@ -75,23 +74,18 @@ one_of arms p ps first n x e h l a =
     found p ps x (unpassed arms (p ∷ ps) x a (covered (with_arms arms (p ∷ ps)) first n x e h l))
 
 module _ (R : Rules) (rule : Rule) (t : Text) where
-  abbrev answer : ArgumentRead
-  answer = cond (meets R rule t) ArgumentRead.Kept ArgumentRead.Broken
-
   -- At each of these places of the table stands the rule.
   abbrev pub Ruled : List ℕ → Type 0
-  Ruled ps = map (λ (n : ℕ). answer) ps ≡ map (λ (n : ℕ). argument_of R n t) ps
+  Ruled ps = map (λ (n : ℕ). meets R rule t) ps ≡ map (λ (n : ℕ). argument_of R n t) ps
 
-  ruled : (p : ℕ) (ps : List ℕ) (k : ℕ) → Ruled (p ∷ ps) → OneOf (p ∷ ps) k → answer ≡ argument_of R k t
+  ruled : (p : ℕ) (ps : List ℕ) (k : ℕ) → Ruled (p ∷ ps) → OneOf (p ∷ ps) k → meets R rule t ≡ argument_of R k t
   ruled p [] k h e = head-eq_of_cons-eq h ∙ ap (λ (n : ℕ). argument_of R n t) (sym e)
   ruled p (q ∷ ps) k h (inl e) = head-eq_of_cons-eq h ∙ ap (λ (n : ℕ). argument_of R n t) (sym e)
   ruled p (q ∷ ps) k h (inr o) = ruled q ps k (tail-eq_of_cons-eq h) o
 
-  pub answered : (p : ℕ) (ps : List ℕ) (k : ℕ) {b : Bool} {r : ArgumentRead} → Ruled (p ∷ ps) → OneOf (p ∷ ps) k
-      → r ≡ cond b ArgumentRead.Kept ArgumentRead.Broken → b ≡ meets R rule t → r ≡ argument_of R k t
-  answered p ps k h o e q =
-      e ∙ ap (λ (x : Bool). cond x ArgumentRead.Kept ArgumentRead.Broken) q ∙ ruled p ps k h o
+  pub answered : (p : ℕ) (ps : List ℕ) (k : ℕ) {b : Bool} → Ruled (p ∷ ps) → OneOf (p ∷ ps) k → b ≡ meets R rule t → b ≡ argument_of R k t
+  answered p ps k h o q = q ∙ ruled p ps k h o
 
-pub beyond_table : (R : Rules) (k : ℕ) (t : Text) → 36 ≤ k → ArgumentRead.Broken ≡ argument_of R k t
+pub beyond_table : (R : Rules) (k : ℕ) (t : Text) → 36 ≤ k → false ≡ argument_of R k t
 unfolding argument_of entries first_argument
 beyond_table R k t h = rw (drop_of_length-le entries {i = k} h)

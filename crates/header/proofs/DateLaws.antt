@@ -1,5 +1,6 @@
 -- Laws of the two dates: what their readers say, and which is the first.
 -- Assumes nothing.
+use Rattle.std.specs.Prelude.{Some}
 use Prim.Native.Nat.{ℕ, ◌+◌}
 use mathlib.Core.Bool.{Bool, true, false, ◌&&◌}
 use mathlib.Core.List.{List, [], ◌∷◌}
@@ -12,13 +13,12 @@ use Rattle.rules.specs.Text.{Text, value, parts}
 use Rattle.fields.specs.Field.{text_at, end_of}
 use Rattle.fields.proofs.PartLaws.{reach_first, reach_next, text_of}
 use Rattle.fields.proofs.Picked.{Kept}
-use Rattle.figures.specs.declared.LongDateRead.{LongDateRead}
 use Rattle.figures.specs.Figure.{long_date_at}
-use Rattle.figures.proofs.Picked.{long_date_picked}
+use Rattle.figures.proofs.Picked.{number_picked}
 
-pub date_kept : (t : Text) (at : ℕ) {v e : ℕ} → long_date_at t at ≡ LongDateRead.Date v e → Kept long_date t at e × (v ≡ value (text_at t at))
+pub date_kept : (t : Text) (at : ℕ) {v e : ℕ} → long_date_at t at ≡ Some (v, e) → Kept long_date t at e × (v ≡ value (text_at t at))
 date_kept t at p =
-    let q = long_date_picked t at p in
+    let q = number_picked long_date t at p in
     (record { holds = q.0; ending = q.2 }, q.1)
 
 abbrev pub dates : List (Text → Bool)

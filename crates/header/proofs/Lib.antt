@@ -1,7 +1,6 @@
 -- Laws, from those of words and tables to those of the arguments' rules.
 pub mod WordLaws
 pub mod TableLaws
-pub mod BandLaws
 pub mod DueLaws
 pub mod RuleLaws
 pub mod DateLaws

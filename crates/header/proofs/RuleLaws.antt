@@ -1,6 +1,8 @@
 -- No rule of one argument lets a semicolon through, so that a text that keeps it is one part.
 -- Assumes nothing.
 use Prim.Native.Nat.{ℕ}
+use Rattle.std.specs.Prelude.{Option, Some, None}
+use Rattle.std.specs.Option.{option_eq}
 use mathlib.Core.Bool.{Bool, true, false, not, ◌&&◌, true≢false}
 use mathlib.Core.List.{[], ◌∷◌}
 use mathlib.Core.Path.{◌≡◌, refl, sym, ap, ◌∙◌}
@@ -12,10 +14,9 @@ use Rattle.rules.specs.Rules.{Rules}
 use Rattle.rules.specs.Text.{Text, digit, all, number, number_of}
 use Rattle.rules.proofs.NumberLaws.{number_digits}
 use Rattle.rules.proofs.Tests.{and_l, and_r, and_i}
-use Rattle.fields.specs.Field.{in_field}
-use Rattle.fields.proofs.Picked.{Kept}
+use Rattle.fields.specs.Field.{in_field, end_by}
+use Rattle.fields.proofs.Picked.{Kept, end_picked, end_refused}
 use Rattle.fields.proofs.ShapeLaws.{Shape, ended, one, ended_or, fits, locator_0, locator_is_lem}
-use Rattle.figures.specs.declared.NumberRead.{NumberRead}
 use Rattle.figures.specs.Figure.{number_at}
 use Rattle.figures.proofs.Picked.{number_picked, number_refused}
 use Rattle.header.proofs.DueLaws.{argument_broken, argument_ends}
@@ -72,16 +73,22 @@ unfolding number_of
 number_apart most t e =
     all_apart digit refl t (number_digits t (and_l (number t) (leb (length t) most) e))
 
+-- A whole argument of a rule that lets no semicolon through: its reader's end is that of the text.
+module _ (rule : Text → Bool) (apart : (t : Text) → rule t ≡ true → all in_field t ≡ true) (t : Text) where
+  pub text_whole : (r : Option ℕ) → end_by rule t 0 ≡ r → option_eq eqb r (Some (length t)) ≡ rule t
+  text_whole None p = argument_broken rule apart t (end_refused rule t 0 p)
+  text_whole (Some e) p = argument_ends rule apart t (end_picked rule t 0 p)
+
 -- What is told of a number, as of a text.
-pub number_kept : (rule : Text → Bool) (t : Text) (at : ℕ) {v e : ℕ} → number_at rule t at ≡ NumberRead.Number v e → Kept rule t at e
+pub number_kept : (rule : Text → Bool) (t : Text) (at : ℕ) {v e : ℕ} → number_at rule t at ≡ Some (v, e) → Kept rule t at e
 number_kept rule t at p =
     let q = number_picked rule t at p in
     record { holds = q.0; ending = q.2 }
 
 -- A whole argument that is a number of at most so many digits.
 module _ (most : ℕ) (t : Text) where
-  pub no_number : number_at (number_of most) t 0 ≡ NumberRead.Bad → false ≡ number_of most t
+  pub no_number : number_at (number_of most) t 0 ≡ None → false ≡ number_of most t
   no_number p = argument_broken (number_of most) (number_apart most) t (number_refused (number_of most) t 0 p)
 
-  pub whole_number : {v e : ℕ} → number_at (number_of most) t 0 ≡ NumberRead.Number v e → eqb e (length t) ≡ number_of most t
+  pub whole_number : {v e : ℕ} → number_at (number_of most) t 0 ≡ Some (v, e) → eqb e (length t) ≡ number_of most t
   whole_number p = argument_ends (number_of most) (number_apart most) t (number_kept (number_of most) t 0 p)

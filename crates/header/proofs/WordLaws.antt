@@ -1,38 +1,31 @@
--- Laws of comparing a word with the front of a text, from a place of both on.
+-- Laws of comparing a word with the front of a text, and texts with each other.
 -- Assumes nothing.
-use Prim.Native.Nat.{ℕ, zero, suc, ◌+◌, ◌≤◌, ◌<◌}
-use native.Mathlib.Nat.{le_of_suc-le-suc}
+use Prim.Native.Nat.{ℕ, ◌+◌, ◌≤◌, ◌<◌}
+use native.Mathlib.Nat.{le_of_suc-le-suc, not-suc-le-zero}
 use native.Mathlib.Omega.{arith}
 use mathlib.Core.Bool.{Bool, true, false, cond, ◌&&◌}
 use mathlib.Core.List.{[], ◌∷◌, ◌++◌, map}
 use mathlib.Core.Path.{◌≡◌, refl, sym, ap, ◌∙◌}
 use lib.Dec.{eqb, leb}
-use lib.ListN.{length, take, drop, get_or, drop_of_length-le, length-map}
-use borrow.Author.Tests.{eq-eqb, ne_eqb, leb-true}
+use lib.ListN.{length, take, drop, length-map}
+use borrow.Author.Tests.{eq-eqb, eqb-true, ne_eqb, leb-true}
+use Rattle.std.specs.Bool.{IsTrue, Decides}
+use Rattle.std.specs.Char.{to_ascii_lowercase}
+use Rattle.std.specs.Cmp.Lexicographic.{pointwise}
+use Rattle.std.specs.Prelude.{◌↔◌}
+use Rattle.std.proofs.lemmas.Bool.Decides.{nat_tests, same_from_decides}
 use Rattle.rules.specs.Arguments.{Entry}
 use Rattle.rules.specs.Log.{keyword_start}
 use Rattle.rules.specs.Reading.{spelling_on, has_keyword}
 use Rattle.rules.specs.Text.{Text, bytes, same, same_but_case, capital, lower, begins}
-use Rattle.rules.proofs.Tests.{and_l, and_r}
-use Rattle.fields.proofs.FieldLaws.{next}
+use Rattle.rules.proofs.Tests.{and_l, and_r, and_i}
 
-module _ (w s : Text) (i : ℕ) where
-  pub begins_more :
-      i < length w →
-      i < length s →
-      get_or w i 0 ≡ get_or s i 0 →
-      begins (drop i w) (drop i s) ≡ begins (drop (i + 1) w) (drop (i + 1) s)
-  unfolding begins
-  begins_more h k e = rw (next w i h, next s i k, eq-eqb (get_or w i 0) (get_or s i 0) e)
-
-  pub begins_differs :
-      i < length w → i < length s → (get_or w i 0 ≡ get_or s i 0 → ⊥) → begins (drop i w) (drop i s) ≡ false
-  unfolding begins
-  begins_differs h k e = rw (next w i h, next s i k, ne_eqb (get_or w i 0) (get_or s i 0) e)
-
-  pub begins_done : length w ≤ i → begins (drop i w) (drop i s) ≡ true
-  unfolding begins
-  begins_done h = rw (drop_of_length-le w h)
+-- A word is at the front of a text where the two are the same for as long as the word goes on.
+pub begins_by : (w s : Text) → pointwise eqb w (take (length w) s) ≡ begins w s
+unfolding begins
+begins_by [] s = refl
+begins_by (c ∷ w) [] = refl
+begins_by (c ∷ w) (d ∷ s) = ap (λ (t : Bool). eqb c d && t) (begins_by w s)
 
 pub begins_short : (w s : Text) → length s < length w → false ≡ begins w s
 unfolding begins
@@ -47,49 +40,53 @@ begins_short (c ∷ w) (d ∷ s) h = rest (eqb c d) (begins_short w s (le_of_suc
     rest true e = e
     rest false e = refl
 
--- Texts of one length are the same where one begins with the other.
-pub same_long : (a b : Text) → length a ≡ length b → begins a b ≡ same a b
-unfolding same begins
-same_long [] [] h = refl
-same_long [] (d ∷ b) h = absurd (omega arith)
-same_long (c ∷ a) [] h = absurd (omega arith)
-same_long (c ∷ a) (d ∷ b) h = ap (λ (t : Bool). eqb c d && t) (same_long a b (omega arith))
+-- Texts are the same, character by character.
+pub same_by : (a b : Text) → pointwise eqb a b ≡ same a b
+unfolding same
+same_by [] [] = refl
+same_by [] (d ∷ b) = refl
+same_by (c ∷ a) [] = refl
+same_by (c ∷ a) (d ∷ b) = ap (λ (t : Bool). eqb c d && t) (same_by a b)
 
 -- # In either letter case
 
--- The character at a place of a text in small letters.
-pub lower_at : (s : Text) (i : ℕ) → get_or (map lower s) i 0 ≡ lower (get_or s i 0)
-lower_at [] i = refl
-lower_at (c ∷ s) zero = refl
-lower_at (c ∷ s) (suc i) = lower_at s i
+-- What std makes of a capital letter is its small letter.
+small_of : (c : ℕ) → to_ascii_lowercase c ≡ lower c
+small_of c = grind (arith, nat_tests)
 
--- The laws above, of two texts in small letters.
-module _ (w s : Text) (i : ℕ) where
-  pub case_more : i < length w →
-      i < length s →
-      lower (get_or w i 0) ≡ lower (get_or s i 0) →
-      begins (drop i (map lower w)) (drop i (map lower s)) ≡ begins (drop (i + 1) (map lower w)) (drop (i + 1) (map lower s))
-  case_more h k e =
-      begins_more (map lower w) (map lower s) i (rw (length-map w lower) h) (rw (length-map s lower) k) (lower_at w i ∙ e ∙ sym (lower_at s i))
+smalls_of : (s : Text) → map to_ascii_lowercase s ≡ map lower s
+smalls_of [] = refl
+smalls_of (c ∷ s) = rw (small_of c, smalls_of s)
 
-  pub case_differs : i < length w →
-      i < length s →
-      (lower (get_or w i 0) ≡ lower (get_or s i 0) → ⊥) →
-      begins (drop i (map lower w)) (drop i (map lower s)) ≡ false
-  case_differs h k f =
-      begins_differs (map lower w) (map lower s) i (rw (length-map w lower) h) (rw (length-map s lower) k) (λ e. f (sym (lower_at w i) ∙ e ∙ lower_at s i))
+-- A text begins with a word, but for the case of letters, where its front in small letters is the word in small letters.
+front_begins : (w s : Text) → map lower (take (length w) s) ≡ map lower w → begins (map lower w) (map lower s) ≡ true
+unfolding begins
+front_begins [] s e = refl
+front_begins (c ∷ w) [] e = absurd (cc)
+front_begins (c ∷ w) (d ∷ s) e =
+    let head : lower c ≡ lower d = cc in
+    let tail : map lower (take (length w) s) ≡ map lower w = cc in
+    and_i (eq-eqb (lower c) (lower d) head) (front_begins w s tail)
 
-  pub case_done : length w ≤ i → begins (drop i (map lower w)) (drop i (map lower s)) ≡ true
-  case_done h = begins_done (map lower w) (map lower s) i (rw (length-map w lower) h)
+begins_front_of : (w s : Text) → length w ≤ length s → begins (map lower w) (map lower s) ≡ true → map lower (take (length w) s) ≡ map lower w
+unfolding begins
+begins_front_of [] s h e = refl
+begins_front_of (c ∷ w) [] h e = absurd (not-suc-le-zero h)
+begins_front_of (c ∷ w) (d ∷ s) h e =
+    let head : lower c ≡ lower d = eqb-true (lower c) (lower d) (and_l (eqb (lower c) (lower d)) (begins (map lower w) (map lower s)) e) in
+    let tail = begins_front_of w s (le_of_suc-le-suc h) (and_r (eqb (lower c) (lower d)) (begins (map lower w) (map lower s)) e) in
+    cc
+
+pub case_by : (w s : Text) (r : Bool) →
+    length w ≤ length s →
+    (IsTrue r ↔ (map to_ascii_lowercase (take (length w) s) ≡ map to_ascii_lowercase w)) →
+    r ≡ begins (map lower w) (map lower s)
+case_by w s r h f =
+    let smalls : Decides r (map lower (take (length w) s) ≡ map lower w) = rw (← smalls_of (take (length w) s), ← smalls_of w) f in
+    same_from_decides r (begins (map lower w) (map lower s)) smalls (begins_front_of w s h, front_begins w s)
 
 pub case_short : (w s : Text) → length s < length w → false ≡ begins (map lower w) (map lower s)
 case_short w s h = begins_short (map lower w) (map lower s) (rw (length-map w lower, length-map s lower) h)
-
-pub lower_by : (c : ℕ) (b : Bool) → capital c ≡ b → cond b (c + 32) c ≡ lower c
-lower_by c b e = ap (λ (a : Bool). cond a (c + 32) c) (sym e)
-
-pub capital_low : (c : ℕ) → capital c ≡ true → c ≤ 90
-capital_low c e = leb-true c 90 (and_r (leb 65 c) (leb c 90) e)
 
 lower_sign : (d : ℕ) → eqb 61 (lower d) ≡ eqb 61 d
 lower_sign d = by (capital d) refl

@@ -1,13 +1,11 @@
 -- What is answered of a keyword, a band's name and an argument.
 -- Assumes nothing.
-use Rattle.std.specs.Prelude.{ℕ, cond, List, [], ◌∷◌, map, drop, get_or, replicate}
+use Rattle.std.specs.Prelude.{ℕ, Bool, false, cond, List, [], ◌∷◌, map, drop, get_or, replicate}
 use Rattle.rules.specs.Arguments.{Entry, entries, a_band, meets}
 use Rattle.rules.specs.Log.{keyword_start, keywords_of}
 use Rattle.rules.specs.Reading.{has_keyword}
 use Rattle.rules.specs.Rules.{Rules}
 use Rattle.rules.specs.Text.{Text, begins, lower}
-use Rattle.header.specs.declared.ArgumentRead.{ArgumentRead}
-use Rattle.header.specs.declared.BandRead.{BandRead}
 use Rattle.header.specs.declared.KeywordRead.{KeywordRead}
 
 -- Whether a line begins with a word: as it is, with letters in their other case, or not at all.
@@ -35,16 +33,15 @@ unfolding keyword_start keywords_of entries
 listed_at k = get_or (map keyword_start (keywords_of entries)) k (replicate 6 0)
 
 -- Whether a text is the name of a band.
-unfoldable pub band_of : Rules → Text → BandRead
-unfolding meets
-band_of R t = cond (meets R a_band t) BandRead.Listed BandRead.Differs
+abbrev pub band_of : Rules → Text → Bool
+band_of R t = meets R a_band t
 
 -- Whether the argument behind the first of the keywords that are left keeps its rule.
-unfoldable pub first_argument : Rules → List Entry → Text → ArgumentRead
+unfoldable pub first_argument : Rules → List Entry → Text → Bool
 unfolding meets
-first_argument R [] t = ArgumentRead.Broken
-first_argument R (e ∷ es) t = cond (meets R e.rule t) ArgumentRead.Kept ArgumentRead.Broken
+first_argument R [] t = false
+first_argument R (e ∷ es) t = meets R e.rule t
 
-unfoldable pub argument_of : Rules → ℕ → Text → ArgumentRead
+unfoldable pub argument_of : Rules → ℕ → Text → Bool
 unfolding first_argument entries
 argument_of R k t = first_argument R (drop k entries) t

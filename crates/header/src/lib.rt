@@ -2,14 +2,11 @@
 
 #![tactic(auto)]
 
-ghost use Rattle.std.specs.Prelude.{◌<◌, cond, [], map, ◌≡◌, get_or};
-ghost use Rattle.rules.specs.Arguments.{meets, two_dates, a_call, empty_or_call, empty_or_calls, a_locator, an_exchange, a_band, count_and_multiplier, count_bonus_multiplier, claimed_points, claimed_bonus, claimed_total, best_contact};
-ghost use Rattle.rules.specs.Rules.{base, band_names};
+ghost use Rattle.std.specs.Prelude.{[], map, ◌≡◌};
+ghost use Rattle.rules.specs.Arguments.{meets, two_dates, a_call, empty_or_call, empty_or_calls, a_locator, an_exchange, count_and_multiplier, count_bonus_multiplier, claimed_points, claimed_bonus, claimed_total, best_contact};
+ghost use Rattle.rules.specs.Rules.{base};
 ghost use Rattle.rules.specs.Text.{same, begins, lower};
 ghost use Rattle.header.specs.Header.{spelling_of, keyword_at, listed_at, band_of, argument_of};
-
-use fields::{CallRead, ExchangeRead, LocatorRead};
-use figures::{LongDateRead, NumberRead};
 
 const KEYWORDS: [[u8; 6]; 36] = [
     *b"TName=", *b"TDate=", *b"PCall=", *b"PWWLo=", *b"PExch=", *b"PAdr1=", *b"PAdr2=", *b"PSect=",
@@ -19,79 +16,32 @@ const KEYWORDS: [[u8; 6]; 36] = [
     *b"CDXCs=", *b"CDXCB=", *b"CToSc=", *b"CODXC=",
 ];
 
-const BANDS: [[u8; 7]; 15] = [
-    *b"50 MHz ",
-    *b"70 MHz ",
-    *b"144 MHz",
-    *b"432 MHz",
-    *b"1,3 GHz",
-    *b"2,3 GHz",
-    *b"3,4 GHz",
-    *b"5,7 GHz",
-    *b"10 GHz ",
-    *b"24 GHz ",
-    *b"47 GHz ",
-    *b"76 GHz ",
-    *b"120 GHz",
-    *b"144 GHz",
-    *b"248 GHz",
+const BANDS: [&[u8]; 15] = [
+    b"50 MHz", b"70 MHz", b"144 MHz", b"432 MHz", b"1,3 GHz", b"2,3 GHz", b"3,4 GHz", b"5,7 GHz",
+    b"10 GHz", b"24 GHz", b"47 GHz", b"76 GHz", b"120 GHz", b"144 GHz", b"248 GHz",
 ];
 
-// How much of each entry is the band's name.
-const BAND_LENGTHS: [usize; 15] = [6, 6, 7, 7, 7, 7, 7, 7, 6, 6, 6, 6, 7, 7, 7];
-
 // The text begins with the word.
+#[tactic(auto, using(crate::proofs::WordLaws::begins_by))]
 pub fn begins_with(word: &[u8], s: &[u8]) -> bool
     ensures { result ≡ begins word.now s.now }
 {
-    if s.len() < word.len() {
-        return false;
-    }
-    let mut i = 0;
-    while i < word.len() {
-        if word[i] != s[i] {
-            return false;
-        }
-        i += 1;
-    }
-    true
+    s.starts_with(word)
 }
 
 // The two texts are the same, byte for byte.
+#[tactic(auto, using(crate::proofs::WordLaws::same_by))]
 pub fn same_text(a: &[u8], b: &[u8]) -> bool
     ensures { result ≡ same a.now b.now }
 {
-    if a.len() != b.len() {
-        return false;
-    }
-    begins_with(a, b)
-}
-
-// The small letter of a capital; every other byte is its own.
-fn lower(b: u8) -> u8
-    ensures { result ≡ lower b }
-{
-    if fields::is_capital(b) {
-        return b + 32;
-    }
-    b
+    a == b
 }
 
 // The text begins with the word, but for the case of letters.
 fn begins_in_any_case(word: &[u8], s: &[u8]) -> bool
     ensures { result ≡ begins (map lower word.now) (map lower s.now) }
 {
-    if s.len() < word.len() {
-        return false;
-    }
-    let mut i = 0;
-    while i < word.len() {
-        if lower(word[i]) != lower(s[i]) {
-            return false;
-        }
-        i += 1;
-    }
-    true
+    word.len() <= s.len() && s[..word.len()].eq_ignore_ascii_case(word)
 }
 
 // Whether a line begins with the keyword that is due and its `=`: as it is listed, with letters in their other case, or not at all.
@@ -118,57 +68,27 @@ fn spelling(word: &[u8], line: &[u8]) -> KeywordRead
 pub fn keyword(k: usize, line: &[u8]) -> KeywordRead
     ensures { result ≡ keyword_at k line.now }
 {
-    if 36 <= k {
-        return KeywordRead::Differs;
+    match KEYWORDS.get(k) {
+        Some(word) => spelling(word, line),
+        None => KeywordRead::Differs,
     }
-    spelling(&KEYWORDS[k], line)
 }
 
 // The keyword that comes after k others, as it is listed, with its `=`; noughts where there is none.
 pub fn listed(k: usize) -> [u8; 6]
     ensures { result ≡ listed_at k }
 {
-    if 36 <= k {
-        return [0u8; 6];
+    match KEYWORDS.get(k) {
+        Some(word) => *word,
+        None => [0; 6],
     }
-    KEYWORDS[k]
 }
 
-// The text is the band's name at this place of the table, compared whole.
-fn is_band(k: usize, t: &[u8]) -> bool
-    requires { k < 15 }
-    ensures { result ≡ same (get_or band_names k []) t.now }
-{
-    let name = BANDS[k];
-    let n = BAND_LENGTHS[k];
-    same_text(&name[..n], t)
-}
-
-// Whether a text is one of the fifteen names.
-#[derive(Clone, Copy)]
-pub enum BandRead {
-    Listed,
-    Differs,
-}
-
-pub fn band(t: &[u8]) -> BandRead
+// Whether a text is one of the fifteen names, compared whole.
+pub fn band(t: &[u8]) -> bool
     ensures { result ≡ band_of base t.now }
 {
-    let mut k = 0;
-    while k < 15 {
-        if is_band(k, t) {
-            return BandRead::Listed;
-        }
-        k += 1;
-    }
-    BandRead::Differs
-}
-
-// Whether the argument of a keyword keeps its rule.
-#[derive(Clone, Copy)]
-pub enum ArgumentRead {
-    Kept,
-    Broken,
+    BANDS.iter().any(|name| same_text(name, t))
 }
 
 // The rules of the arguments. A reader stops before a semicolon, so it has read a whole argument where it ends with the text.
@@ -176,52 +96,37 @@ pub enum ArgumentRead {
 fn is_call(t: &[u8]) -> bool
     ensures { result ≡ meets base a_call t.now }
 {
-    let CallRead::Call { end, error: _ } = fields::call(t, 0) else {
+    let Some(call) = fields::call(t, 0) else {
         return false;
     };
-    end == t.len()
+    call.end == t.len()
 }
 
 fn is_empty_or_call(t: &[u8]) -> bool
     ensures { result ≡ meets base empty_or_call t.now }
 {
-    let CallRead::Call { end, error: _ } = fields::call_or_empty(t, 0) else {
+    let Some(call) = fields::call_or_empty(t, 0) else {
         return false;
     };
-    end == t.len()
+    call.end == t.len()
 }
 
 fn is_locator(t: &[u8]) -> bool
     ensures { result ≡ meets base a_locator t.now }
 {
-    let LocatorRead::Locator(end) = fields::locator(t, 0) else {
-        return false;
-    };
-    end == t.len()
+    fields::locator(t, 0) == Some(t.len())
 }
 
 fn is_exchange(t: &[u8]) -> bool
     ensures { result ≡ meets base an_exchange t.now }
 {
-    let ExchangeRead::Exchange(end) = fields::exchange(t, 0) else {
-        return false;
-    };
-    end == t.len()
-}
-
-fn is_band_name(t: &[u8]) -> bool
-    ensures { result ≡ meets base a_band t.now }
-{
-    let BandRead::Listed = band(t) else {
-        return false;
-    };
-    true
+    fields::exchange(t, 0) == Some(t.len())
 }
 
 fn is_claimed_points(t: &[u8]) -> bool
     ensures { result ≡ meets base claimed_points t.now }
 {
-    let NumberRead::Number(_, end) = figures::claimed_points(t, 0) else {
+    let Some((_, end)) = figures::claimed_points(t, 0) else {
         return false;
     };
     end == t.len()
@@ -230,7 +135,7 @@ fn is_claimed_points(t: &[u8]) -> bool
 fn is_claimed_bonus(t: &[u8]) -> bool
     ensures { result ≡ meets base claimed_bonus t.now }
 {
-    let NumberRead::Number(_, end) = figures::claimed_bonus(t, 0) else {
+    let Some((_, end)) = figures::claimed_bonus(t, 0) else {
         return false;
     };
     end == t.len()
@@ -239,7 +144,7 @@ fn is_claimed_bonus(t: &[u8]) -> bool
 fn is_claimed_total(t: &[u8]) -> bool
     ensures { result ≡ meets base claimed_total t.now }
 {
-    let NumberRead::Number(_, end) = figures::claimed_total(t, 0) else {
+    let Some((_, end)) = figures::claimed_total(t, 0) else {
         return false;
     };
     end == t.len()
@@ -250,10 +155,10 @@ fn is_claimed_total(t: &[u8]) -> bool
 fn is_count_and_multiplier(t: &[u8]) -> bool
     ensures { result ≡ meets base count_and_multiplier t.now }
 {
-    let NumberRead::Number(_, count) = figures::count_of(t, 0) else {
+    let Some((_, count)) = figures::count_of(t, 0) else {
         return false;
     };
-    let NumberRead::Number(_, end) = figures::multiplier_of(t, count + 1) else {
+    let Some((_, end)) = figures::multiplier_of(t, count + 1) else {
         return false;
     };
     end == t.len()
@@ -262,13 +167,13 @@ fn is_count_and_multiplier(t: &[u8]) -> bool
 fn is_count_bonus_multiplier(t: &[u8]) -> bool
     ensures { result ≡ meets base count_bonus_multiplier t.now }
 {
-    let NumberRead::Number(_, count) = figures::count_of(t, 0) else {
+    let Some((_, count)) = figures::count_of(t, 0) else {
         return false;
     };
-    let NumberRead::Number(_, bonus) = figures::bonus_of(t, count + 1) else {
+    let Some((_, bonus)) = figures::bonus_of(t, count + 1) else {
         return false;
     };
-    let NumberRead::Number(_, end) = figures::multiplier_of(t, bonus + 1) else {
+    let Some((_, end)) = figures::multiplier_of(t, bonus + 1) else {
         return false;
     };
     end == t.len()
@@ -277,17 +182,13 @@ fn is_count_bonus_multiplier(t: &[u8]) -> bool
 fn is_best_contact(t: &[u8]) -> bool
     ensures { result ≡ meets base best_contact t.now }
 {
-    let CallRead::Call {
-        end: call,
-        error: _,
-    } = fields::call_or_empty(t, 0)
-    else {
+    let Some(call) = fields::call_or_empty(t, 0) else {
         return false;
     };
-    let LocatorRead::Locator(locator) = fields::locator_or_empty(t, call + 1) else {
+    let Some(locator) = fields::locator_or_empty(t, call.end + 1) else {
         return false;
     };
-    let NumberRead::Number(_, end) = figures::distance(t, locator + 1) else {
+    let Some((_, end)) = figures::distance(t, locator + 1) else {
         return false;
     };
     end == t.len()
@@ -297,10 +198,10 @@ fn is_best_contact(t: &[u8]) -> bool
 fn is_two_dates(t: &[u8]) -> bool
     ensures { result ≡ meets base two_dates t.now }
 {
-    let LongDateRead::Date(first, between) = figures::long_date(t, 0) else {
+    let Some((first, between)) = figures::long_date(t, 0) else {
         return false;
     };
-    let LongDateRead::Date(last, end) = figures::long_date(t, between + 1) else {
+    let Some((last, end)) = figures::long_date(t, between + 1) else {
         return false;
     };
     if end != t.len() {
@@ -318,47 +219,38 @@ fn is_empty_or_calls(t: &[u8]) -> bool
     }
     let mut at = 0;
     while at < t.len() {
-        let CallRead::Call { end, error: _ } = fields::call(t, at) else {
+        let Some(call) = fields::call(t, at) else {
             return false;
         };
-        if end == t.len() {
+        if call.end == t.len() {
             return true;
         }
-        at = end + 1;
+        at = call.end + 1;
     }
     false
 }
 
-fn told(kept: bool) -> ArgumentRead
-    ensures { result ≡ cond kept ArgumentRead.Kept ArgumentRead.Broken }
-{
-    if kept {
-        return ArgumentRead::Kept;
-    }
-    ArgumentRead::Broken
-}
-
 // Whether the argument behind the keyword at this place of the table keeps its rule. Where no rule is named, anything may stand.
-pub fn argument(k: usize, t: &[u8]) -> ArgumentRead
+pub fn argument(k: usize, t: &[u8]) -> bool
     ensures { result ≡ argument_of base k t.now }
 {
     if 36 <= k {
-        return ArgumentRead::Broken;
+        return false;
     }
     match k {
-        1 => told(is_two_dates(t)),
-        2 => told(is_call(t)),
-        3 => told(is_locator(t)),
-        4 => told(is_exchange(t)),
-        8 => told(is_band_name(t)),
-        9 | 11 => told(is_empty_or_call(t)),
-        19 | 20 => told(is_empty_or_calls(t)),
-        26 => told(is_count_and_multiplier(t)),
-        27 => told(is_claimed_points(t)),
-        28 | 30 | 32 => told(is_count_bonus_multiplier(t)),
-        29 | 31 | 33 => told(is_claimed_bonus(t)),
-        34 => told(is_claimed_total(t)),
-        35 => told(is_best_contact(t)),
-        _ => ArgumentRead::Kept,
+        1 => is_two_dates(t),
+        2 => is_call(t),
+        3 => is_locator(t),
+        4 => is_exchange(t),
+        8 => band(t),
+        9 | 11 => is_empty_or_call(t),
+        19 | 20 => is_empty_or_calls(t),
+        26 => is_count_and_multiplier(t),
+        27 => is_claimed_points(t),
+        28 | 30 | 32 => is_count_bonus_multiplier(t),
+        29 | 31 | 33 => is_claimed_bonus(t),
+        34 => is_claimed_total(t),
+        35 => is_best_contact(t),
+        _ => true,
     }
 }

@@ -8,6 +8,7 @@ use mathlib.Core.Bool.{Bool, true, false, cond}
 use mathlib.Core.List.{List, [], ◌∷◌}
 use lib.Dec.{T}
 use lib.ListN.{length, get_or, set}
+use mir.Val.{bool_byte}
 use Rattle.rules.specs.declared.Class.{Class}
 use Rattle.rules.specs.declared.Class.TheVariants.{Credited, Void, Duplicate, Error}
 use Rattle.rules.specs.declared.Verdict.{Verdict}
@@ -96,6 +97,11 @@ closes t modes d h =
 pub worth_most : (b : Bool) (w : ℕ) → worth_if b w ≤ w
 worth_most true w = omega arith
 worth_most false w = omega arith
+
+-- A test as a number is what it adds to a count.
+pub bit_worth : (b : Bool) → bool_byte b ≡ worth_if b 1
+bit_worth true = refl
+bit_worth false = refl
 
 pub raised_by : {b : Bool} (w s : ℕ) → b ≡ true → w + s ≡ worth_if b w + s
 raised_by w s e = rw e

@@ -1,6 +1,6 @@
 -- From what was read to what is answered: an accepted log can be weighed, and what it is weighed to is what document 01 says of it.
 -- Assumes nothing.
-use Prim.Native.Nat.{ℕ, zero, suc, ◌≤◌, ◌<◌}
+use Prim.Native.Nat.{ℕ, ◌-◌, zero, suc, ◌≤◌, ◌<◌}
 use native.Mathlib.Omega.{arith}
 use mathlib.Core.Path.{◌≡◌, refl, sym, ap, subst, ◌∙◌}
 use mathlib.Core.Bool.{true, false}
@@ -9,12 +9,13 @@ use lib.Dec.{T, ltb}
 use lib.ListN.{length, take, drop, length-map, length-drop, length-append}
 use lib.Seq.{take_all, take-append_seam}
 use borrow.Author.Tests.{lt-ltb, le-ltb}
+use Rattle.std.specs.Prelude.{Result, Ok, Err}
 use Rattle.rules.specs.declared.Refusal.{Refusal}
 use Rattle.rules.specs.declared.Totals.{Totals}
 use Rattle.rules.specs.Text.{Text}
 use Rattle.rules.specs.Rules.{Rules, base}
 use Rattle.rules.specs.Fields.{Qso}
-use Rattle.rules.specs.Log.{Log, record_rules}
+use Rattle.rules.specs.Log.{Log, ended, record_line, record_rules}
 use Rattle.rules.specs.Judging.{declared, verdicts, verdicts_of_log, totals, totals_of, totals_of_log}
 use Rattle.rules.specs.Reading.{Reading, accepted, refused, refusal, read}
 use Rattle.rules.specs.Answers.{Judgement, judged, unjudged, judge, judge_reading, judge_log, records_of_reading, numbers_of_judgement, over}
@@ -27,14 +28,14 @@ use Rattle.reader.specs.Contact.{contact_at, behind, contacts_at, Holds}
 use Rattle.reader.specs.Noted.{listed}
 use Rattle.reader.specs.Read.{claims_start, heading_of, read_told}
 use Rattle.reader.specs.declared.Heading.{Heading}
-use Rattle.reader.specs.declared.ReadAnswer.TheVariants as ReadAnswer
+use Rattle.reader.specs.declared.Accepted.{Accepted}
+use Rattle.std.specs.Prelude.{Ok, Err}
 use Rattle.reader.proofs.RecordsHeld.{records_start, records_held, records_stand}
 use Rattle.places.specs.declared.Declared.{Declared}
 use Rattle.places.specs.Places.{declared_at}
 use Rattle.places.proofs.HeaderHeld.{declared_held}
 use Rattle.places.proofs.ToldBounds.{declared_below}
 use Rattle.judge.specs.declared.Weighed.{Weighed}
-use Rattle.judge.specs.declared.Judged.TheVariants as Judged
 use Rattle.judge.specs.Bounds.{Small, Closable}
 use Rattle.judge.specs.declared.Tally.{Tally}
 use Rattle.judge.specs.Count.{closing, as_declared, tallied}
@@ -125,7 +126,7 @@ module _ {R : Rules} {s : Text} {records first : ℕ} {heading : Heading} (a : A
       }
 
   -- Too short a slice.
-  pub refused_short : (slice : List ℕ) → length slice < records → Weighed.Refused (refusal 7 0 0) ≡ weighed_of R (length slice) s
+  pub refused_short : (slice : List ℕ) → length slice < records → Err (refusal 7 0 0) ≡ weighed_of R (length slice) s
   unfolding weighed_of weighed_by judge judge_reading judge_log
   refused_short slice h =
       let short : length slice < length log.records = omega (arith, a.count) in
@@ -174,39 +175,47 @@ module _ {R : Rules} {s : Text} {records first : ℕ} {heading : Heading} (a : A
       ∙ closed_totals R (declared_at R s (claims_start a.log)) (records_of R s) (verdicts R (records_of R s)) (length_verdicts R (records_of R s)) (rules_kept a)
       ∙ (λ i. totals_of R (declared_are i) (records_are a i) (verdicts R (records_are a i)))
 
-  pub done : {t : Tally} {u : Totals} {d : Declared} {slice' modes : List ℕ} → Weighs R s slice t slice' modes → d ≡ declared_at R s heading.claims → u ≡ closing (tallied t modes) d → Weighed.Done u records first heading ≡ weighed_of R (length slice) s
+  pub done : {t : Tally} {u : Totals} {d : Declared} {slice' modes : List ℕ} → Weighs R s slice t slice' modes → d ≡ declared_at R s heading.claims → u ≡ closing (tallied t modes) d → Ok (record { totals = u; records = records; first = first; heading = heading }) ≡ weighed_of R (length slice) s
   unfolding weighed_of weighed_by judge judge_reading judge_log records_of_reading
   done w e f =
-      rw (a.is_read, enough a slice h) (λ i. Weighed.Done (totals_are_lem w e f i) (a.count i) (a.place i) (a.headed i))
+      rw (a.is_read, enough a slice h) (λ i. Ok (record { totals = totals_are_lem w e f i; records = a.count i; first = a.place i; heading = a.headed i }))
 
 -- # From the reader's answer
 
 -- Two answers of different kinds.
-no_answer : {records first : ℕ} {heading : Heading} {r : Refusal} → ReadAnswer.Refused r ≡ ReadAnswer.Accepted records first heading → ⊥
+no_answer : {a : Accepted} {r : Refusal} → Err r ≡ Ok a → ⊥
 no_answer e = let z : ◌≡◌ {A = ℕ} 0 1 = cc in omega arith
 
-pub not_weighed : {t : Totals} {records first : ℕ} {heading : Heading} {r : Refusal} → Weighed.Refused r ≡ Weighed.Done t records first heading → ⊥
+pub not_weighed : {w : Weighed} {r : Refusal} → ◌≡◌ {A = Result Weighed Refusal} (Err r) (Ok w) → ⊥
 not_weighed e = let z : ◌≡◌ {A = ℕ} 0 1 = cc in omega arith
 
 module _ (R : Rules) (s : Text) where
-  pub accepts : {records first : ℕ} {heading : Heading} → read_told (length s) (read R s) ≡ ReadAnswer.Accepted records first heading → Accepts R s records first heading
+  pub accepts : {a : Accepted} → read_told (length s) (read R s) ≡ Ok a → Accepts R s a.records a.first a.heading
   unfolding read_told first_of heading_in
-  accepts {records} {first} {heading} = by (read R s) refl
+  accepts {a} = by (read R s) refl
     where
-      by : (x : Reading) → read R s ≡ x → read_told (length s) x ≡ ReadAnswer.Accepted records first heading → Accepts R s records first heading
-      by (accepted log) e f = record { log = log; is_read = e; count = cc; place = cc; headed = cc }
+      by : (x : Reading) → read R s ≡ x → read_told (length s) x ≡ Ok a → Accepts R s a.records a.first a.heading
+      by (accepted log) e f =
+          let same : ◌≡◌ {A = Accepted} (record { records = length log.records; first = length s - length (ended (map record_line log.records)); heading = heading_of log }) a = cc in
+          record {
+            log = log;
+            is_read = e;
+            count = ap (λ (x : Accepted). x.records) (sym same);
+            place = ap (λ (x : Accepted). x.first) (sym same);
+            headed = ap (λ (x : Accepted). x.heading) (sym same);
+          }
       by (refused r) e f = absurd (no_answer f)
 
-  refuses : {r : Refusal} → read_told (length s) (read R s) ≡ ReadAnswer.Refused r → read R s ≡ refused r
+  refuses : {r : Refusal} → read_told (length s) (read R s) ≡ Err r → read R s ≡ refused r
   unfolding read_told
   refuses {r} = by (read R s) refl
     where
-      by : (x : Reading) → read R s ≡ x → read_told (length s) x ≡ ReadAnswer.Refused r → read R s ≡ refused r
+      by : (x : Reading) → read R s ≡ x → read_told (length s) x ≡ Err r → read R s ≡ refused r
       by (accepted log) e f = absurd (no_answer (sym f))
       by (refused q) e f = let k : q ≡ r = cc in e ∙ ap refused k
 
-  module _ (slice : List ℕ) {r : Refusal} (e : read_told (length s) (read R s) ≡ ReadAnswer.Refused r) where
-    pub refused_unread : Weighed.Refused r ≡ weighed_of R (length slice) s
+  module _ (slice : List ℕ) {r : Refusal} (e : read_told (length s) (read R s) ≡ Err r) where
+    pub refused_unread : Err r ≡ weighed_of R (length slice) s
     unfolding weighed_of weighed_by judge judge_reading
     refused_unread = rw (refuses e)
 
@@ -216,18 +225,18 @@ module _ (R : Rules) (s : Text) where
 
   -- The totals alone.
   module _ (room : ℕ) where
-    pub totals_alone : {t : Totals} {records first : ℕ} {heading : Heading} → weighed_of R room s ≡ Weighed.Done t records first heading → Judged.Totals t ≡ judged_of R room s
+    pub totals_alone : {w : Weighed} → weighed_of R room s ≡ Ok w → Ok w.totals ≡ judged_of R room s
     unfolding weighed_of judged_of
-    totals_alone {t} {records} {first} {heading} = by (judge R room s)
+    totals_alone {w} = by (judge R room s)
       where
-        by : (j : Judgement) → weighed_by j (records_of_reading (read R s)) (first_of s (read R s)) (heading_in (read R s)) ≡ Weighed.Done t records first heading → Judged.Totals t ≡ judged_by j
-        by (judged u vs) e = let k : t ≡ u = cc in ap Judged.Totals k
+        by : (j : Judgement) → weighed_by j (records_of_reading (read R s)) (first_of s (read R s)) (heading_in (read R s)) ≡ Ok w → Ok w.totals ≡ judged_by j
+        by (judged u vs) e = let k : w.totals ≡ u = cc in ap Ok k
         by (unjudged r) e = absurd (not_weighed e)
 
-    pub refusal_alone : {r : Refusal} → weighed_of R room s ≡ Weighed.Refused r → Judged.Refused r ≡ judged_of R room s
+    pub refusal_alone : {r : Refusal} → weighed_of R room s ≡ Err r → Err r ≡ judged_of R room s
     unfolding weighed_of judged_of
     refusal_alone {r} = by (judge R room s)
       where
-        by : (j : Judgement) → weighed_by j (records_of_reading (read R s)) (first_of s (read R s)) (heading_in (read R s)) ≡ Weighed.Refused r → Judged.Refused r ≡ judged_by j
+        by : (j : Judgement) → weighed_by j (records_of_reading (read R s)) (first_of s (read R s)) (heading_in (read R s)) ≡ Err r → Err r ≡ judged_by j
         by (judged u vs) e = absurd (not_weighed (sym e))
-        by (unjudged q) e = let k : r ≡ q = cc in ap Judged.Refused k
+        by (unjudged q) e = let k : r ≡ q = cc in ap Err k

@@ -78,12 +78,6 @@ one_counted l place h = λ i.
 pub digit_least : (c : ℕ) → digit c ≡ true → 48 ≤ c
 digit_least c e = leb-true 48 c (and_l (leb 48 c) (leb c 57) e)
 
-pub code_placed : (c : ℕ) → digit c ≡ true → c - 48 ≡ mode_place c
-code_placed c e = rw e
-
-pub blank_placed : (c : ℕ) → digit c ≡ false → 10 ≡ mode_place c
-blank_placed c e = rw e
-
 -- Every character has its place among the eleven.
 pub place_most : (c : ℕ) → mode_place c < 11
 place_most c = by (digit c) refl

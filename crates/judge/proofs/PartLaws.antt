@@ -2,14 +2,15 @@
 -- Assumes nothing.
 use Prim.Native.Nat.{ℕ, zero, suc, ◌+◌, ◌-◌, ◌*◌, ◌/◌, ◌%◌, ◌≤◌, ◌<◌}
 use native.Mathlib.Omega.{arith}
-use native.Mathlib.Nat.{add-zero, zero-add, sub-zero}
+use native.Mathlib.Nat.{add-zero, zero-add}
 use mathlib.Core.Path.{◌≡◌, refl, sym, ap, ◌∙◌}
 use mathlib.Core.Bool.{Bool, true, false, cond, ◌||◌, or-false, or_assoc, or_comm}
 use mathlib.Core.List.{List, ◌∷◌}
 use lib.Dec.{leb, eqb}
 use lib.ListN.{length-set, length, take, drop, get_or, set, length-take, length-drop}
-use lib.Seq.{drop-cons, get_or-take, get_or-drop, get_or-set_same, get_or-set_other}
-use borrow.Author.Tests.{eqb-true, eqb-false, eq-eqb, ne_eqb, leb-true, leb-false}
+use lib.Seq.{get_or-take, get_or-drop, get_or-set_same, get_or-set_other}
+use borrow.Author.Tests.{eqb-true, eqb-false, leb-true, leb-false}
+use Rattle.std.specs.Prelude.{Option, None, Some, is_some}
 use Rattle.rules.specs.Text.{Text, same}
 use Rattle.rules.specs.Arguments.{among}
 use Rattle.rules.specs.Fields.{error_call}
@@ -20,9 +21,7 @@ use Rattle.fields.specs.Field.{in_field, end_of}
 use Rattle.fields.proofs.FieldLaws.{Within}
 use Rattle.fields.proofs.PartLaws.{end_by_span}
 use Rattle.reader.specs.Contact.{between}
-use Rattle.judge.specs.declared.Found.{Found}
-use Rattle.judge.specs.declared.Found.TheVariants.{At, Nothing}
-use Rattle.judge.specs.Parts.{key_of, part_by, kept_at, seek, is_at, kept_texts, Ahead, First, Keyed, Lying}
+use Rattle.judge.specs.Parts.{key_of, part_by, kept_at, seek, kept_texts, Ahead, First, Keyed, Lying}
 
 -- # Keys
 
@@ -66,51 +65,17 @@ pub keys_differ : (s : Text) (a b : ℕ) {key sought : ℕ} → Keyed s b key �
 keys_differ s a b {key} {sought} k q d =
     fails (same (part_by s b key) (part_by s a sought)) (λ t. d (k.own ∙ ap key_of (same→equal (part_by s b key) (part_by s a sought) (holds t)) ∙ sym q.own))
 
--- Two runs of one length, from a place of both on.
-abbrev pub same_from : Text → ℕ → ℕ → ℕ → ℕ → Bool
-same_from s a b n i = same (take (n - i) (drop (a + i) s)) (take (n - i) (drop (b + i) s))
-
-module _ (s : Text) (a b n : ℕ) where
-  pub run_begins : same (take n (drop a s)) (take n (drop b s)) ≡ same_from s a b n 0
-  run_begins = rw (add-zero a, add-zero b, sub-zero n)
-
-  pub run_ends : (i : ℕ) → n ≤ i → same_from s a b n i ≡ true
-  unfolding same
-  run_ends i h = let z : n - i ≡ 0 = omega arith in rw z
-
-  module _ (i : ℕ) (h : i < n) (ka : 0 < n → a + n ≤ length s) (kb : 0 < n → b + n ≤ length s) where
-    k : a + n ≤ length s
-    k = ka (omega arith)
-
-    l : b + n ≤ length s
-    l = kb (omega arith)
-
-    front : (x : ℕ) → x + n ≤ length s → take (n - i) (drop (x + i) s) ≡ get_or s (x + i) 0 ∷ take (n - (i + 1)) (drop (x + (i + 1)) s)
-    front x g =
-        let more : n - i ≡ suc (n - (i + 1)) = omega arith in
-        let next : suc (x + i) ≡ x + (i + 1) = omega arith in
-        let there : x + i < length s = omega arith in
-        rw (more, drop-cons s (x + i) 0 there, next)
-
-    pub run_more : get_or s (a + i) 0 ≡ get_or s (b + i) 0 → same_from s a b n i ≡ same_from s a b n (i + 1)
-    unfolding same
-    run_more e = rw (front a k, front b l, eq-eqb (get_or s (a + i) 0) (get_or s (b + i) 0) e)
-
-    pub run_differs : (get_or s (a + i) 0 ≡ get_or s (b + i) 0 → ⊥) → same_from s a b n i ≡ false
-    unfolding same
-    run_differs e = rw (front a k, front b l, ne_eqb (get_or s (a + i) 0) (get_or s (b + i) 0) e)
-
 -- # The search
 
 module _ (s : Text) (places keys : List ℕ) (t : Text) where
   pub seek_all : (m : ℕ) → seek s places keys t m 0 ≡ seek s places keys t (m - 0) 0
   seek_all m = let z : m - 0 ≡ m = omega arith in rw z
 
-  pub seek_none : (m i : ℕ) → m ≤ i → Nothing ≡ seek s places keys t (m - i) i
+  pub seek_none : (m i : ℕ) → m ≤ i → None ≡ seek s places keys t (m - i) i
   unfolding seek
   seek_none m i h = let z : m - i ≡ 0 = omega arith in rw z
 
-  pub seek_here : (m i : ℕ) → i < m → same (kept_at s places keys i) t ≡ true → seek s places keys t (m - i) i ≡ At i
+  pub seek_here : (m i : ℕ) → i < m → same (kept_at s places keys i) t ≡ true → seek s places keys t (m - i) i ≡ Some i
   unfolding seek
   seek_here m i h e = let z : m - i ≡ suc (m - (i + 1)) = omega arith in rw (z, seek, e)
 
@@ -120,15 +85,15 @@ module _ (s : Text) (places keys : List ℕ) (t : Text) where
   seek_later m i h e = let z : m - i ≡ suc (m - (i + 1)) = omega arith in rw (z, seek, e)
 
   -- What is looked for is found where it is among the texts that are kept.
-  found_or : (b : Bool) (i : ℕ) (f : Found) → is_at (cond b (At i) f) ≡ (b || is_at f)
+  found_or : (b : Bool) (i : ℕ) (f : Option ℕ) → is_some (cond b (Some i) f) ≡ (b || is_some f)
   found_or true i f = refl
   found_or false i f = refl
 
   seek_last : (n i : ℕ) →
-      is_at (seek s places keys t (suc n) i) ≡ (is_at (seek s places keys t n i) || same (kept_at s places keys (i + n)) t)
+      is_some (seek s places keys t (suc n) i) ≡ (is_some (seek s places keys t n i) || same (kept_at s places keys (i + n)) t)
   unfolding seek
   seek_last zero i =
-      found_or (same (kept_at s places keys i) t) i Nothing
+      found_or (same (kept_at s places keys i) t) i None
       ∙ or-false (same (kept_at s places keys i) t)
       ∙ ap (λ (k : ℕ). same (kept_at s places keys k) t) (sym (add-zero i))
   seek_last (suc n) i =
@@ -136,24 +101,18 @@ module _ (s : Text) (places keys : List ℕ) (t : Text) where
       let k : i + 1 + n ≡ i + suc n = omega arith in
       found_or here i (seek s places keys t (suc n) (i + 1))
       ∙ ap (λ (b : Bool). here || b) (seek_last n (i + 1))
-      ∙ sym (or_assoc here (is_at (seek s places keys t n (i + 1))) (same (kept_at s places keys (i + 1 + n)) t))
+      ∙ sym (or_assoc here (is_some (seek s places keys t n (i + 1))) (same (kept_at s places keys (i + 1 + n)) t))
       ∙ ap (λ (b : Bool). b || same (kept_at s places keys (i + 1 + n)) t) (sym (found_or here i (seek s places keys t n (i + 1))))
-      ∙ ap (λ (j : ℕ). is_at (seek s places keys t (suc n) i) || same (kept_at s places keys j) t) k
+      ∙ ap (λ (j : ℕ). is_some (seek s places keys t (suc n) i) || same (kept_at s places keys j) t) k
 
-  seek_among : (m : ℕ) → is_at (seek s places keys t m 0) ≡ among (kept_texts s places keys m) t
+  pub seek_among : (m : ℕ) → is_some (seek s places keys t m 0) ≡ among (kept_texts s places keys m) t
   unfolding seek kept_texts among
   seek_among zero = refl
   seek_among (suc m) =
       seek_last m 0
-      ∙ ap (λ (j : ℕ). is_at (seek s places keys t m 0) || same (kept_at s places keys j) t) (zero-add m)
-      ∙ or_comm (is_at (seek s places keys t m 0)) (same (kept_at s places keys m) t)
+      ∙ ap (λ (j : ℕ). is_some (seek s places keys t m 0) || same (kept_at s places keys j) t) (zero-add m)
+      ∙ or_comm (is_some (seek s places keys t m 0)) (same (kept_at s places keys m) t)
       ∙ ap (λ (b : Bool). same (kept_at s places keys m) t || b) (seek_among m)
-
-  pub kept_found : (m : ℕ) {i : ℕ} → seek s places keys t m 0 ≡ At i → true ≡ among (kept_texts s places keys m) t
-  kept_found m e = sym (ap is_at e) ∙ seek_among m
-
-  pub kept_none : (m : ℕ) → seek s places keys t m 0 ≡ Nothing → false ≡ among (kept_texts s places keys m) t
-  kept_none m e = sym (ap is_at e) ∙ seek_among m
 
   -- Indexes at which another key stands are passed over.
   pub seek_over : (a m : ℕ) (i j : ℕ) → Lying s places keys m → Keyed s a (get_or keys m 0) → t ≡ part_by s a (get_or keys m 0) → i ≤ j → j ≤ m → ((x : ℕ) → i ≤ x → x < j → get_or keys x 0 ≡ get_or keys m 0 → ⊥) → seek s places keys t (m - i) i ≡ seek s places keys t (m - j) j

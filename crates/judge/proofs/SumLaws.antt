@@ -8,7 +8,7 @@ use mathlib.Core.Bool.{Bool, true, false, cond, ◌&&◌, ◌||◌}
 use mathlib.Core.List.{List}
 use lib.Dec.{eqb, leb, ltb}
 use lib.ListN.{get_or, get_or-eq_default}
-use borrow.Author.Tests.{lt-ltb, le-ltb, lt-leb, le-leb, eqb-true, eqb-false, eq-eqb, ne_eqb, ltb-true, ltb-false}
+use borrow.Author.Tests.{lt-ltb, le-ltb, le-leb, eqb-true, eqb-false, eq-eqb, ne_eqb, ltb-true, ltb-false}
 use Rattle.rules.specs.declared.Class.{Class}
 use Rattle.rules.specs.declared.Class.TheVariants.{Credited}
 use Rattle.rules.specs.Rules.{Rules}
@@ -16,11 +16,10 @@ use Rattle.rules.specs.declared.Modes.{Modes}
 use Rattle.rules.specs.Judging.{is, mode_numbers, modes_together, zero_modes, zero_totals}
 use Rattle.rules.specs.Demands.{AddUp}
 use Rattle.rules.specs.Log.{conjunction}
-use Rattle.rules.specs.Session.{rate_rule, declared_rule}
+use Rattle.rules.specs.Session.{declared_rule}
 use Rattle.rules.proofs.Tests.{fails}
-use Rattle.rules.specs.SessionDemands.{RateInRange}
 use Rattle.rules.proofs.ValidLogs.{test_at, at_most}
-use Rattle.rules.proofs.SessionLaws.{rate_in, in_range}
+use Rattle.rules.proofs.SessionLaws.{in_range}
 use Rattle.places.specs.declared.Declared.{Declared}
 use Rattle.judge.specs.Bounds.{most_worth, Counts, Countable, Small, Closable}
 use Rattle.judge.specs.declared.Sums.{Sums}
@@ -181,35 +180,7 @@ module _ (R : Rules) (s : Sums) where
 
 -- # What is declared
 
-pub not_rate : (R : Rules) (bonus multiplier : ℕ) → (RateInRange R bonus multiplier → ⊥) → false ≡ rate_rule R bonus multiplier
-not_rate R bonus multiplier f = untrue (λ e. f (rate_in R bonus multiplier e))
-
-pub rate_by : (R : Rules) (bonus multiplier : ℕ) → bonus ≤ R.most_bonus → 1 ≤ multiplier → leb multiplier R.most_multiplier ≡ rate_rule R bonus multiplier
-unfolding rate_rule conjunction
-rate_by R bonus multiplier a b = rw (le-leb bonus R.most_bonus a, le-leb 1 multiplier b) (last_test (leb multiplier R.most_multiplier))
-
 module _ (R : Rules) (d : Declared) where
-  abbrev square_rate : Bool
-  square_rate = rate_rule R d.squarebonus d.squaremultiplier
-
-  abbrev exchange_rate : Bool
-  exchange_rate = rate_rule R d.exchangebonus d.exchangemultiplier
-
-  abbrev country_rate : Bool
-  country_rate = rate_rule R d.countrybonus d.countrymultiplier
-
-  pub squares_not : square_rate ≡ false → false ≡ declared_rule R (as_declared d)
-  unfolding declared_rule as_declared conjunction
-  squares_not e = rw e
-
-  pub exchanges_not : square_rate ≡ true → exchange_rate ≡ false → false ≡ declared_rule R (as_declared d)
-  unfolding declared_rule as_declared conjunction
-  exchanges_not e f = rw (e, f)
-
-  pub declared_by : square_rate ≡ true → exchange_rate ≡ true → country_rate ≡ declared_rule R (as_declared d)
-  unfolding declared_rule as_declared conjunction
-  declared_by e f = rw (e, f) (last_test country_rate)
-
   pub declared_small : declared_rule R (as_declared d) ≡ true → Small R d
   unfolding as_declared
   declared_small e =
@@ -252,9 +223,6 @@ module _ (l : List ℕ) (n k left : ℕ) where
       by false e = ne_eqb left 0 (λ x. eqb-false 0 left e (sym x))
 
 -- # One record more, and the totals
-
-pub not_few : (n most : ℕ) → most < n → false ≡ leb n most
-not_few n most h = sym (lt-leb n most h)
 
 module _ (R : Rules) (s : Sums) (worth : ℕ) where
   pub not_more : sound_sums R s ≡ false → false ≡ counts_more R s worth

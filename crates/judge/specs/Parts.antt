@@ -1,10 +1,8 @@
 -- The parts of a log that are kept by their places, and the search among them.
 -- Assumes nothing.
-use Rattle.std.specs.Prelude.{ℕ, zero, suc, ◌+◌, ◌-◌, ◌*◌, ◌/◌, ◌%◌, ◌≤◌, ◌<◌, ◌≡◌, Bool, true, false, cond, ◌&&◌, ◌||◌, List, [], ◌∷◌, eqb, length, take, drop, get_or}
+use Rattle.std.specs.Prelude.{ℕ, zero, suc, ◌+◌, ◌-◌, ◌*◌, ◌/◌, ◌%◌, ◌≤◌, ◌<◌, ◌≡◌, Bool, false, cond, ◌&&◌, ◌||◌, List, [], ◌∷◌, eqb, length, take, drop, get_or, Option, None, Some}
 use Rattle.rules.specs.Text.{Text, digit, all, same}
 use Rattle.rules.specs.Fields.{square_letter}
-use Rattle.judge.specs.declared.Found.{Found}
-use Rattle.judge.specs.declared.Found.TheVariants.{At, Nothing}
 
 -- How long a text is and what its last two characters are, in one number: texts that are the same have the same key, and most others differ in
 -- it.
@@ -20,17 +18,12 @@ abbrev pub kept_at : Text → List ℕ → List ℕ → ℕ → Text
 kept_at s places keys i = part_by s (get_or places i 0) (get_or keys i 0)
 
 -- The index of the first part that is the same as a text, of so many from an index on.
-unfoldable pub seek : Text → List ℕ → List ℕ → Text → ℕ → ℕ → Found
+unfoldable pub seek : Text → List ℕ → List ℕ → Text → ℕ → ℕ → Option ℕ
 unfolding same
-seek s places keys t zero i = Nothing
+seek s places keys t zero i = None
 seek s places keys t (suc n) i =
     let more = seek s places keys t n (i + 1) in
-    cond (same (kept_at s places keys i) t) (At i) more
-
--- Something was found.
-abbrev pub is_at : Found → Bool
-is_at (At i) = true
-is_at Nothing = false
+    cond (same (kept_at s places keys i) t) (Some i) more
 
 -- The texts of the first so many parts, the last one first.
 unfoldable pub kept_texts : Text → List ℕ → List ℕ → ℕ → List Text

@@ -3,10 +3,10 @@
 
 #![tactic(auto)]
 
-ghost use Rattle.std.specs.Prelude.{◌+◌, ◌-◌, ◌*◌, ◌/◌, ◌%◌, ◌<◌, ◌≤◌, true, [], ◌∷◌, ◌≡◌, eqb, leb, drop, get_or, length, replicate, set, take};
+ghost use Rattle.std.specs.Prelude.{◌+◌, ◌-◌, ◌*◌, ◌/◌, ◌%◌, ◌<◌, ◌≤◌, true, ◌≡◌, eqb, leb, drop, get_or, length, replicate, set, take};
 ghost use Rattle.rules.specs.Arguments.{among};
 ghost use Rattle.rules.specs.Fields.{empty_or, error_call, locator, new_mark};
-ghost use Rattle.rules.specs.Judging.{class_number, mode_numbers, modes_together, verdict_number, zero_modes, zero_totals};
+ghost use Rattle.rules.specs.Judging.{mode_numbers, modes_together, verdict_number, zero_totals};
 ghost use Rattle.rules.specs.Rules.{base};
 ghost use Rattle.rules.specs.Session.{declared_rule, rate_rule};
 ghost use Rattle.rules.specs.Text.{number_of, same};
@@ -14,7 +14,7 @@ ghost use Rattle.fields.specs.Field.{text_at, end_of};
 ghost use Rattle.reader.specs.Contact.{between, claimed_at, field_start, value_by};
 ghost use Rattle.reader.specs.Noted.{contacts_read, listed};
 ghost use Rattle.judge.specs.Bounds.{Addable, Closable};
-ghost use Rattle.judge.specs.Count.{add_record, as_declared, closing, mode_place, modes_after, modes_in, no_tally, tallied, worth_if};
+ghost use Rattle.judge.specs.Count.{add_record, as_declared, closing, mode_place, modes_after, modes_in, no_tally, tallied};
 ghost use Rattle.judge.specs.Judge.{judged_of, verdicts_afterwards, weighed_of};
 ghost use Rattle.judge.specs.Parts.{Ahead, First, Keyed, Lying, key_of, kept_texts, number_of_square, part_by, seek, square_there};
 ghost use Rattle.judge.specs.Said.{class_by, verdict_by};
@@ -23,79 +23,48 @@ ghost use Rattle.judge.specs.Sums.{class_in, counts_more, more_sums, no_sums, re
 ghost use Rattle.judge.specs.Weigh.{Accepts, Listings, Weighable, Weighs};
 ghost use Rattle.judge.specs.Step.{Classed, CreditReady, Credits, NewPart, NewSquare, Ready, Steps, class_noted};
 
-use figures::NumberRead;
 use places::Declared;
-use reader::{Heading, ReadAnswer};
+use reader::{Accepted, Heading};
 use rules::{Class, Modes, Refusal, Totals, Verdict};
 
 // # What is said of a record
 
 // The class of a record, by three answers: its call is ERROR, it repeats a credited record, and it claims points.
+#[tactic(auto, unfolding(crate::specs::Said::class_by))]
 pub fn class_by(error: bool, repeats: bool, claims: bool) -> Class
     ensures { result ≡ class_by error repeats claims }
 {
     if error {
-        return Class::Error;
-    }
-    if repeats {
-        return Class::Duplicate;
-    }
-    if claims {
-        return Class::Credited;
-    }
-    Class::Void
-}
-
-fn class_number(class: Class) -> u8
-    ensures { result ≡ class_number class }
-{
-    match class {
-        Class::Credited => 0,
-        Class::Void => 1,
-        Class::Duplicate => 2,
-        Class::Error => 3,
+        Class::Error
+    } else if repeats {
+        Class::Duplicate
+    } else if claims {
+        Class::Credited
+    } else {
+        Class::Void
     }
 }
 
 // What is said of a record, by its class and three answers more: its exchange is new, its square is new, and it claims a country. Marks are of
 // credited records alone.
+#[tactic(auto, unfolding(crate::specs::Said::verdict_by, rules::specs::Judging::is))]
 pub fn verdict_by(class: Class, exchange: bool, square: bool, country: bool) -> Verdict
     ensures { result ≡ verdict_by class exchange square country }
 {
-    if class_number(class) == 0 {
-        return Verdict {
-            class,
-            exchange,
-            square,
-            country,
-        };
-    }
+    let credited = class == Class::Credited;
     Verdict {
         class,
-        exchange: false,
-        square: false,
-        country: false,
+        exchange: credited && exchange,
+        square: credited && square,
+        country: credited && country,
     }
 }
 
-// What a mark adds to the number of a verdict.
-fn mark_number(set: bool, worth: u8) -> u8
-    ensures { result ≡ worth_if set worth }
-{
-    if set {
-        return worth;
-    }
-    0
-}
-
+// The number of a verdict: that of its class, and so much for each mark that is set.
 pub fn verdict_number(v: Verdict) -> u8
     ensures { result ≡ verdict_number v }
 {
-    let class = v.class;
-    class_number(class)
-        + mark_number(v.exchange, 16)
-        + mark_number(v.square, 32)
-        + mark_number(v.country, 64)
+    v.class as u8 + u8::from(v.exchange) * 16 + u8::from(v.square) * 32 + u8::from(v.country) * 64
 }
 
 // # Fields and their keys
@@ -117,20 +86,14 @@ fn is_error(s: &[u8], a: usize, e: usize) -> bool
     requires { (a ≤ e) × (e ≤ length s.now) }
     ensures { result ≡ same (between s.now a e) error_call }
 {
-    if e - a != 5 {
-        return false;
-    }
-    header::same_text(&s[a..e], b"ERROR")
+    e - a == 5 && header::same_text(&s[a..e], b"ERROR")
 }
 
 // What the points at a place are worth.
 fn worth_at(s: &[u8], at: usize) -> u64
     ensures { result ≡ value_by (number_of base.points_digits) (text_at s.now at) }
 {
-    let NumberRead::Number(worth, _) = figures::points(s, at) else {
-        return 0;
-    };
-    worth
+    figures::value_of(figures::points(s, at))
 }
 
 // Where the third mark behind the points begins. It ends within the log.
@@ -148,10 +111,7 @@ fn claims_country(s: &[u8], pointsend: usize) -> bool
     ensures { result ≡ same (text_at s.now (field_start s.now (pointsend + 1) 2)) new_mark }
 {
     let third = third_mark(s, pointsend);
-    if part_end(s, third) - third != 1 {
-        return false;
-    }
-    s[third] == 78
+    part_end(s, third) - third == 1 && s[third] == 78
 }
 
 // The record whose points end here claims a D: its last field begins with one.
@@ -173,9 +133,10 @@ pub fn mode_place(first: u8) -> usize
     ensures { result ≡ mode_place first }
 {
     if fields::is_digit(first) {
-        return (first - 48) as usize;
+        (first - 48) as usize
+    } else {
+        BLANK
     }
-    BLANK
 }
 
 // The key that a length and two characters make.
@@ -233,24 +194,10 @@ fn next_key(keys: &[u16], from: usize, key: u16) -> usize
 
 // The n characters from one place on are those from another on.
 fn same_run(s: &[u8], a: usize, b: usize, n: usize) -> bool
-    requires { (0 < n → a + n ≤ length s.now) × (0 < n → b + n ≤ length s.now) }
+    requires { (a + n ≤ length s.now) × (b + n ≤ length s.now) }
     ensures { result ≡ same (take n (drop a s.now)) (take n (drop b s.now)) }
 {
-    let mut i = 0;
-    while i < n {
-        if s[a + i] != s[b + i] {
-            return false;
-        }
-        i += 1;
-    }
-    true
-}
-
-// Where a repeat was found.
-#[derive(Clone, Copy)]
-enum Found {
-    At(usize),
-    Nothing,
+    header::same_text(&s[a..a + n], &s[b..b + n])
 }
 
 // A place that is kept, as an index.
@@ -262,7 +209,7 @@ fn wide(x: u16) -> usize
 
 // The first of the m parts kept that is the same as the part at a place, whose key stands behind the m keys. Parts whose keys differ are passed
 // over.
-fn find(s: &[u8], places: &[u16], keys: &[u16], m: usize, place: usize) -> Found
+fn find(s: &[u8], places: &[u16], keys: &[u16], m: usize, place: usize) -> Option<usize>
     requires { Lying s.now places.now keys.now m × Keyed s.now place (get_or keys.now m 0) }
     ensures { result ≡ seek s.now places.now keys.now (part_by s.now place (get_or keys.now m 0)) m 0 }
 {
@@ -279,31 +226,16 @@ fn find(s: &[u8], places: &[u16], keys: &[u16], m: usize, place: usize) -> Found
         }
         k += 1;
     };
-    if at < m {
-        return Found::At(at);
-    }
-    Found::Nothing
+    if at < m { Some(at) } else { None }
 }
 
 // The part at a place is the same as one of the m parts kept; its key stands behind the m keys.
+#[tactic(auto, using(crate::proofs::PartLaws::seek_among))]
 fn is_kept(s: &[u8], places: &[u16], keys: &[u16], m: usize, place: usize) -> bool
     requires { Lying s.now places.now keys.now m × Keyed s.now place (get_or keys.now m 0) }
     ensures { result ≡ among (kept_texts s.now places.now keys.now m) (part_by s.now place (get_or keys.now m 0)) }
 {
-    match find(s, places, keys, m, place) {
-        Found::At(_) => true,
-        Found::Nothing => false,
-    }
-}
-
-// What a test adds to a count, where it holds.
-fn one_if(yes: bool) -> usize
-    ensures { result ≡ worth_if yes 1 }
-{
-    if yes {
-        return 1;
-    }
-    0
+    find(s, places, keys, m, place).is_some()
 }
 
 // A part is looked for among the m that are kept, and kept behind them if it is there and new.
@@ -348,7 +280,7 @@ struct Noted {
 }
 
 // How many calls, squares and exchanges are kept.
-#[derive(Clone, Copy)]
+#[derive(Clone, Copy, Default)]
 struct Kept {
     calls: usize,
     squares: usize,
@@ -406,8 +338,8 @@ fn credited_next(
     let verdict = verdict_by(Class::Credited, exchange, square, country);
     let after = Kept {
         calls: m + 1,
-        squares: one_if(square) + kept.squares,
-        exchanges: one_if(exchange) + kept.exchanges,
+        squares: usize::from(square) + kept.squares,
+        exchanges: usize::from(exchange) + kept.exchanges,
     };
     Step {
         verdict,
@@ -436,9 +368,7 @@ fn judge_next(
     let m = kept.calls;
     callkeys[m] = key_of(s, call, end);
     let class = class_of(s, p, end, calls, callkeys, m);
-    let number = class_number(class);
-    let credited = number == 0;
-    if credited {
+    if class == Class::Credited {
         let mode = mode_place(s[end + 1]);
         return credited_next(s, p, mode, kept, calls, exchanges, exchangekeys, squares);
     }
@@ -455,7 +385,7 @@ fn judge_next(
 
 // What the records come to so far, but for their modes. These are counted in a list beside it.
 #[repr(C)]
-#[derive(Clone, Copy)]
+#[derive(Clone, Copy, Default)]
 pub struct Tally {
     pub credited: u64,
     pub voids: u64,
@@ -477,9 +407,9 @@ fn credited_more(t: Tally, modes: &mut [u64; MODES], worth: u64, mode: usize, v:
     let mut sums = t;
     sums.credited = 1 + t.credited;
     sums.points = worth + t.points;
-    sums.squares = one_if(v.square) as u64 + t.squares;
-    sums.exchanges = one_if(v.exchange) as u64 + t.exchanges;
-    sums.countries = one_if(v.country) as u64 + t.countries;
+    sums.squares = u64::from(v.square) + t.squares;
+    sums.exchanges = u64::from(v.exchange) + t.exchanges;
+    sums.countries = u64::from(v.country) + t.countries;
     sums
 }
 
@@ -490,8 +420,7 @@ fn add_record(t: Tally, modes: &mut [u64; MODES], worth: u64, mode: usize, v: Ve
     ensures list { modes.new ≡ modes_after modes.old mode v }
 {
     let mut sums = t;
-    let class = v.class;
-    match class {
+    match v.class {
         Class::Credited => credited_more(t, modes, worth, mode, v),
         Class::Void => {
             sums.voids = 1 + t.voids;
@@ -509,6 +438,7 @@ fn add_record(t: Tally, modes: &mut [u64; MODES], worth: u64, mode: usize, v: Ve
 }
 
 // The counts in the list, by their names.
+#[tactic(auto, unfolding(crate::specs::Count::modes_in))]
 pub fn modes_in(n: &[u64; MODES]) -> Modes
     ensures { result ≡ modes_in n.now }
 {
@@ -553,45 +483,15 @@ fn closed(t: Tally, modes: &[u64; MODES], d: Declared) -> Totals
     }
 }
 
-fn no_modes() -> Modes
-    ensures { result ≡ zero_modes }
-{
-    Modes {
-        code0: 0,
-        code1: 0,
-        code2: 0,
-        code3: 0,
-        code4: 0,
-        code5: 0,
-        code6: 0,
-        code7: 0,
-        code8: 0,
-        code9: 0,
-        blank: 0,
-    }
-}
-
+#[tactic(auto, unfolding(rules::specs::Judging::zero_totals, rules::specs::Judging::zero_modes))]
 pub fn no_totals() -> Totals
     ensures { result ≡ zero_totals }
 {
-    Totals {
-        credited: 0,
-        voids: 0,
-        duplicates: 0,
-        errors: 0,
-        points: 0,
-        squares: 0,
-        exchanges: 0,
-        countries: 0,
-        squarebonus: 0,
-        exchangebonus: 0,
-        countrybonus: 0,
-        total: 0,
-        modes: no_modes(),
-    }
+    Totals::default()
 }
 
 // The counts of the modes as a list: codes 0 to 9, then blank.
+#[tactic(auto, unfolding(rules::specs::Judging::mode_numbers))]
 pub fn mode_numbers(m: Modes) -> [u64; MODES]
     ensures { result ≡ mode_numbers m }
 {
@@ -602,54 +502,41 @@ pub fn mode_numbers(m: Modes) -> [u64; MODES]
 }
 
 // The eight sums of no record.
+#[tactic(auto, unfolding(crate::specs::Count::no_tally))]
 pub fn no_tally() -> Tally
     ensures { result ≡ no_tally }
 {
-    Tally {
-        credited: 0,
-        voids: 0,
-        duplicates: 0,
-        errors: 0,
-        points: 0,
-        squares: 0,
-        exchanges: 0,
-        countries: 0,
-    }
+    Tally::default()
 }
 
 // # Sums that a caller keeps
 
 // The sums and the modes beside them.
 #[repr(C)]
-#[derive(Clone, Copy)]
+#[derive(Clone, Copy, Default)]
 pub struct Sums {
     pub tally: Tally,
     pub modes: Modes,
 }
 
 // What no record comes to.
+#[tactic(auto, unfolding(crate::specs::Sums::no_sums, crate::specs::Count::no_tally, rules::specs::Judging::zero_modes))]
 pub fn no_sums() -> Sums
     ensures { result ≡ no_sums }
 {
-    Sums {
-        tally: no_tally(),
-        modes: no_modes(),
-    }
+    Sums::default()
 }
 
 // The counts of the modes are so many together.
 fn come_to(m: Modes, n: u64) -> bool
     ensures { result ≡ eqb (modes_together m) n }
 {
-    let list = mode_numbers(m);
     let mut left = n;
-    let mut mode = 0;
-    while mode < MODES {
-        if left < list[mode] {
+    for count in &mode_numbers(m) {
+        if left < *count {
             return false;
         }
-        left -= list[mode];
-        mode += 1;
+        left -= *count;
     }
     left == 0
 }
@@ -662,19 +549,11 @@ fn are_few(t: Tally) -> bool
     ensures { result ≡ leb (records_counted t) base.most_records }
 {
     let most = rules::most_records() as u64;
-    if most < t.credited {
-        return false;
-    }
-    if most < t.voids {
-        return false;
-    }
-    if most < t.duplicates {
-        return false;
-    }
-    if most < t.errors {
-        return false;
-    }
-    t.credited + t.voids + t.duplicates + t.errors <= most
+    t.credited <= most
+        && t.voids <= most
+        && t.duplicates <= most
+        && t.errors <= most
+        && t.credited + t.voids + t.duplicates + t.errors <= most
 }
 
 // Some records come to these sums.
@@ -710,45 +589,34 @@ pub fn are_sums(s: Sums) -> bool
 }
 
 // A bonus and a multiplier keep their rules.
+#[tactic(auto, unfolding(rules::specs::Session::rate_rule, rules::specs::Log::conjunction))]
 fn is_rate(bonus: u64, multiplier: u64) -> bool
     ensures { result ≡ rate_rule base bonus multiplier }
 {
-    if rules::most_bonus() < bonus {
-        return false;
-    }
-    if multiplier < 1 {
-        return false;
-    }
-    multiplier <= rules::most_multiplier()
+    bonus <= rules::most_bonus() && 1 <= multiplier && multiplier <= rules::most_multiplier()
 }
 
 // The bonuses and multipliers keep their rules.
+#[tactic(auto, unfolding(rules::specs::Session::declared_rule, rules::specs::Log::conjunction, crate::specs::Count::as_declared))]
 pub fn is_declared(d: Declared) -> bool
     ensures { result ≡ declared_rule base (as_declared d) }
 {
-    if !is_rate(d.squarebonus, d.squaremultiplier) {
-        return false;
-    }
-    if !is_rate(d.exchangebonus, d.exchangemultiplier) {
-        return false;
-    }
-    is_rate(d.countrybonus, d.countrymultiplier)
+    is_rate(d.squarebonus, d.squaremultiplier)
+        && is_rate(d.exchangebonus, d.exchangemultiplier)
+        && is_rate(d.countrybonus, d.countrymultiplier)
 }
 
 // The class of which the last two bits of a verdict's number tell.
+#[tactic(auto, unfolding(crate::specs::Sums::class_in))]
 fn class_in(bits: u8) -> Class
     ensures { result ≡ class_in bits }
 {
-    if bits == 0 {
-        return Class::Credited;
+    match bits {
+        0 => Class::Credited,
+        1 => Class::Void,
+        2 => Class::Duplicate,
+        _ => Class::Error,
     }
-    if bits == 1 {
-        return Class::Void;
-    }
-    if bits == 2 {
-        return Class::Duplicate;
-    }
-    Class::Error
 }
 
 // The verdict of which a number tells.
@@ -818,7 +686,7 @@ pub fn totals_kept(s: Sums, d: Declared) -> Totals
 // How many records of each class there are, what is new with them, and their modes, in two bytes each. A caller who has no more room keeps these, and
 // the points in four.
 #[repr(C)]
-#[derive(Clone, Copy)]
+#[derive(Clone, Copy, Default)]
 pub struct Counts {
     pub credited: u16,
     pub voids: u16,
@@ -846,99 +714,46 @@ pub struct Counted {
     pub counts: Counts,
 }
 
+#[tactic(auto, unfolding(crate::specs::Narrow::no_counts))]
 pub fn no_counts() -> Counts
     ensures { result ≡ no_counts }
 {
-    Counts {
-        credited: 0,
-        voids: 0,
-        duplicates: 0,
-        errors: 0,
-        squares: 0,
-        exchanges: 0,
-        countries: 0,
-        code0: 0,
-        code1: 0,
-        code2: 0,
-        code3: 0,
-        code4: 0,
-        code5: 0,
-        code6: 0,
-        code7: 0,
-        code8: 0,
-        code9: 0,
-        blank: 0,
-    }
+    Counts::default()
 }
 
 // The counts in the judge's own numbers, and the modes in their list.
-fn tally_from(
-    credited: u16,
-    voids: u16,
-    duplicates: u16,
-    errors: u16,
-    points: u32,
-    squares: u16,
-    exchanges: u16,
-    countries: u16,
-) -> Tally
-    ensures { (result ≡ record { credited = credited; voids = voids; duplicates = duplicates; errors = errors; points = points; squares = squares; exchanges = exchanges; countries = countries }) × SmallTally result }
-{
-    Tally {
-        credited: credited as u64,
-        voids: voids as u64,
-        duplicates: duplicates as u64,
-        errors: errors as u64,
-        points: points as u64,
-        squares: squares as u64,
-        exchanges: exchanges as u64,
-        countries: countries as u64,
-    }
-}
-
+#[tactic(auto, unfolding(crate::specs::Narrow::tally_in))]
 fn tally_of(points: u32, c: Counts) -> Tally
     ensures { (result ≡ tally_in points c) × SmallTally result }
 {
-    tally_from(
-        c.credited,
-        c.voids,
-        c.duplicates,
-        c.errors,
-        points,
-        c.squares,
-        c.exchanges,
-        c.countries,
-    )
-}
-
-fn list_of(
-    a: u16,
-    b: u16,
-    c: u16,
-    d: u16,
-    e: u16,
-    f: u16,
-    g: u16,
-    h: u16,
-    i: u16,
-    j: u16,
-    k: u16,
-) -> [u64; MODES]
-    ensures { (result ≡ a ∷ b ∷ c ∷ d ∷ e ∷ f ∷ g ∷ h ∷ i ∷ j ∷ k ∷ []) × SmallModes result }
-{
-    [
-        a as u64, b as u64, c as u64, d as u64, e as u64, f as u64, g as u64, h as u64, i as u64,
-        j as u64, k as u64,
-    ]
+    Tally {
+        credited: u64::from(c.credited),
+        voids: u64::from(c.voids),
+        duplicates: u64::from(c.duplicates),
+        errors: u64::from(c.errors),
+        points: u64::from(points),
+        squares: u64::from(c.squares),
+        exchanges: u64::from(c.exchanges),
+        countries: u64::from(c.countries),
+    }
 }
 
 fn modes_of(c: Counts) -> [u64; MODES]
     ensures { (result ≡ modes_of c) × SmallModes result }
 {
-    list_of(
-        c.code0, c.code1, c.code2, c.code3, c.code4, c.code5, c.code6, c.code7, c.code8, c.code9,
-        c.blank,
-    )
+    [
+        u64::from(c.code0),
+        u64::from(c.code1),
+        u64::from(c.code2),
+        u64::from(c.code3),
+        u64::from(c.code4),
+        u64::from(c.code5),
+        u64::from(c.code6),
+        u64::from(c.code7),
+        u64::from(c.code8),
+        u64::from(c.code9),
+        u64::from(c.blank),
+    ]
 }
 
 // The last two bytes of each count.
@@ -1017,14 +832,9 @@ fn walk_records(
     let mut callkeys = [0u16; KEYS];
     let mut exchangekeys = [0u16; KEYS];
     let mut squares = [0u16; KEYS];
-    let mut kept = Kept {
-        calls: 0,
-        squares: 0,
-        exchanges: 0,
-    };
+    let mut kept = Kept::default();
     let mut sums = no_tally();
-    let mut i = 0;
-    while i < n {
+    for i in 0..n {
         let p = Noted {
             call: wide(calls[i]),
             exchange: wide(exchanges[i]),
@@ -1045,7 +855,6 @@ fn walk_records(
         kept = step.kept;
         sums = add_record(sums, modes, step.worth, step.mode, v);
         verdicts[i] = verdict_number(v);
-        i += 1;
     }
     sums
 }
@@ -1054,58 +863,49 @@ fn walk_records(
 
 // What a log is judged to be, with how many records it has, where the first begins and what its header is like, for a caller that walks them again.
 #[derive(Clone, Copy)]
-pub enum Weighed {
-    Refused(Refusal),
-    Done {
-        totals: Totals,
-        records: usize,
-        first: usize,
-        heading: Heading,
-    },
-}
-
-// What a log is judged to be.
-#[derive(Clone, Copy)]
-pub enum Judged {
-    Totals(Totals),
-    Refused(Refusal),
+pub struct Weighed {
+    pub totals: Totals,
+    pub records: usize,
+    pub first: usize,
+    pub heading: Heading,
 }
 
 // An accepted log, of whose records the places are noted, is judged, if the slice has room for its verdicts; otherwise the slice is left as it is.
 fn weigh_accepted(
     log: &[u8],
-    records: usize,
-    first: usize,
-    heading: Heading,
+    read: Accepted,
     verdicts: &mut [u8],
     calls: &mut [u16],
     exchanges: &mut [u16],
     points: &[u16],
     pointsends: &[u16],
-) -> Weighed
-    requires accepts { Accepts base log.now records first heading }
-    requires listings { Listings base log.now first records calls.old exchanges.old points.now pointsends.now }
+) -> Result<Weighed, Refusal>
+    requires accepts { Accepts base log.now read.records read.first read.heading }
+    requires listings { Listings base log.now read.first read.records calls.old exchanges.old points.now pointsends.now }
     ensures answer { result ≡ weighed_of base (length verdicts.old) log.now }
     ensures slice { verdicts.new ≡ verdicts_afterwards base log.now verdicts.old }
 {
-    if verdicts.len() < records {
-        return Weighed::Refused(Refusal {
-            number: 7,
-            line: 0,
-            field: 0,
-        });
+    if verdicts.len() < read.records {
+        return Err(rules::refused(7));
     }
     let mut modes = [0u64; MODES];
     let sums = walk_records(
-        log, records, verdicts, calls, exchanges, points, pointsends, &mut modes,
+        log,
+        read.records,
+        verdicts,
+        calls,
+        exchanges,
+        points,
+        pointsends,
+        &mut modes,
     );
-    let totals = closed(sums, &modes, places::declared_at(log, heading.claims));
-    Weighed::Done {
+    let totals = closed(sums, &modes, places::declared_at(log, read.heading.claims));
+    Ok(Weighed {
         totals,
-        records,
-        first,
-        heading,
-    }
+        records: read.records,
+        first: read.first,
+        heading: read.heading,
+    })
 }
 
 // A log is read and judged: its verdicts are written to the front of the slice, and where the points of each record that was read begin and end,
@@ -1117,7 +917,7 @@ pub fn weigh(
     points: &mut [u16; rules::MOST_RECORDS],
     pointsends: &mut [u16; rules::MOST_RECORDS],
     ends: &mut [u16; rules::MOST_RECORDS],
-) -> Weighed
+) -> Result<Weighed, Refusal>
     ensures answer { result ≡ weighed_of base (length verdicts.old) log.now }
     ensures slice { verdicts.new ≡ verdicts_afterwards base log.now verdicts.old }
     ensures points { points.new ≡ listed (λ c. c.points) (contacts_read base log.now) points.old }
@@ -1126,41 +926,26 @@ pub fn weigh(
 {
     let mut calls = [0u16; rules::MOST_RECORDS];
     let mut exchanges = [0u16; rules::MOST_RECORDS];
-    match reader::survey(log, &mut calls, &mut exchanges, points, pointsends, ends) {
-        ReadAnswer::Accepted {
-            records,
-            first,
-            heading,
-        } => weigh_accepted(
-            log,
-            records,
-            first,
-            heading,
-            verdicts,
-            &mut calls,
-            &mut exchanges,
-            points,
-            pointsends,
-        ),
-        ReadAnswer::Refused(r) => Weighed::Refused(r),
-    }
+    let read = reader::survey(log, &mut calls, &mut exchanges, points, pointsends, ends)?;
+    weigh_accepted(
+        log,
+        read,
+        verdicts,
+        &mut calls,
+        &mut exchanges,
+        points,
+        pointsends,
+    )
 }
 
 // The same, where the totals and the verdicts are all that is asked for.
-pub fn judge(log: &[u8], verdicts: &mut [u8]) -> Judged
+#[tactic(auto, using(crate::proofs::JudgeLaws::totals_alone, crate::proofs::JudgeLaws::refusal_alone))]
+pub fn judge(log: &[u8], verdicts: &mut [u8]) -> Result<Totals, Refusal>
     ensures answer { result ≡ judged_of base (length verdicts.old) log.now }
     ensures slice { verdicts.new ≡ verdicts_afterwards base log.now verdicts.old }
 {
     let mut points = [0u16; rules::MOST_RECORDS];
     let mut pointsends = [0u16; rules::MOST_RECORDS];
     let mut ends = [0u16; rules::MOST_RECORDS];
-    match weigh(log, verdicts, &mut points, &mut pointsends, &mut ends) {
-        Weighed::Done {
-            totals,
-            records: _,
-            first: _,
-            heading: _,
-        } => Judged::Totals(totals),
-        Weighed::Refused(r) => Judged::Refused(r),
-    }
+    Ok(weigh(log, verdicts, &mut points, &mut pointsends, &mut ends)?.totals)
 }

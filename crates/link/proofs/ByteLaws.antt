@@ -8,10 +8,10 @@ use mathlib.Core.List.{List, [], ◌∷◌, ◌++◌}
 use lib.Dec.{eqb, leb, ltb}
 use lib.ListN.{length, length-append}
 use borrow.Author.Tests.{lt-ltb, le-ltb, leb-true, ltb-true, ltb-false, ne_eqb}
+use Rattle.std.specs.Prelude.{Result, Ok, Err}
+use Rattle.rules.specs.declared.Fault.{Fault}
 use Rattle.rules.specs.declared.Due.{Due}
 use Rattle.rules.specs.declared.Due.TheVariants.{Identifier, Keyword, Remarks, Remark, Record, End}
-use Rattle.rules.specs.declared.Next.{Next}
-use Rattle.rules.specs.declared.Next.TheVariants.{Goes, Stops}
 use Rattle.rules.specs.Text.{Text, allowed, all}
 use Rattle.rules.specs.Rules.{Rules}
 use Rattle.rules.specs.Reading.{refusal, step}
@@ -187,9 +187,9 @@ module _ (R : Rules) where
         goes (Record n) = unfold head_goes went_on in refl
         goes End = unfold head_goes went_on in refl
 
-        by : (m : Next) → head_next R lent other l m ≡ head_next R lent s l m
-        by (Goes next) = unfold head_next in goes next
-        by (Stops number field) = unfold head_next in refl
+        by : (m : Result Due Fault) → head_next R lent other l m ≡ head_next R lent s l m
+        by (Ok next) = unfold head_next in goes next
+        by (Err e) = unfold head_next in refl
 
     record_same : (verdicts worked : List ℕ) → record_line R (holding other verdicts worked) l ≡ record_line R (holding s verdicts worked) l
     unfolding record_line record_told with_record

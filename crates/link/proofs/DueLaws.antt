@@ -8,10 +8,10 @@ use mathlib.Core.List.{List, [], ◌∷◌, ◌++◌, append-nil}
 use lib.Dec.{eqb, leb, ltb}
 use lib.ListN.{length, take, drop, length-drop}
 use borrow.Author.Tests.{leb-true, leb-false, lt-ltb, eqb-false}
+use Rattle.std.specs.Prelude.{Ok}
 use Rattle.rules.specs.declared.Refusal.{Refusal}
 use Rattle.rules.specs.declared.Due.{Due}
 use Rattle.rules.specs.declared.Due.TheVariants.{Identifier, Keyword, Remarks, Remark, Record, End}
-use Rattle.rules.specs.declared.Next.TheVariants.{Goes}
 use Rattle.rules.specs.Text.{Text, bytes, digit, span, same, begins, value, number, number_from}
 use Rattle.rules.specs.Rules.{Rules}
 use Rattle.rules.specs.Arguments.{Entry, entries}
@@ -164,17 +164,17 @@ module _ (R : Rules) where
   ahead_end End line rest log arguments e a = a
 
   -- The line that is due goes on to what it should.
-  whole_goes : (due l : Text) (then next : Due) → whole due l then ≡ Goes next → then ≡ next
+  whole_goes : (due l : Text) (then next : Due) → whole due l then ≡ Ok next → then ≡ next
   unfolding whole
   whole_goes due l then next e =
       let p = picked (same l due) e (no_stop 3 0 next) in
       let g : then ≡ next = cc in g
 
-  keyword_goes : (k : ℕ) (l : Text) (next : Due) → step R (Keyword k) l ≡ Goes next → Ahead next (k + 1)
+  keyword_goes : (k : ℕ) (l : Text) (next : Due) → step R (Keyword k) l ≡ Ok next → Ahead next (k + 1)
   unfolding step
   keyword_goes k l next e = by (drop k entries) (length-drop k entries) e
     where
-      by : (es : List Entry) → length es ≡ length entries - k → keyword_due R es k l ≡ Goes next → Ahead next (k + 1)
+      by : (es : List Entry) → length es ≡ length entries - k → keyword_due R es k l ≡ Ok next → Ahead next (k + 1)
       by [] n g = absurd (no_stop 3 0 next (unfold keyword_due in g))
       by (d ∷ []) n g =
           let then : Remarks ≡ next = (keyword_taken R d l Remarks next (unfold keyword_due in g)).1 in
@@ -183,7 +183,7 @@ module _ (R : Rules) where
           let then : Keyword (k + 1) ≡ next = (keyword_taken R d l (Keyword (k + 1)) next (unfold keyword_due in g)).1 in
           subst (λ (due : Due). Ahead due (k + 1)) then (omega (arith, n, entries_length), refl)
 
-  count_goes : (t : Text) (next : Due) (arguments : ℕ) → count_rule R t ≡ Goes next → arguments ≡ 36 → Ahead next arguments
+  count_goes : (t : Text) (next : Due) (arguments : ℕ) → count_rule R t ≡ Ok next → arguments ≡ 36 → Ahead next arguments
   unfolding count_rule number_from
   count_goes t next arguments e a =
       let n = span digit t in
@@ -194,7 +194,7 @@ module _ (R : Rules) where
       let then : records_due v ≡ next = let q = p.1 in cc in
       subst (λ (due : Due). Ahead due arguments) then (ahead_due v arguments few a)
 
-  pub ahead_next : (due : Due) (l : Text) (next : Due) (arguments : ℕ) → is_head due ≡ true → Ahead due arguments → step R due l ≡ Goes next → Ahead next (arguments + length (arguments_on due l))
+  pub ahead_next : (due : Due) (l : Text) (next : Due) (arguments : ℕ) → is_head due ≡ true → Ahead due arguments → step R due l ≡ Ok next → Ahead next (arguments + length (arguments_on due l))
   unfolding arguments_on with_line step
   ahead_next Identifier l next arguments h a e =
       subst (λ (due : Due). Ahead due (arguments + 0)) (whole_goes identifier l (Keyword 0) next e) (omega arith, omega (arith, a))
@@ -203,7 +203,7 @@ module _ (R : Rules) where
       subst (λ (due : Due). Ahead due (arguments + 0)) (whole_goes remarks_line l Remark next e) (omega (arith, a))
   ahead_next Remark l next arguments h a e = by (begins count_start l) e
     where
-      by : (b : Bool) → cond b (count_rule R (drop (length count_start) l)) (Goes Remark) ≡ Goes next → Ahead next (arguments + 0)
+      by : (b : Bool) → cond b (count_rule R (drop (length count_start) l)) (Ok Remark) ≡ Ok next → Ahead next (arguments + 0)
       by true g = count_goes (drop (length count_start) l) next (arguments + 0) g (omega (arith, a))
       by false g =
           let then : Remark ≡ next = cc in
@@ -212,7 +212,7 @@ module _ (R : Rules) where
   ahead_next End l next arguments h a e = never h
 
   -- A keyword that is due next is one of the 36.
-  pub keyword_next : (due : Due) (l : Text) (k : ℕ) → is_head due ≡ true → step R due l ≡ Goes (Keyword k) → k < 36
+  pub keyword_next : (due : Due) (l : Text) (k : ℕ) → is_head due ≡ true → step R due l ≡ Ok (Keyword k) → k < 36
   keyword_next Identifier l k h e = (ahead_next Identifier l (Keyword k) 0 h refl e).0
   keyword_next (Keyword j) l k h e = (keyword_goes j l (Keyword k) e).0
   keyword_next Remarks l k h e = (ahead_next Remarks l (Keyword k) 36 h refl e).0
@@ -221,7 +221,7 @@ module _ (R : Rules) where
   keyword_next End l k h e = never h
 
   -- What is declared behind it.
-  pub declares_next : FitsLink R → (due : Due) (l : Text) (next : Due) (ts : List Text) (r : Rated) → is_head due ≡ true → Ahead due (length ts) → step R due l ≡ Goes next → Declares R ts r → Declares R (ts ++ arguments_on due l) (rated_by R due l r)
+  pub declares_next : FitsLink R → (due : Due) (l : Text) (next : Due) (ts : List Text) (r : Rated) → is_head due ≡ true → Ahead due (length ts) → step R due l ≡ Ok next → Declares R ts r → Declares R (ts ++ arguments_on due l) (rated_by R due l r)
   unfolding arguments_on with_line rated_by
   declares_next F Identifier l next ts r h a e d = rw (append-nil ts) d
   declares_next F (Keyword k) l next ts r h a e d = declares_more R F ts r d k a.1 l next e

@@ -6,10 +6,10 @@ use mathlib.Core.Path.{◌≡◌, refl, sym, ap, subst, ◌∙◌}
 use mathlib.Core.Bool.{Bool, true, false, cond}
 use mathlib.Core.List.{List, ◌++◌, append-nil}
 use lib.ListN.{length, length-append}
+use Rattle.std.specs.Prelude.{Result, Ok, Err}
+use Rattle.rules.specs.declared.Fault.{Fault}
 use Rattle.rules.specs.declared.Due.{Due}
 use Rattle.rules.specs.declared.Due.TheVariants.{Identifier, Keyword, Remarks, Remark, Record, End}
-use Rattle.rules.specs.declared.Next.{Next}
-use Rattle.rules.specs.declared.Next.TheVariants.{Goes, Stops}
 use Rattle.rules.specs.Text.{Text}
 use Rattle.rules.specs.Rules.{Rules}
 use Rattle.rules.specs.Fields.{Qso}
@@ -45,7 +45,7 @@ module _ {R : Rules} (F : FitsLink R) (verdicts worked : List ℕ) (total left :
   at_head = head_stage k.due s.stage s.records s.done (length (records_of k)) k.announced head o.log.staged
 
   -- It is taken, and this is due next.
-  module _ (next : Due) (goes : step R k.due l ≡ Goes next) where
+  module _ (next : Due) (goes : step R k.due l ≡ Ok next) where
     abbrev on : Asked.Link
     on = Asked.goes_on k l next
 
@@ -122,7 +122,7 @@ module _ {R : Rules} (F : FitsLink R) (verdicts worked : List ℕ) (total left :
           by false e = record { keeps = keeps_on; unless = λ u. open_on e }
 
   -- By what is due next.
-  head_goes_lem : (next : Due) → step R k.due l ≡ Goes next → Holds (Asked.if_long lends (Asked.goes_on k l next)) (holding (head_goes R lends s l next) h.verdicts h.worked)
+  head_goes_lem : (next : Due) → step R k.due l ≡ Ok next → Holds (Asked.if_long lends (Asked.goes_on k l next)) (holding (head_goes R lends s l next) h.verdicts h.worked)
   unfolding head_goes records_in announced went_on
   head_goes_lem Identifier e = went_on_lem Identifier e 0 s.records s.done (refl, refl, refl) refl
   head_goes_lem (Keyword n) e =
@@ -142,7 +142,7 @@ module _ {R : Rules} (F : FitsLink R) (verdicts worked : List ℕ) (total left :
       subst (λ (due : Due). Holds (Asked.after_line lends k l (step R k.due l)) (holding (head_next R lends s l (step R due l)) h.verdicts h.worked)) (sym (due_same F verdicts worked o))
       (by (step R k.due l) refl)
     where
-      by : (m : Next) → step R k.due l ≡ m → Holds (Asked.after_line lends k l m) (holding (head_next R lends s l m) h.verdicts h.worked)
-      by (Goes next) e = head_goes_lem next e
-      by (Stops number field) e =
-          unfold stopped in stops_here F verdicts worked total left k h keeps o number field (subst Refuses e (refuses_with R k.due l))
+      by : (m : Result Due Fault) → step R k.due l ≡ m → Holds (Asked.after_line lends k l m) (holding (head_next R lends s l m) h.verdicts h.worked)
+      by (Ok next) e = head_goes_lem next e
+      by (Err f) e =
+          unfold stopped in stops_here F verdicts worked total left k h keeps o f.number f.field (subst Refuses e (refuses_with R k.due l))

@@ -8,11 +8,11 @@ use mathlib.Core.List.{[], ◌∷◌}
 use lib.Dec.{eqb, ltb}
 use lib.ListN.{length, take, set, length-set, length-take}
 use borrow.Author.Tests.{lt-ltb, le-ltb, ltb-true, ltb-false}
+use Rattle.std.specs.Prelude.{Result, Ok, Err}
+use Rattle.rules.specs.declared.Fault.{Fault}
 use Rattle.rules.specs.declared.Refusal.{Refusal}
 use Rattle.rules.specs.declared.Due.{Due}
 use Rattle.rules.specs.declared.Due.TheVariants.{Identifier, Keyword, Remarks, Remark, Record, End}
-use Rattle.rules.specs.declared.Next.{Next}
-use Rattle.rules.specs.declared.Next.TheVariants.{Goes, Stops}
 use Rattle.rules.specs.Text.{Text, allowed}
 use Rattle.rules.specs.Rules.{Rules}
 use Rattle.rules.specs.Judging.{verdict_number}
@@ -76,7 +76,7 @@ module _ {R : Rules} (F : FitsLink R) where
         by t p true e = unfold stopped in stop_right h (refusal 7 0 0) seven_told refl
         by t p false e = record { told = p; long = λ o. e }
 
-    goes_right : s.stage < 39 → (next : Due) → step R (due_of s) l ≡ Goes next → Right (holding (head_goes R (lent_by h) s l next) h.verdicts h.worked)
+    goes_right : s.stage < 39 → (next : Due) → step R (due_of s) l ≡ Ok next → Right (holding (head_goes R (lent_by h) s l next) h.verdicts h.worked)
     unfolding head_goes
     goes_right early Identifier e = went_right 0 s.records s.done (omega arith)
     goes_right early (Keyword k) e =
@@ -91,10 +91,10 @@ module _ {R : Rules} (F : FitsLink R) where
     unfolding head_line head_next
     head_right early = by (step R (due_of s) l) refl
       where
-        by : (m : Next) → step R (due_of s) l ≡ m → Right (holding (head_next R (lent_by h) s l m) h.verdicts h.worked)
-        by (Goes next) e = goes_right early next e
-        by (Stops number field) e =
-            unfold stopped in here_right h number field (subst StopsNumbered e (step_numbered R (due_of s) l)) (subst Refuses e (refuses_with R (due_of s) l))
+        by : (m : Result Due Fault) → step R (due_of s) l ≡ m → Right (holding (head_next R (lent_by h) s l m) h.verdicts h.worked)
+        by (Ok next) e = goes_right early next e
+        by (Err f) e =
+            unfold stopped in here_right h f.number f.field (subst StopsNumbered e (step_numbered R (due_of s) l)) (subst Refuses e (refuses_with R (due_of s) l))
 
     -- A record is due: there is a place for it.
     module _ (unrefused : is_open s ≡ true) (late : 39 ≤ s.stage) (line : is_end (due_of s) ≡ false) where
@@ -122,8 +122,8 @@ module _ {R : Rules} (F : FitsLink R) where
       abbrev number : ℕ
       number = verdict_number (said_of R l s.done worked_bytes h.worked)
 
-      added_right : Right (holding (record_told s (told_line R l s.done worked_bytes h.worked)) (set h.verdicts s.done number) (with_bytes R l s.done worked_bytes h.worked))
-      unfolding record_told told_line no_refusal with_record announced
+      added_right : Right (holding (record_told s (Ok (told_line R l s.done worked_bytes h.worked))) (set h.verdicts s.done number) (with_bytes R l s.done worked_bytes h.worked))
+      unfolding record_told told_line with_record announced
       added_right =
           record {
             told = right.told;

@@ -8,14 +8,14 @@ use mathlib.Core.List.{List, [], ◌∷◌, ◌++◌}
 use lib.Dec.{eqb, leb}
 use lib.ListN.{length, drop, get_or, length-append}
 use borrow.Author.Tests.{eqb-true, eqb-false, leb-true, eq-eqb, ne_eqb}
+use Rattle.std.specs.Prelude.{Ok, Err}
 use Rattle.rules.specs.declared.Due.{Due}
 use Rattle.rules.specs.declared.Due.TheVariants.{Keyword}
-use Rattle.rules.specs.declared.Next.TheVariants.{Goes, Stops}
 use Rattle.rules.specs.Text.{Text, bytes, same, value, number, number_from, parts}
 use Rattle.rules.specs.Rules.{Rules}
 use Rattle.rules.specs.Arguments.{Entry, entries, meets, count_bonus_multiplier, count, bonus, multiplier, part}
 use Rattle.rules.specs.Log.{Log, argument_in, argument, conjunction}
-use Rattle.rules.specs.Reading.{argument_on, argument_due, has_keyword, keyword_line, keyword_due, step, with_line}
+use Rattle.rules.specs.Reading.{argument_on, argument_due, has_keyword, keyword_line, keyword_due, step, with_line, fault}
 use Rattle.rules.specs.Judging.{declared}
 use Rattle.rules.specs.Session.{rate_rule, declared_rule}
 use Rattle.rules.proofs.Tests.{so, holds, and_l, and_r, and_i, picked}
@@ -30,7 +30,7 @@ use Rattle.link.specs.Keeping.{FitsLink}
 use Rattle.link.proofs.LogGrows.{arguments_on}
 
 -- A line that is taken is not refused.
-pub no_stop : (number field : ℕ) (next : Due) → Stops number field ≡ Goes next → ⊥
+pub no_stop : (number field : ℕ) (next : Due) → Err (fault number field) ≡ Ok next → ⊥
 no_stop number field next e = let z : ◌≡◌ {A = ℕ} 0 1 = cc in absurd (omega arith)
 
 -- The text at a place, with one text more behind them.
@@ -140,7 +140,7 @@ module _ (R : Rules) where
   declares_none = record { squares = rate_none 28; exchanges = rate_none 30; countries = rate_none 32 }
 
   -- A keyword line that is taken keeps its rule.
-  pub keyword_taken : (e : Entry) (l : Text) (due next : Due) → keyword_line R e l due ≡ Goes next → (meets R e.rule (argument_on e l) ≡ true) × (due ≡ next)
+  pub keyword_taken : (e : Entry) (l : Text) (due next : Due) → keyword_line R e l due ≡ Ok next → (meets R e.rule (argument_on e l) ≡ true) × (due ≡ next)
   unfolding keyword_line
   keyword_taken e l due next g =
       let has = picked (has_keyword e l) g (no_stop 3 0 next) in
@@ -149,7 +149,7 @@ module _ (R : Rules) where
       (met.0, then)
 
   -- Of the three keywords it brings the numbers, and of another it leaves them.
-  module _ (F : FitsLink R) (ts : List Text) (r : Rated) (is : Declares ts r) (j : ℕ) (many : length ts ≡ j) (l : Text) (next : Due) (taken : step R (Keyword j) l ≡ Goes next) where
+  module _ (F : FitsLink R) (ts : List Text) (r : Rated) (is : Declares ts r) (j : ℕ) (many : length ts ≡ j) (l : Text) (next : Due) (taken : step R (Keyword j) l ≡ Ok next) where
     abbrev brought : Text
     brought = argument_due (drop j entries) l
 

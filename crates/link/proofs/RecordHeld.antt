@@ -18,7 +18,7 @@ use Rattle.rules.specs.Judging.{verdict_of, verdict_number}
 use Rattle.rules.specs.Judging.{verdicts as judged}
 use Rattle.rules.specs.Reading.{refusal, RecordRule, breaks, record_rule, records_due, after_record, step}
 use Rattle.rules.specs.Reading.{keeps as keepsAll}
-use Rattle.rules.specs.Answers.{no_refusal, over}
+use Rattle.rules.specs.Answers.{over}
 use Rattle.rules.specs.Link.{Lent, worked_bytes, is_short, link_verdicts}
 use Rattle.rules.specs.Link as Asked
 use Rattle.rules.proofs.FieldLaws.{record_is}
@@ -28,6 +28,7 @@ use Rattle.judge.specs.Count.{mode_place}
 use Rattle.judge.specs.Narrow.{totals_in}
 use Rattle.judge.specs.Sums.{verdict_in}
 use Rattle.writer.specs.Written.{written}
+use Rattle.std.specs.Prelude.{Ok}
 use Rattle.session.specs.Entry.{kept_of, bytes_of, credited_from, record_of, has_place_for, said_of, told_line, with_bytes}
 use Rattle.session.proofs.ComeLaws.{came_to}
 use Rattle.session.proofs.StepLaws.{place_asked}
@@ -176,10 +177,10 @@ module _ {R : Rules} (F : FitsLink R) (verdicts worked : List ℕ) (total left :
     taken = holding with (set h.verdicts n number) (with_bytes R l n worked_bytes h.worked)
 
     line_taken : record_line R h l ≡ taken
-    unfolding record_told told_line no_refusal record_of
+    unfolding record_told told_line record_of
     line_taken =
         record_added R h l rule place
-        ∙ (λ i. holding (record_told s (told_line R l (done_is i) worked_bytes h.worked)) (set h.verdicts (done_is i) (verdict_number (said_of R l (done_is i) worked_bytes h.worked))) (with_bytes R l (done_is i) worked_bytes h.worked))
+        ∙ (λ i. holding (record_told s (Ok (told_line R l (done_is i) worked_bytes h.worked))) (set h.verdicts (done_is i) (verdict_number (said_of R l (done_is i) worked_bytes h.worked))) (with_bytes R l (done_is i) worked_bytes h.worked))
 
     verdicts_written : set h.verdicts n number ≡ over (link_verdicts R next) verdicts
     verdicts_written =

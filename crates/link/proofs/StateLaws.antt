@@ -99,6 +99,8 @@ module _ (stage records done : ℕ) (late : 38 < stage) where
       by true e = ap is_end (due_end (leb-true records done e))
       by false e = ap is_end (due_record (leb-false records done e))
 
+pub ruleset due_laws = (due_identifier, due_keyword, due_remarks, due_remark, due_record, due_end)
+
 -- In front of the records: the identifier, a keyword, or a remark.
 early_is : (P : Due → Type 0) → P Identifier → ((k : ℕ) → P (Keyword k)) → P Remarks → P Remark → (stage left : ℕ) → stage < 39 → P (due_at stage left)
 unfolding due_at

@@ -7,10 +7,11 @@ use mathlib.Core.Bool.{Bool, true, false, cond, not, ◌&&◌}
 use mathlib.Core.List.{List, [], ◌∷◌}
 use lib.Dec.{eqb, leb}
 use lib.ListN.{length, set}
-use borrow.Author.Tests.{eq-eqb, ne_eqb, eqb-false, leb-false, lt-ltb, le-ltb, not-true, not-false}
+use borrow.Author.Tests.{ne_eqb, eqb-false, leb-false, lt-ltb, le-ltb, not-true, not-false}
+use Rattle.std.specs.Prelude.{Result, Ok, Err}
+use Rattle.rules.specs.declared.Fault.{Fault}
 use Rattle.rules.specs.declared.Due.{Due}
 use Rattle.rules.specs.declared.Due.TheVariants.{Identifier, Keyword, Remarks, Remark}
-use Rattle.rules.specs.declared.Next.TheVariants.{Goes, Stops}
 use Rattle.rules.specs.Text.{Text}
 use Rattle.rules.specs.Rules.{Rules}
 use Rattle.rules.specs.Judging.{verdict_number}
@@ -23,8 +24,8 @@ use Rattle.judge.specs.declared.Counted.{Counted}
 use Rattle.judge.specs.declared.Counts.{Counts}
 use Rattle.judge.specs.Narrow.{low, counted_more}
 use Rattle.writer.proofs.WrittenLaws.{written_byte}
-use Rattle.session.specs.declared.LineKept.{LineKept}
-use Rattle.session.specs.Entry.{record_of, keeps_rules, has_place_for, is_kept, said_of, told_line, refused_line, not_taken, line_kept, verdicts_kept, with_bytes, bytes_kept}
+use Rattle.session.specs.declared.KeptLine.{KeptLine}
+use Rattle.session.specs.Entry.{record_of, keeps_rules, has_place_for, is_kept, said_of, told_line, not_taken, line_kept, verdicts_kept, with_bytes, bytes_kept}
 use Rattle.session.proofs.StepLaws.{keeps_broken, keeps_one}
 use Rattle.session.proofs.ComeLaws.{worth_within}
 use Rattle.link.specs.declared.Link.{Link}
@@ -112,11 +113,11 @@ module _ (R : Rules) (s : Link) (l : Text) where
   unfolding went_on
   went_by stage records done e = λ i. went_with (e i) stage records done
 
-  pub head_stops : (lent : Lent) (number field : ℕ) → step R (due_of s) l ≡ Stops number field → stopped_by (refusal number (line_of s) field) ≡ head_line R lent s l
+  pub head_stops : (lent : Lent) (f : Fault) → step R (due_of s) l ≡ Err f → stopped_by (refusal f.number (line_of s) f.field) ≡ head_line R lent s l
   unfolding head_line head_next
-  head_stops lent number field e = rw e
+  head_stops lent f e = rw e
 
-  pub head_on : (lent : Lent) (next : Due) → step R (due_of s) l ≡ Goes next → head_goes R lent s l next ≡ head_line R lent s l
+  pub head_on : (lent : Lent) (next : Due) → step R (due_of s) l ≡ Ok next → head_goes R lent s l next ≡ head_line R lent s l
   unfolding head_line head_next
   head_on lent next e = rw e
 
@@ -165,32 +166,39 @@ module _ (R : Rules) (s : Link) (l : Text) (verdicts worked : List ℕ) where
   abbrev h : Holding
   h = holding s verdicts worked
 
-  abbrev told : LineKept
+  abbrev told : Result KeptLine Fault
   told = line_kept R l s.done worked_bytes verdicts worked
 
-  pub record_refused : {k : LineKept} {r : Link} → k ≡ told → (k.refusal.number ≡ 0 → ⊥) → r ≡ stopped_by (refusal k.refusal.number (line_of s) k.refusal.field) → r ≡ (record_line R h l).link
-  unfolding record_line record_told
-  record_refused {k} e n g =
-      let test : eqb told.refusal.number 0 ≡ false = ap (λ (x : LineKept). eqb x.refusal.number 0) (sym e) ∙ ne_eqb k.refusal.number 0 n in
-      g ∙ ap (λ (x : LineKept). stopped_by (refusal x.refusal.number (line_of s) x.refusal.field)) e ∙ rw test
+  record_by_told : {k : Result KeptLine Fault} → k ≡ told → record_told s k ≡ (record_line R h l).link
+  unfolding record_line
+  record_by_told e = ap (record_told s) e
 
-  pub record_kept : {k : LineKept} {r : Link} → k ≡ told → k.refusal.number ≡ 0 → r ≡ with_record s k.worth k.mode k.number → r ≡ (record_line R h l).link
-  unfolding record_line record_told
-  record_kept {k} e n g =
-      let test : eqb told.refusal.number 0 ≡ true = ap (λ (x : LineKept). eqb x.refusal.number 0) (sym e) ∙ eq-eqb k.refusal.number 0 n in
-      g ∙ ap (λ (x : LineKept). with_record s x.worth x.mode x.number) e ∙ rw test
+  pub record_refused : {k : Result KeptLine Fault} {e : Fault} → k ≡ told → k ≡ Err e → stopped_by (refusal e.number (line_of s) e.field) ≡ (record_line R h l).link
+  unfolding record_told
+  record_refused same is_err = record_by_told (sym is_err ∙ same)
+
+  pub record_kept : {k : Result KeptLine Fault} {added : KeptLine} → k ≡ told → k ≡ Ok added → with_record s added.worth added.mode added.number ≡ (record_line R h l).link
+  unfolding record_told
+  record_kept same is_ok = record_by_told (sym is_ok ∙ same)
 
   -- What a line is worth.
-  worth_of : (rule : RecordRule) → record_rule R l ≡ rule → (b : Bool) → (cond (keeps_rules rule && b) (told_line R l s.done worked_bytes worked) (not_taken rule)).worth ≤ most_worth R
-  unfolding told_line not_taken refused_line record_of
+  worth_in : Result KeptLine Fault → ℕ
+  worth_in (Ok k) = k.worth
+  worth_in (Err e) = 0
+
+  worth_of : (rule : RecordRule) → record_rule R l ≡ rule → (b : Bool) → worth_in (cond (keeps_rules rule && b) (Ok (told_line R l s.done worked_bytes worked)) (Err (not_taken rule))) ≤ most_worth R
+  unfolding worth_in told_line record_of
   worth_of keeps e true = worth_within R (record_of l) (record_is R l e).rules
   worth_of keeps e false = omega arith
   worth_of (breaks field) e b = omega arith
 
-  pub kept_worth : {k : LineKept} → k ≡ told → k.worth ≤ most_worth R
+  told_worth : worth_in told ≤ most_worth R
   unfolding line_kept is_kept
-  kept_worth e =
-      omega (arith, ap (λ (x : LineKept). x.worth) e, worth_of (record_rule R l) refl (has_place_for s.done worked_bytes (length verdicts) (length worked)))
+  told_worth = worth_of (record_rule R l) refl (has_place_for s.done worked_bytes (length verdicts) (length worked))
+
+  pub kept_worth : {k : Result KeptLine Fault} {added : KeptLine} → k ≡ told → k ≡ Ok added → added.worth ≤ most_worth R
+  unfolding worth_in
+  kept_worth same is_ok = let e = ap worth_in (sym is_ok ∙ same) in omega (arith, e, told_worth)
 
   pub record_verdicts : {out : List ℕ} → out ≡ verdicts_kept R l s.done worked_bytes verdicts worked → out ≡ (record_line R h l).verdicts
   unfolding record_line
@@ -216,12 +224,12 @@ module _ (R : Rules) (h : Holding) (l : Text) where
   record_place = h.link.done
 
   pub record_broken : (field : ℕ) → record_rule R l ≡ breaks field → record_line R h l ≡ stopped h (refusal 5 (line_of h.link) field)
-  unfolding record_line record_told refused_line stopped
+  unfolding record_line record_told stopped
   record_broken field e =
       let told = keeps_broken R l record_place worked_bytes h.verdicts h.worked e refl in
       λ i. holding (record_told h.link (sym told.0 i)) (sym told.1.0 i) (sym told.1.1 i)
 
-  pub record_added : record_rule R l ≡ keeps → has_place_for record_place worked_bytes (length h.verdicts) (length h.worked) ≡ true → record_line R h l ≡ holding (record_told h.link (told_line R l record_place worked_bytes h.worked)) (set h.verdicts record_place (verdict_number (said_of R l record_place worked_bytes h.worked))) (with_bytes R l record_place worked_bytes h.worked)
+  pub record_added : record_rule R l ≡ keeps → has_place_for record_place worked_bytes (length h.verdicts) (length h.worked) ≡ true → record_line R h l ≡ holding (record_told h.link (Ok (told_line R l record_place worked_bytes h.worked))) (set h.verdicts record_place (verdict_number (said_of R l record_place worked_bytes h.worked))) (with_bytes R l record_place worked_bytes h.worked)
   unfolding record_line
   record_added e place =
       let told = keeps_one R l record_place worked_bytes h.verdicts h.worked e place (refl, (refl, refl)) in

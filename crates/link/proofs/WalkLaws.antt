@@ -5,12 +5,12 @@ use native.Mathlib.Omega.{arith}
 use mathlib.Core.Path.{◌≡◌, refl, sym, ap, subst, ◌∙◌}
 use mathlib.Core.Bool.{Bool, true, false, cond, and-false}
 use mathlib.Core.List.{◌++◌}
-use lib.Dec.{eqb, ltb}
+use lib.Dec.{ltb}
 use lib.ListN.{length, drop, drop_of_length-le}
+use Rattle.std.specs.Prelude.{Result, Ok, Err}
+use Rattle.rules.specs.declared.Fault.{Fault}
 use Rattle.rules.specs.declared.Due.{Due}
 use Rattle.rules.specs.declared.Due.TheVariants.{Identifier, Keyword, Remarks, Remark, Record, End}
-use Rattle.rules.specs.declared.Next.{Next}
-use Rattle.rules.specs.declared.Next.TheVariants.{Goes, Stops}
 use Rattle.rules.specs.declared.Refusal.{Refusal}
 use Rattle.rules.specs.Text.{Text}
 use Rattle.rules.specs.Rules.{Rules}
@@ -19,7 +19,7 @@ use Rattle.rules.specs.Link.{Lent, is_short, worked_bytes}
 use Rattle.fields.proofs.FieldLaws.{next}
 use Rattle.reader.specs.Contact.{between}
 use Rattle.judge.specs.Narrow.{low}
-use Rattle.session.specs.declared.LineKept.{LineKept}
+use Rattle.session.specs.declared.KeptLine.{KeptLine}
 use Rattle.session.specs.Entry.{line_kept}
 use Rattle.link.specs.declared.Link.{Link}
 use Rattle.link.specs.Link.{Holding, holding, stopped_by, stopped, is_open, line_of, due_of, is_end, announced, begun, went_on, if_long, head_goes, head_next, head_line, with_record, record_told, record_line, lent_by, finishes, bytes_in, overrun}
@@ -65,20 +65,14 @@ module _ (R : Rules) (s : Link) (l : Text) where
   unfolding head_line
   head_fresh lent = by (step R (due_of s) l)
     where
-      by : (next : Next) → Fresh s (head_next R lent s l next)
-      by (Goes due) = unfold head_next in goes_fresh lent due
-      by (Stops number field) = unfold head_next in stopped_fresh s (refusal number (line_of s) field)
+      by : (next : Result Due Fault) → Fresh s (head_next R lent s l next)
+      by (Ok due) = unfold head_next in goes_fresh lent due
+      by (Err e) = unfold head_next in stopped_fresh s (refusal e.number (line_of s) e.field)
 
-record_fresh : (s : Link) (k : LineKept) → Fresh s (record_told s k)
+record_fresh : (s : Link) (told : Result KeptLine Fault) → Fresh s (record_told s told)
 unfolding record_told
-record_fresh s k = by (eqb k.refusal.number 0)
-  where
-    with : Fresh s (with_record s k.worth k.mode k.number)
-    with = unfold with_record in record { held = refl; long = refl; lines = omega arith }
-
-    by : (b : Bool) → Fresh s (cond b (with_record s k.worth k.mode k.number) (stopped_by (refusal k.refusal.number (line_of s) k.refusal.field)))
-    by true = with
-    by false = stopped_fresh s (refusal k.refusal.number (line_of s) k.refusal.field)
+record_fresh s (Ok k) = unfold with_record in record { held = refl; long = refl; lines = omega arith }
+record_fresh s (Err e) = stopped_fresh s (refusal e.number (line_of s) e.field)
 
 finished_fresh : (R : Rules) (h : Holding) (l : Text) → Fresh h.link (finishes R h l).link
 unfolding finishes record_line

@@ -1,11 +1,10 @@
 -- The link of W7 as a caller keeps it: its numbers, its unfinished line, and what the two lent slices hold. Every state and every slice gets an answer.
 -- Assumes nothing.
-use Rattle.std.specs.Prelude.{ℕ, ◌+◌, ◌-◌, min, Bool, true, false, cond, not, ◌&&◌, List, [], ◌∷◌, ◌++◌, eqb, leb, ltb, length, take, drop, replicate}
+use Rattle.std.specs.Prelude.{ℕ, ◌+◌, ◌-◌, min, Bool, true, false, cond, not, ◌&&◌, List, [], ◌∷◌, ◌++◌, eqb, leb, ltb, length, take, drop, replicate, Result, Ok, Err}
+use Rattle.rules.specs.declared.Fault.{Fault}
 use Rattle.rules.specs.declared.Refusal.{Refusal}
 use Rattle.rules.specs.declared.Due.{Due}
 use Rattle.rules.specs.declared.Due.TheVariants.{Identifier, Keyword, Remarks, Remark, Record, End}
-use Rattle.rules.specs.declared.Next.{Next}
-use Rattle.rules.specs.declared.Next.TheVariants.{Goes, Stops}
 use Rattle.rules.specs.Text.{Text, allowed}
 use Rattle.rules.specs.Rules.{Rules}
 use Rattle.rules.specs.Arguments.{bonus, multiplier, part}
@@ -19,7 +18,7 @@ use Rattle.places.specs.declared.Declared.{Declared}
 use Rattle.judge.specs.Narrow.{low, no_counts, sums_in, counted_more}
 use Rattle.judge.specs.Sums.{totals_kept}
 use Rattle.writer.specs.Written.{written}
-use Rattle.session.specs.declared.LineKept.{LineKept}
+use Rattle.session.specs.declared.KeptLine.{KeptLine}
 use Rattle.session.specs.Entry.{line_kept, verdicts_kept, bytes_kept}
 use Rattle.link.specs.declared.Closing.{Closing}
 use Rattle.link.specs.declared.Rated.{Rated}
@@ -191,10 +190,10 @@ head_goes R lent s l Remark = went_on R s l 38 s.records s.done
 head_goes R lent s l (Record n) = if_long lent (went_on R s l 39 (low n) 0)
 head_goes R lent s l End = if_long lent (went_on R s l 39 0 0)
 
-unfoldable pub head_next : Rules → Lent → Link → Text → Next → Link
+unfoldable pub head_next : Rules → Lent → Link → Text → Result Due Fault → Link
 unfolding head_goes stopped_by
-head_next R lent s l (Goes next) = head_goes R lent s l next
-head_next R lent s l (Stops number field) = stopped_by (refusal number (line_of s) field)
+head_next R lent s l (Ok next) = head_goes R lent s l next
+head_next R lent s l (Err e) = stopped_by (refusal e.number (line_of s) e.field)
 
 unfoldable pub head_line : Rules → Lent → Link → Text → Link
 unfolding head_next step due_at
@@ -221,11 +220,10 @@ with_record s worth mode number =
     }
 
 -- What is told of its line: "5: a record breaks a rule".
-unfoldable pub record_told : Link → LineKept → Link
+unfoldable pub record_told : Link → Result KeptLine Fault → Link
 unfolding with_record stopped_by
-record_told s k =
-    let number = k.refusal.number in
-    cond (eqb number 0) (with_record s k.worth k.mode k.number) (stopped_by (refusal number (line_of s) k.refusal.field))
+record_told s (Ok k) = with_record s k.worth k.mode k.number
+record_told s (Err e) = stopped_by (refusal e.number (line_of s) e.field)
 
 -- Its verdict and what is worked are written behind those of the records before it.
 unfoldable pub record_line : Rules → Holding → Text → Holding

@@ -15,12 +15,13 @@ ghost use Rattle.link.specs.Piece.{declares, held_on, is_ended, may_come, next_p
 
 use judge::Counts;
 use places::Declared;
-use rules::{Due, Next, Refusal, Totals};
+use rules::{Due, Fault, Refusal, Totals};
+use session::KeptLine;
 
 // # The state
 
 #[repr(C)]
-#[derive(Clone, Copy)]
+#[derive(Clone, Copy, Default)]
 pub struct Rated {
     pub squarebonus: u16,
     pub squaremultiplier: u16,
@@ -50,29 +51,20 @@ pub struct Link {
 // The stage where records are due.
 const RECORDS: u16 = 39;
 
+#[tactic(auto, unfolding(crate::specs::Link::no_rates))]
 fn no_rates() -> Rated
     ensures { result ≡ no_rates }
 {
-    Rated {
-        squarebonus: 0,
-        squaremultiplier: 0,
-        exchangebonus: 0,
-        exchangemultiplier: 0,
-        countrybonus: 0,
-        countrymultiplier: 0,
-    }
+    Rated::default()
 }
 
 // A refusal is kept, and nothing else.
+#[tactic(auto, using(crate::proofs::StateLaws::stopped_bare))]
 fn stopped(number: u32, line: u32, field: u32) -> Link
     ensures { result ≡ stopped_by (refusal number line field) }
 {
     Link {
-        refusal: Refusal {
-            number,
-            line,
-            field,
-        },
+        refusal: Fault { number, field }.at(line),
         count: 0,
         lines: 0,
         points: 0,
@@ -95,6 +87,7 @@ pub fn opened() -> Link
 }
 
 // A refusal at the line that is coming.
+#[tactic(auto, using(crate::proofs::TestLaws::log_fits))]
 fn stopped_here(s: Link, number: u32, field: u32) -> Link
     requires { s.lines ≤ base.longest_log }
     ensures { result ≡ stopped_by (refusal number (line_of s) field) }
@@ -109,54 +102,46 @@ fn low(n: u64) -> u16
     (n % 65536) as u16
 }
 
+#[tactic(auto, unfolding(crate::specs::Link::declared_in))]
 fn declared_of(r: Rated) -> Declared
     ensures { result ≡ declared_in r }
 {
     Declared {
-        squarebonus: r.squarebonus as u64,
-        squaremultiplier: r.squaremultiplier as u64,
-        exchangebonus: r.exchangebonus as u64,
-        exchangemultiplier: r.exchangemultiplier as u64,
-        countrybonus: r.countrybonus as u64,
-        countrymultiplier: r.countrymultiplier as u64,
+        squarebonus: u64::from(r.squarebonus),
+        squaremultiplier: u64::from(r.squaremultiplier),
+        exchangebonus: u64::from(r.exchangebonus),
+        exchangemultiplier: u64::from(r.exchangemultiplier),
+        countrybonus: u64::from(r.countrybonus),
+        countrymultiplier: u64::from(r.countrymultiplier),
     }
 }
 
 // # What is due
 
+#[tactic(auto, using(crate::proofs::StateLaws::due_laws))]
 fn due_of(s: Link) -> Due
     ensures { result ≡ due_of s }
 {
-    let stage = s.stage as usize;
-    if stage == 0 {
-        return Due::Identifier;
+    match s.stage {
+        0 => Due::Identifier,
+        1..=36 => Due::Keyword(s.stage as usize - 1),
+        37 => Due::Remarks,
+        38 => Due::Remark,
+        _ if s.done < s.records => Due::Record((s.records - s.done) as usize),
+        _ => Due::End,
     }
-    if stage <= 36 {
-        return Due::Keyword(stage - 1);
-    }
-    if stage == 37 {
-        return Due::Remarks;
-    }
-    if stage == 38 {
-        return Due::Remark;
-    }
-    if s.done < s.records {
-        return Due::Record((s.records - s.done) as usize);
-    }
-    Due::End
 }
 
 // Nothing more is due.
+#[tactic(auto, using(crate::proofs::StateLaws::end_late, crate::proofs::StateLaws::end_early))]
 fn is_complete(s: Link) -> bool
     ensures { result ≡ is_end (due_of s) }
 {
-    if s.stage < RECORDS {
-        return false;
-    }
-    s.records <= s.done
+    RECORDS <= s.stage && s.records <= s.done
 }
 
 // The slices are long enough for the records that are announced.
+#[tactic(auto, using(crate::proofs::StateLaws::enough_early, crate::proofs::StateLaws::enough_not, crate::proofs::StateLaws::enough_worked))]
 fn lends_enough(s: Link, verdicts: usize, worked: usize) -> bool
     ensures { result ≡ not (is_short (lent_of verdicts worked) (announced s)) }
 {
@@ -164,38 +149,27 @@ fn lends_enough(s: Link, verdicts: usize, worked: usize) -> bool
         return true;
     }
     let n = s.records as usize;
-    if verdicts < n {
-        return false;
-    }
-    n * session::WORKED_BYTES <= worked
+    n <= verdicts && n * session::WORKED_BYTES <= worked
 }
 
 // No number runs over in this state.
+#[tactic(auto, unfolding(crate::specs::Link::is_sound, rules::specs::Log::conjunction))]
 fn is_sound(s: Link) -> bool
     ensures { result ≡ is_sound base s }
 {
-    if rules::longest_log() < s.count as usize {
-        return false;
-    }
-    if s.count < s.lines {
-        return false;
-    }
-    s.held as usize <= rules::LONGEST_LINE
+    s.count as usize <= rules::longest_log()
+        && s.lines <= s.count
+        && s.held as usize <= rules::LONGEST_LINE
 }
 
 // # A finished line
 
 // The line of CWWLs, CExcs or CDXCs is due.
+#[tactic(auto, unfolding(crate::specs::Piece::declares))]
 fn declares(stage: u16) -> bool
     ensures { result ≡ declares stage }
 {
-    if stage == 29 {
-        return true;
-    }
-    if stage == 31 {
-        return true;
-    }
-    stage == 33
+    matches!(stage, 29 | 31 | 33)
 }
 
 // What is declared behind a line.
@@ -209,34 +183,31 @@ fn rated_by(s: Link, line: &[u8]) -> Rated
     let rates = places::rates_of(line);
     let bonus = low(rates.bonus);
     let multiplier = low(rates.multiplier);
-    if s.stage == 29 {
-        r.squarebonus = bonus;
-        r.squaremultiplier = multiplier;
-        return r;
+    match s.stage {
+        29 => {
+            r.squarebonus = bonus;
+            r.squaremultiplier = multiplier;
+        }
+        31 => {
+            r.exchangebonus = bonus;
+            r.exchangemultiplier = multiplier;
+        }
+        _ => {
+            r.countrybonus = bonus;
+            r.countrymultiplier = multiplier;
+        }
     }
-    if s.stage == 31 {
-        r.exchangebonus = bonus;
-        r.exchangemultiplier = multiplier;
-        return r;
-    }
-    r.countrybonus = bonus;
-    r.countrymultiplier = multiplier;
     r
 }
 
 // A line in front of the records is taken, and this is the next stage; N and how many records are taken, too.
+#[tactic(auto, using(crate::proofs::TestLaws::log_fits, crate::proofs::TakenLaws::went_by))]
 fn went_on(s: Link, line: &[u8], stage: u16, records: u16, done: u16) -> Link
     requires { s.lines ≤ base.longest_log }
     ensures { result ≡ went_on base s line.now stage records done }
 {
-    let counts = s.counts;
-    let refusal = s.refusal;
     Link {
-        refusal,
-        count: s.count,
         lines: s.lines + 1,
-        points: s.points,
-        counts,
         rated: rated_by(s, line),
         records,
         done,
@@ -244,6 +215,7 @@ fn went_on(s: Link, line: &[u8], stage: u16, records: u16, done: u16) -> Link
         held: 0,
         returned: 0,
         line: [0u8; rules::LONGEST_LINE],
+        ..s
     }
 }
 
@@ -278,36 +250,28 @@ fn head_line(s: Link, line: &[u8], verdicts: usize, worked: usize) -> Link
     requires { s.lines ≤ base.longest_log }
     ensures { result ≡ head_line base (lent_of verdicts worked) s line.now }
 {
-    let stepped = reader::step(due_of(s), line);
-    let after = stepped.next;
-    match after {
-        Next::Stops { number, field } => stopped_here(s, number, field),
-        Next::Goes(next) => head_goes(s, line, next, verdicts, worked),
+    match reader::step(due_of(s), line).next {
+        Err(fault) => stopped_here(s, fault.number, fault.field),
+        Ok(next) => head_goes(s, line, next, verdicts, worked),
     }
 }
 
 // The state with one record more.
-fn with_record(s: Link, worth: u64, mode: u8, number: u8) -> Link
-    requires { (s.lines ≤ base.longest_log) × (s.done < s.records) × (worth ≤ most_worth base) }
-    ensures { result ≡ with_record s worth mode number }
+#[tactic(auto, using(crate::proofs::TestLaws::log_fits, crate::proofs::TestLaws::worth_fits, crate::proofs::TakenLaws::record_by))]
+fn with_record(s: Link, k: KeptLine) -> Link
+    requires { (s.lines ≤ base.longest_log) × (s.done < s.records) × (k.worth ≤ most_worth base) }
+    ensures { result ≡ with_record s k.worth k.mode k.number }
 {
-    let after = judge::counted_more(s.points, s.counts, worth as u32, mode, number);
-    let counts = after.counts;
-    let rated = s.rated;
-    let refusal = s.refusal;
+    let after = judge::counted_more(s.points, s.counts, k.worth as u32, k.mode, k.number);
     Link {
-        refusal,
-        count: s.count,
         lines: s.lines + 1,
         points: after.points,
-        counts,
-        rated,
-        records: s.records,
+        counts: after.counts,
         done: s.done + 1,
-        stage: s.stage,
         held: 0,
         returned: 0,
         line: [0u8; rules::LONGEST_LINE],
+        ..s
     }
 }
 
@@ -318,18 +282,11 @@ fn record_line(s: Link, line: &[u8], verdicts: &mut [u8], worked: &mut [u8]) -> 
     ensures verdicts { verdicts.new ≡ (record_line base (holding s verdicts.old worked.old) line.now).verdicts }
     ensures worked { worked.new ≡ (record_line base (holding s verdicts.old worked.old) line.now).worked }
 {
-    let k = session::keep_line(
-        line,
-        s.done as usize,
-        session::WORKED_BYTES,
-        verdicts,
-        worked,
-    );
-    let refusal = k.refusal;
-    if refusal.number != 0 {
-        return stopped_here(s, refusal.number, refusal.field);
+    let n = s.done as usize;
+    match session::keep_line(line, n, session::WORKED_BYTES, verdicts, worked) {
+        Ok(k) => with_record(s, k),
+        Err(fault) => stopped_here(s, fault.number, fault.field),
     }
-    with_record(s, k.worth, k.mode, k.number)
 }
 
 // A line is finished: its LF came.
@@ -371,17 +328,20 @@ fn joined(
 // # A piece
 
 // Where the characters end that come behind those that are held: none do behind a CR.
+#[tactic(auto, unfolding(crate::specs::Piece::run_end))]
 fn run_end(returned: u8, bytes: &[u8], at: usize) -> usize
     requires { at ≤ length bytes.now }
     ensures { result ≡ run_end returned bytes.now at }
 {
-    if returned != 0 {
-        return at;
+    if returned == 0 {
+        reader::allowed_run(bytes, at)
+    } else {
+        at
     }
-    reader::allowed_run(bytes, at)
 }
 
 // A line ends there, of which so many characters are held, and the CR or not.
+#[tactic(auto, using(crate::proofs::TestLaws::line_long), unfolding(crate::specs::Piece::is_ended))]
 fn is_ended(held: usize, returned: u8, bytes: &[u8], at: usize, end: usize) -> bool
     requires { (at < length bytes.now) × (at ≤ end) × (end ≤ length bytes.now) × (held ≤ 75) }
     ensures { result ≡ is_ended base held returned bytes.now at end }
@@ -389,70 +349,44 @@ fn is_ended(held: usize, returned: u8, bytes: &[u8], at: usize, end: usize) -> b
     if returned != 0 {
         return bytes[at] == 10;
     }
-    if rules::LONGEST_LINE < held + (end - at) {
-        return false;
-    }
-    reader::line_ends(bytes, end)
+    held + (end - at) <= rules::LONGEST_LINE && reader::line_ends(bytes, end)
 }
 
 // Where the next line begins.
+#[tactic(auto, using(crate::proofs::TestLaws::log_fits), unfolding(crate::specs::Piece::next_place))]
 fn behind(returned: u8, end: usize) -> usize
     requires { end ≤ base.longest_log }
     ensures { result ≡ next_place returned end }
 {
-    if returned != 0 {
-        return end + 1;
-    }
-    end + 2
+    if returned == 0 { end + 2 } else { end + 1 }
 }
 
 // The piece may be the front of a line, or go behind one: characters, and behind them a CR or nothing.
+#[tactic(auto, using(crate::proofs::TestLaws::line_long), unfolding(crate::specs::Piece::may_come))]
 fn may_come(held: usize, bytes: &[u8], at: usize, end: usize) -> bool
     requires { (at ≤ end) × (end ≤ length bytes.now) × (held ≤ 75) }
     ensures { result ≡ may_come base held bytes.now at end }
 {
-    if rules::LONGEST_LINE < held + (end - at) {
-        return false;
-    }
-    if end == bytes.len() {
-        return true;
-    }
-    if bytes[end] != 13 {
-        return false;
-    }
-    end + 1 == bytes.len()
+    held + (end - at) <= rules::LONGEST_LINE
+        && (end == bytes.len() || bytes[end] == 13 && end + 1 == bytes.len())
 }
 
 // 1 where a byte stands there, and else 0.
 fn one_if_more(bytes: &[u8], end: usize) -> u8
     ensures { result ≡ cond (eqb end (length bytes.now)) 0 1 }
 {
-    if end == bytes.len() {
-        return 0;
-    }
-    1
+    u8::from(end != bytes.len())
 }
 
 // The state with another unfinished line.
 fn held_as(s: Link, held: u16, returned: u8, line: [u8; rules::LONGEST_LINE]) -> Link
     ensures { result ≡ held_as held returned line s }
 {
-    let refusal = s.refusal;
-    let counts = s.counts;
-    let rated = s.rated;
     Link {
-        refusal,
-        count: s.count,
-        lines: s.lines,
-        points: s.points,
-        counts,
-        rated,
-        records: s.records,
-        done: s.done,
-        stage: s.stage,
         held,
         returned,
         line,
+        ..s
     }
 }
 
@@ -477,27 +411,14 @@ fn held_on(s: Link, bytes: &[u8], at: usize, end: usize, over: bool) -> Link
 }
 
 // So many bytes more came.
+#[tactic(auto, using(crate::proofs::TestLaws::log_fits), unfolding(crate::specs::Link::counted))]
 fn counted(s: Link, n: usize) -> Link
     requires { (s.count ≤ base.longest_log) × (n ≤ base.longest_log) }
     ensures { result ≡ counted n s }
 {
-    let refusal = s.refusal;
-    let counts = s.counts;
-    let rated = s.rated;
-    let line = s.line;
     Link {
-        refusal,
         count: s.count + n as u32,
-        lines: s.lines,
-        points: s.points,
-        counts,
-        rated,
-        records: s.records,
-        done: s.done,
-        stage: s.stage,
-        held: s.held,
-        returned: s.returned,
-        line,
+        ..s
     }
 }
 
@@ -506,54 +427,33 @@ fn room_for(count: u32, bytes: usize) -> usize
     requires { count ≤ base.longest_log }
     ensures { result ≡ min bytes (base.longest_log - count) }
 {
-    let room = rules::longest_log() - count as usize;
-    if room < bytes {
-        return room;
-    }
-    bytes
+    bytes.min(rules::longest_log() - count as usize)
 }
 
 // One byte is put behind those that are held.
+#[tactic(auto, using(crate::proofs::TestLaws::line_long), unfolding(crate::specs::Piece::takes_byte, rules::specs::Log::conjunction))]
 fn takes(s: Link, b: u8) -> bool
     ensures { result ≡ takes_byte base s b }
 {
-    if rules::longest_log() <= s.count as usize {
-        return false;
-    }
-    if is_complete(s) {
-        return false;
-    }
-    if s.returned != 0 {
-        return false;
-    }
-    if rules::LONGEST_LINE <= s.held as usize {
-        return false;
-    }
-    reader::is_allowed(b)
+    (s.count as usize) < rules::longest_log()
+        && !is_complete(s)
+        && s.returned == 0
+        && (s.held as usize) < rules::LONGEST_LINE
+        && reader::is_allowed(b)
 }
 
 fn with_byte(s: Link, b: u8) -> Link
     requires { takes_byte base s b ≡ true }
     ensures { result ≡ counted 1 (with_text (b ∷ []) s) }
 {
-    let refusal = s.refusal;
-    let counts = s.counts;
-    let rated = s.rated;
     let mut line = s.line;
     line[s.held as usize] = b;
     Link {
-        refusal,
         count: s.count + 1,
-        lines: s.lines,
-        points: s.points,
-        counts,
-        rated,
-        records: s.records,
-        done: s.done,
-        stage: s.stage,
         held: s.held + 1,
         returned: 0,
         line,
+        ..s
     }
 }
 
@@ -635,10 +535,8 @@ pub fn fed(s: Link, bytes: &[u8], verdicts: &mut [u8], worked: &mut [u8]) -> Lin
     if !lends_enough(s, verdicts.len(), worked.len()) {
         return stopped(7, 0, 0);
     }
-    if bytes.len() == 1 {
-        if takes(s, bytes[0]) {
-            return with_byte(s, bytes[0]);
-        }
+    if bytes.len() == 1 && takes(s, bytes[0]) {
+        return with_byte(s, bytes[0]);
     }
     taken(s, bytes, verdicts, worked)
 }
@@ -653,6 +551,7 @@ pub struct Closing {
 }
 
 // The closing refuses, or repeats a refusal.
+#[tactic(auto, using(crate::proofs::StateLaws::unended_by))]
 fn unended(s: Link) -> Closing
     ensures { result ≡ unended s }
 {
@@ -668,10 +567,7 @@ fn unended(s: Link) -> Closing
 fn has_rest(s: Link) -> bool
     ensures { result ≡ not (eqb (length (rest_of s)) 0) }
 {
-    if s.returned != 0 {
-        return true;
-    }
-    s.held != 0
+    s.returned != 0 || s.held != 0
 }
 
 // All is there: what it comes to.
@@ -680,11 +576,7 @@ fn accepted(s: Link) -> Closing
 {
     Closing {
         link: stopped(13, 0, 0),
-        refusal: Refusal {
-            number: 0,
-            line: 0,
-            field: 0,
-        },
+        refusal: rules::refused(0),
         totals: judge::totals_kept(judge::sums_of(s.points, s.counts), declared_of(s.rated)),
     }
 }
@@ -722,11 +614,4 @@ pub fn closed(s: Link, verdicts: &[u8], worked: &[u8]) -> Closing
         return unended(t);
     }
     accepted(t)
-}
-
-// The link behind the closing.
-pub fn link_of(c: Closing) -> Link
-    ensures { result ≡ c.link }
-{
-    c.link
 }

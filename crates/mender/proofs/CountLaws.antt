@@ -3,16 +3,18 @@
 use Prim.Native.Nat.{ℕ, ◌+◌, ◌-◌, ◌≤◌}
 use native.Mathlib.Omega.{arith}
 use mathlib.Core.Path.{◌≡◌, refl, sym, ap, ◌∙◌}
-use mathlib.Core.Bool.{Bool, true, false, cond, not, ◌&&◌}
+use mathlib.Core.Bool.{Bool, true, false, cond, ◌&&◌}
 use mathlib.Core.List.{[], ◌∷◌}
 use lib.Dec.{leb}
 use lib.ListN.{length, take, drop, length-drop}
 use lib.Seq.{take_all}
-use borrow.Author.Tests.{not-true, not-false, le-leb}
+use borrow.Author.Tests.{le-leb}
 use Rattle.rules.specs.Log.{count_start, count_line}
 use Rattle.rules.specs.Mending.{digits_then_end}
 use Rattle.rules.specs.Text.{Text, digit, same, span}
 use Rattle.rules.proofs.TextLaws.{span_short}
+use Rattle.std.specs.Prelude.{Some, None}
+use Rattle.mender.specs.declared.Kind.TheVariants.{CountSet}
 use Rattle.mender.specs.Lines.{count_kind}
 
 -- What stands behind `[QSORecords;`: digits, and then `]`.
@@ -38,16 +40,16 @@ module _ (follow : ℕ) (l : Text) {b : Bool} (behind : b ≡ digits_then_end (t
   digits_told : digits_then_end (drop 12 l) ≡ b
   digits_told = sym (behind ∙ ap digits_then_end (take_all (length l - 12) (drop 12 l) (omega (arith, length-drop 12 l))))
 
-  kind_by : (c : Bool) → same (count_line follow) l ≡ c → count_kind follow l ≡ cond b (cond c 0 4) 0
+  kind_by : (c : Bool) → same (count_line follow) l ≡ c → count_kind follow l ≡ cond b (cond c None (Some CountSet)) None
   unfolding count_kind count_start
   kind_by c q = rw (digits_told, q)
 
-  pub count_none : not b ≡ true → 0 ≡ count_kind follow l
-  count_none e = sym (kind_by (same (count_line follow) l) refl ∙ rw (not-true b e))
+  pub count_none : b ≡ false → None ≡ count_kind follow l
+  count_none e = sym (kind_by (same (count_line follow) l) refl ∙ rw e)
 
-  module _ (e : not b ≡ false) {c : Bool} (told : c ≡ same (count_line follow) l) where
-    pub count_right : c ≡ true → 0 ≡ count_kind follow l
-    count_right t = sym (kind_by c (sym told) ∙ rw (not-false b e, t))
+  module _ (e : b ≡ true) {c : Bool} (told : c ≡ same (count_line follow) l) where
+    pub count_right : c ≡ true → None ≡ count_kind follow l
+    count_right t = sym (kind_by c (sym told) ∙ rw (e, t))
 
-    pub count_wrong : c ≡ false → 4 ≡ count_kind follow l
-    count_wrong t = sym (kind_by c (sym told) ∙ rw (not-false b e, t))
+    pub count_wrong : c ≡ false → Some CountSet ≡ count_kind follow l
+    count_wrong t = sym (kind_by c (sym told) ∙ rw (e, t))

@@ -16,7 +16,10 @@ use Rattle.rules.proofs.MendingLaws.{no_lf, allowed_is_no_lf, ends_behind, witho
 use Rattle.rules.proofs.TextLaws.{span_short}
 use Rattle.reader.specs.Contact.{between}
 use Rattle.writer.proofs.WrittenLaws.{part_more}
-use Rattle.mender.specs.Lines.{lines_at, kinds_of, EndsAt, Trims, Cuts}
+use Rattle.std.specs.Prelude.{Option, Some, None}
+use Rattle.mender.specs.declared.Kind.{Kind}
+use Rattle.mender.specs.declared.Kind.TheVariants.{ReturnPut, EndPut}
+use Rattle.mender.specs.Lines.{lines_at, kinds_of, end_kind, EndsAt, Trims, Cuts}
 
 -- # The end of a text
 
@@ -185,7 +188,7 @@ first_of : (u : Text) → 0 < length u → chewed_lines u ≡ record { text = ta
 first_of [] h = absurd (omega arith)
 first_of (c ∷ u) h = first_line_lem c u
 
-kinds_by : (ends cr : Bool) → cond ends (cond cr [] (1 ∷ [])) (2 ∷ []) ≡ kinds_of (cond ends (cond cr 0 1) 2)
+kinds_by : (ends cr : Bool) → cond ends (cond cr [] (1 ∷ [])) (2 ∷ []) ≡ kinds_of (cond ends (cond cr None (Some ReturnPut)) (Some EndPut))
 unfolding kinds_of
 kinds_by true true = refl
 kinds_by true false = refl
@@ -223,18 +226,18 @@ module _ (s : Text) (at : ℕ) (some : at < length s) {run feed : ℕ} (ran : ru
         ∙ ap (λ (l : ChewedLine). l ∷ chewed_lines (drop (suc n) (drop at s))) (ap₂ (λ (t : Text) (b : Bool). record { text = t; ends = b }) (ap (λ (i : ℕ). take i (drop at s)) long) ends)
         ∙ ap (λ (u : Text). whole ∷ chewed_lines u) rest
 
-    end_told : end_mended whole ≡ record { text = between s at end; done = kinds_of (cond (ltb feed (length s)) (cond (ltb end feed) 0 1) 2) }
+    end_told : end_mended whole ≡ record { text = between s at end; done = kinds_of (end_kind (length s) feed end) }
     unfolding end_mended end_done
     end_told =
         ap₂ (λ (t : Text) (ks : List ℕ). record { text = t; done = ks }) (sym e.text)
         (ap (λ (b : Bool). cond (ltb feed (length s)) (cond b [] (1 ∷ [])) (2 ∷ [])) e.cr ∙ kinds_by (ltb feed (length s)) (ltb end feed))
 
-    pub cuts : {done : ℕ} → done ≡ cond (ltb feed (length s)) (cond (ltb end feed) 0 1) 2 → Cuts s at (record { end = end; next = feed + 1; done = done; clean = leb end run })
+    pub cuts : {done : Option Kind} → done ≡ end_kind (length s) feed end → Cuts s at (record { end = end; next = feed + 1; done = done; clean = leb end run })
     unfolding lines_at
-    cuts {done} d =
+    cuts d =
         record {
           lines = ap (map end_mended) line_there
-              ∙ ap (λ (l : MendedLine). l ∷ map end_mended (chewed_lines (drop (feed + 1) s))) (end_told ∙ ap (λ (k : ℕ). record { text = between s at end; done = kinds_of k }) (sym d));
+              ∙ ap (λ (l : MendedLine). l ∷ map end_mended (chewed_lines (drop (feed + 1) s))) (end_told ∙ ap (λ (k : Option Kind). record { text = between s at end; done = kinds_of k }) (sym d));
           spans = record {
             forth = e.forth;
             within = omega (arith, e.within, feed_within);

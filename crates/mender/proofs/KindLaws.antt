@@ -1,58 +1,43 @@
--- Laws of the code's word for what is done to a line: 0 for nothing, or the kind.
+-- Laws of what is listed of a line: nothing, or one thing by the number of its kind.
 -- Assumes nothing.
-use Prim.Native.Nat.{ℕ, zero, suc, ◌+◌, ◌≤◌, ◌<◌}
+use Prim.Native.Nat.{ℕ, ◌+◌, ◌≤◌, ◌<◌}
 use native.Mathlib.Omega.{arith}
-use mathlib.Core.Path.{◌≡◌, refl, sym, ap}
-use mathlib.Core.Bool.{cond}
+use mir.Val.{bool_byte}
+use mathlib.Core.Path.{◌≡◌, refl, sym, ap, ◌∙◌}
 use mathlib.Core.List.{List, [], ◌∷◌, map}
-use lib.Dec.{ltb}
 use lib.ListN.{length, set}
-use borrow.Author.Tests.{le-ltb, lt-ltb}
+use Rattle.std.specs.Prelude.{is_some, Option, Some, None}
 use Rattle.rules.specs.Mending.{changes_in}
 use Rattle.writer.specs.Written.{Puts}
 use Rattle.writer.proofs.WrittenLaws.{puts_as, puts_nothing, written_byte}
-use Rattle.mender.specs.Lines.{kinds_of}
+use Rattle.mender.specs.declared.Kind.{Kind}
+use Rattle.mender.specs.Lines.{kind_number, kinds_of}
 
 -- Nothing is done, or one thing.
-pub none_done : (k : ℕ) → k ≡ 0 → kinds_of k ≡ []
+pub one_if_some : (done : Option Kind) → (bool_byte (is_some done) ≡ length (kinds_of done)) × (bool_byte (is_some done) ≤ 1)
 unfolding kinds_of
-none_done zero e = refl
-none_done (suc k) e = absurd (omega arith)
+one_if_some None = (refl, omega arith)
+one_if_some (Some kind) = (refl, omega arith)
 
-pub one_done : (k : ℕ) → (k ≡ 0 → ⊥) → kinds_of k ≡ k ∷ []
+pub one_done : {done : Option Kind} {kind : Kind} → done ≡ Some kind → length (kinds_of done) ≡ 1
 unfolding kinds_of
-one_done zero e = absurd (e refl)
-one_done (suc k) e = refl
-
--- What has to be done to the end of a line, by its last two places.
-module _ (long feed end : ℕ) where
-  pub end_open : long ≤ feed → ◌≡◌ {A = ℕ} 2 (cond (ltb feed long) (cond (ltb end feed) 0 1) 2)
-  end_open h = rw (le-ltb feed long h)
-
-  pub end_right : feed < long → end < feed → ◌≡◌ {A = ℕ} 0 (cond (ltb feed long) (cond (ltb end feed) 0 1) 2)
-  end_right h g = rw (lt-ltb feed long h, lt-ltb end feed g)
-
-  pub end_bare : feed < long → feed ≤ end → ◌≡◌ {A = ℕ} 1 (cond (ltb feed long) (cond (ltb end feed) 0 1) 2)
-  end_bare h g = rw (lt-ltb feed long h, le-ltb end feed g)
+one_done e = rw e
 
 -- What is listed of a line.
-module _ (kinds lines : List ℕ) (i line k : ℕ) where
-  abbrev kinds_told : List ℕ
-  kinds_told = map (λ c. c.kind) (changes_in line (kinds_of k))
+module _ (kinds lines : List ℕ) (i line : ℕ) where
+  abbrev kinds_told : Option Kind → List ℕ
+  kinds_told done = map (λ c. c.kind) (changes_in line (kinds_of done))
 
-  abbrev lines_told : List ℕ
-  lines_told = map (λ c. c.line) (changes_in line (kinds_of k))
+  abbrev lines_told : Option Kind → List ℕ
+  lines_told done = map (λ c. c.line) (changes_in line (kinds_of done))
 
-  pub noted_none : k ≡ 0 → i + length (kinds_of k) ≤ length kinds → i + length (kinds_of k) ≤ length lines → Puts kinds i kinds_told kinds i × Puts lines i lines_told lines i
-  unfolding changes_in
-  noted_none e h g = (
-    puts_nothing (ap (λ (ks : List ℕ). map (λ c. c.kind) (changes_in line ks)) (none_done k e)) (omega arith),
-    puts_nothing (ap (λ (ks : List ℕ). map (λ c. c.line) (changes_in line ks)) (none_done k e)) (omega arith),
-  )
+  pub noted_none : {done : Option Kind} → done ≡ None → i ≤ length kinds → i ≤ length lines → Puts kinds i (kinds_told done) kinds i × Puts lines i (lines_told done) lines i
+  unfolding changes_in kinds_of
+  noted_none e h g = (puts_nothing (ap kinds_told e) h, puts_nothing (ap lines_told e) g)
 
-  pub noted_one : (k ≡ 0 → ⊥) → i < length kinds → i < length lines → Puts kinds i kinds_told (set kinds i k) (i + 1) × Puts lines i lines_told (set lines i line) (i + 1)
-  unfolding changes_in
-  noted_one e h g = (
-    puts_as (record { fits = omega arith; list = written_byte kinds i k h; place = refl }) (sym (ap (λ (ks : List ℕ). map (λ c. c.kind) (changes_in line ks)) (one_done k e))),
-    puts_as (record { fits = omega arith; list = written_byte lines i line g; place = refl }) (sym (ap (λ (ks : List ℕ). map (λ c. c.line) (changes_in line ks)) (one_done k e))),
+  pub noted_one : {done : Option Kind} {kind : Kind} {k : ℕ} → done ≡ Some kind → k ≡ kind_number kind → i < length kinds → i < length lines → Puts kinds i (kinds_told done) (set kinds i k) (i + 1) × Puts lines i (lines_told done) (set lines i line) (i + 1)
+  unfolding changes_in kinds_of
+  noted_one {kind = kind} {k = k} e n h g = (
+    puts_as (record { fits = omega arith; list = written_byte kinds i k h; place = refl }) (ap (λ (m : ℕ). m ∷ []) n ∙ sym (ap kinds_told e)),
+    puts_as (record { fits = omega arith; list = written_byte lines i line g; place = refl }) (sym (ap lines_told e)),
   )

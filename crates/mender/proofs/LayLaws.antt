@@ -17,6 +17,9 @@ use Rattle.rules.proofs.Tests.{fails}
 use Rattle.rules.proofs.TextLaws.{same_refl, same_eq, begins_split}
 use Rattle.reader.specs.Contact.{between}
 use Rattle.writer.proofs.WrittenLaws.{part_length}
+use Rattle.std.specs.Prelude.{Option, Some, None}
+use Rattle.mender.specs.declared.Kind.{Kind}
+use Rattle.mender.specs.declared.Kind.TheVariants.{SpacesDropped, CountSet}
 use Rattle.mender.specs.declared.Cut.{Cut}
 use Rattle.mender.specs.declared.Laid.{Laid}
 use Rattle.mender.specs.Lines.{lines_at, mended_at, kinds_of, Trims, Cuts, text_laid, line_laid, count_kind, Lays}
@@ -60,25 +63,25 @@ module _ {s : Text} {at : ℕ} {c : Cut} (k : Cuts s at c) (follow : ℕ) where
   abbrev line : MendedLine
   line = record { text = text; done = kinds_of c.done }
 
-  abbrev laid_to : ℕ → ℕ → Region → Laid
+  abbrev laid_to : ℕ → Option Kind → Region → Laid
   laid_to end second after =
       record { end = end; next = c.next; first = c.done; second = second; clean = c.clean; region = after }
 
   -- A line to whose text nothing was done.
-  untouched : (after : Region) → line ≡ line_laid s at follow (laid_to c.end 0 after)
+  untouched : (after : Region) → line ≡ line_laid s at follow (laid_to c.end None after)
   unfolding line_laid text_laid kinds_of
   untouched after = ap (λ (ks : List ℕ). record { text = text; done = ks }) (sym (append-nil (kinds_of c.done)))
 
-  kept : (region after : Region) → line_mended region follow line ≡ line → region_after region text ≡ after → Lays region s at follow (laid_to c.end 0 after)
+  kept : (region after : Region) → line_mended region follow line ≡ line → region_after region text ≡ after → Lays region s at follow (laid_to c.end None after)
   kept region after m r =
       record { line = line; lines = k.lines; mends = m ∙ untouched after; after = r; spans = k.spans; clean = k.clean }
 
   -- In the head.
-  pub head_remarks : {b : Bool} → b ≡ same text (91 ∷ 82 ∷ 101 ∷ 109 ∷ 97 ∷ 114 ∷ 107 ∷ 115 ∷ 93 ∷ []) → b ≡ true → Lays Region.Head s at follow (laid_to c.end 0 Region.Remarks)
+  pub head_remarks : {b : Bool} → b ≡ same text (91 ∷ 82 ∷ 101 ∷ 109 ∷ 97 ∷ 114 ∷ 107 ∷ 115 ∷ 93 ∷ []) → b ≡ true → Lays Region.Head s at follow (laid_to c.end None Region.Remarks)
   unfolding line_mended region_after remarks_line
   head_remarks e t = kept Region.Head Region.Remarks refl (rw (sym e ∙ t))
 
-  pub head_other : {b : Bool} → b ≡ same text (91 ∷ 82 ∷ 101 ∷ 109 ∷ 97 ∷ 114 ∷ 107 ∷ 115 ∷ 93 ∷ []) → b ≡ false → Lays Region.Head s at follow (laid_to c.end 0 Region.Head)
+  pub head_other : {b : Bool} → b ≡ same text (91 ∷ 82 ∷ 101 ∷ 109 ∷ 97 ∷ 114 ∷ 107 ∷ 115 ∷ 93 ∷ []) → b ≡ false → Lays Region.Head s at follow (laid_to c.end None Region.Head)
   unfolding line_mended region_after remarks_line
   head_other e t = kept Region.Head Region.Head refl (rw (sym e ∙ t))
 
@@ -92,7 +95,7 @@ module _ {s : Text} {at : ℕ} {c : Cut} (k : Cuts s at c) (follow : ℕ) where
   other_text kind new e = rw e
 
   -- Among the remarks.
-  pub remark_other : begins count_start text ≡ false → Lays Region.Remarks s at follow (laid_to c.end 0 Region.Remarks)
+  pub remark_other : begins count_start text ≡ false → Lays Region.Remarks s at follow (laid_to c.end None Region.Remarks)
   unfolding line_mended region_after
   remark_other e =
       kept Region.Remarks Region.Remarks (same_text 4 (count_set follow text) (set_of_none follow text (none_begun text e))) (rw e)
@@ -114,7 +117,7 @@ module _ {s : Text} {at : ℕ} {c : Cut} (k : Cuts s at c) (follow : ℕ) where
     unfolding line_mended count_kind
     counted = by (digits_then_end (drop (length count_start) text)) refl (same (count_line follow) text) refl
       where
-        by : (b : Bool) → digits_then_end (drop (length count_start) text) ≡ b → (d : Bool) → same (count_line follow) text ≡ d → changed_to 4 (count_set follow text) line ≡ line_laid s at follow (laid_to c.end (cond b (cond d 0 4) 0) Region.Records)
+        by : (b : Bool) → digits_then_end (drop (length count_start) text) ≡ b → (d : Bool) → same (count_line follow) text ≡ d → changed_to 4 (count_set follow text) line ≡ line_laid s at follow (laid_to c.end (cond b (cond d None (Some CountSet)) None) Region.Records)
         by false h d g = same_text 4 (count_set follow text) (set_of_none follow text (has false h)) ∙ untouched Region.Records
         by true h true g =
             same_text 4 (count_set follow text) (set_is (has true h) ∙ same_eq (count_line follow) text g) ∙ untouched Region.Records
@@ -129,12 +132,12 @@ module _ {s : Text} {at : ℕ} {c : Cut} (k : Cuts s at c) (follow : ℕ) where
         let long = ap length (begins_split count_start text e) ∙ length-append count_start (drop (length count_start) text) in
         omega (arith, long)
 
-    pub count_lays : {second : ℕ} → second ≡ count_kind follow text → Lays Region.Remarks s at follow (laid_to c.end second Region.Records)
+    pub count_lays : {second : Option Kind} → second ≡ count_kind follow text → Lays Region.Remarks s at follow (laid_to c.end second Region.Records)
     count_lays {second} q =
         record {
           line = line;
           lines = k.lines;
-          mends = counted ∙ ap (λ (n : ℕ). line_laid s at follow (laid_to c.end n Region.Records)) (sym q);
+          mends = counted ∙ ap (λ (n : Option Kind). line_laid s at follow (laid_to c.end n Region.Records)) (sym q);
           after = region_is;
           spans = k.spans;
           clean = k.clean;
@@ -142,7 +145,7 @@ module _ {s : Text} {at : ℕ} {c : Cut} (k : Cuts s at c) (follow : ℕ) where
 
   -- Behind the count line.
   module _ {last : ℕ} (t : Trims s at c.end last) where
-    pub record_kept : c.end ≤ last → Lays Region.Records s at follow (laid_to c.end 0 Region.Records)
+    pub record_kept : c.end ≤ last → Lays Region.Records s at follow (laid_to c.end None Region.Records)
     unfolding line_mended region_after
     record_kept h =
         let e : last ≡ c.end = omega (arith, t.within) in
@@ -156,7 +159,7 @@ module _ {s : Text} {at : ℕ} {c : Cut} (k : Cuts s at c) (follow : ℕ) where
         fails (same (trimmed text) text)
         (λ e. let z : length (between s at last) ≡ length text = ap length (t.text ∙ same_eq (trimmed text) text e) in omega (arith, t.forth, long, short))
 
-    pub record_trimmed : last < c.end → Lays Region.Records s at follow (laid_to last 3 Region.Records)
+    pub record_trimmed : last < c.end → Lays Region.Records s at follow (laid_to last (Some SpacesDropped) Region.Records)
     unfolding line_mended region_after
     record_trimmed h =
         record {

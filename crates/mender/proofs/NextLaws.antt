@@ -7,9 +7,10 @@ use mathlib.Core.Bool.{true, false, not, and-false}
 use mathlib.Core.List.{◌++◌}
 use lib.Dec.{leb}
 use lib.ListN.{length, length-append}
-use borrow.Author.Tests.{eq-eqb, ne_eqb, not-true, not-false, le-leb, lt-leb}
+use borrow.Author.Tests.{not-true, not-false, le-leb, lt-leb}
+use Rattle.std.specs.Prelude.{Result, Err}
+use Rattle.rules.specs.declared.Fault.{Fault}
 use Rattle.rules.specs.declared.Due.{Due}
-use Rattle.rules.specs.declared.Next.{Next}
 use Rattle.rules.specs.Text.{Text, all, allowed}
 use Rattle.rules.specs.Rules.{Rules, base}
 use Rattle.rules.specs.Log.{count_line, crlf, line_rule}
@@ -21,28 +22,28 @@ use Rattle.reader.specs.Read.{step_of}
 use Rattle.reader.proofs.HeadLaws.{stepped_next}
 use Rattle.writer.proofs.WrittenLaws.{part_length}
 use Rattle.mender.specs.declared.Laid.{Laid}
-use Rattle.mender.specs.Lines.{Spans, text_laid}
+use Rattle.mender.specs.Lines.{Spans, sets_count, text_laid}
 use Rattle.mender.specs.Checking.{no_line_due, line_next}
 
 -- # The text of a mended line
 
 module _ (s : Text) (at follow : ℕ) (l : Laid) where
-  pub text_count : l.second ≡ 4 → text_laid s at follow l ≡ count_line follow
+  pub text_count : sets_count l.second ≡ true → text_laid s at follow l ≡ count_line follow
   unfolding text_laid
-  text_count e = rw (eq-eqb l.second 4 e)
+  text_count e = rw e
 
-  pub text_part : (l.second ≡ 4 → ⊥) → text_laid s at follow l ≡ between s at l.end
+  pub text_part : (sets_count l.second ≡ false) → text_laid s at follow l ≡ between s at l.end
   unfolding text_laid
-  text_part e = rw (ne_eqb l.second 4 e)
+  text_part e = rw e
 
   -- How many bytes it takes with its CR LF.
-  pub length_count : {n : ℕ} → l.second ≡ 4 → n ≡ length (count_line follow) → n + 2 ≡ length (text_laid s at follow l ++ crlf)
+  pub length_count : {n : ℕ} → sets_count l.second ≡ true → n ≡ length (count_line follow) → n + 2 ≡ length (text_laid s at follow l ++ crlf)
   unfolding crlf
   length_count e p =
       ap (λ (k : ℕ). k + 2) p
       ∙ sym (ap (λ (t : Text). length (t ++ crlf)) (text_count e) ∙ length-append (count_line follow) crlf)
 
-  pub length_part : Spans s at l.end l.next → (l.second ≡ 4 → ⊥) → l.end - at + 2 ≡ length (text_laid s at follow l ++ crlf)
+  pub length_part : Spans s at l.end l.next → (sets_count l.second ≡ false) → l.end - at + 2 ≡ length (text_laid s at follow l ++ crlf)
   unfolding crlf
   length_part k e =
       let long : length (between s at l.end) ≡ l.end - at = part_length s at l.end k.forth k.within in
@@ -55,7 +56,7 @@ module _ (R : Rules) (due : Due) (t : Text) where
   unfolding line_next
   taken e = rw e
 
-  left : line_rule R t ≡ false → no_line_due due ≡ line_next R due t
+  left : line_rule R t ≡ false → Err (no_line_due due) ≡ line_next R due t
   unfolding line_next
   left e = rw e
 
@@ -81,21 +82,21 @@ unfolding base line_rule count_line all
 count_ruled n h = fewer_counted base n base.longest_log h refl
 
 module _ (due : Due) (s : Text) (at follow : ℕ) (l : Laid) where
-  pub next_count : {r : Next} → l.second ≡ 4 → r ≡ line_next base due (count_line follow) → r ≡ line_next base due (text_laid s at follow l)
+  pub next_count : {r : Result Due Fault} → sets_count l.second ≡ true → r ≡ line_next base due (count_line follow) → r ≡ line_next base due (text_laid s at follow l)
   next_count e p = p ∙ ap (line_next base due) (sym (text_count s at follow l e))
 
-  module _ (e : l.second ≡ 4 → ⊥) (clean : all allowed (between s at l.end) ≡ l.clean) where
-    by_part : {r : Next} → r ≡ line_next base due (between s at l.end) → r ≡ line_next base due (text_laid s at follow l)
+  module _ (e : sets_count l.second ≡ false) (clean : all allowed (between s at l.end) ≡ l.clean) where
+    by_part : {r : Result Due Fault} → r ≡ line_next base due (between s at l.end) → r ≡ line_next base due (text_laid s at follow l)
     by_part p = p ∙ ap (line_next base due) (sym (text_part s at follow l e))
 
-    pub next_unclean : {r : Next} → not l.clean ≡ true → r ≡ no_line_due due → r ≡ line_next base due (text_laid s at follow l)
+    pub next_unclean : {r : Result Due Fault} → not l.clean ≡ true → r ≡ Err (no_line_due due) → r ≡ line_next base due (text_laid s at follow l)
     next_unclean t p = by_part (p ∙ left base due (between s at l.end) (not_allowed base due (between s at l.end) (clean ∙ not-true l.clean t)))
 
     module _ (k : Spans s at l.end l.next) where
       long : length (between s at l.end) ≡ l.end - at
       long = part_length s at l.end k.forth k.within
 
-      pub next_long : {r : Next} {most : ℕ} → most ≡ base.longest_line → most < l.end - at → r ≡ no_line_due due → r ≡ line_next base due (text_laid s at follow l)
+      pub next_long : {r : Result Due Fault} {most : ℕ} → most ≡ base.longest_line → most < l.end - at → r ≡ Err (no_line_due due) → r ≡ line_next base due (text_laid s at follow l)
       next_long m h p = by_part (p ∙ left base due (between s at l.end) (too_long_lem base due (between s at l.end) (omega (arith, m, h, long))))
 
       pub next_line : {r : Stepped} {most : ℕ} → not l.clean ≡ false → most ≡ base.longest_line → l.end - at ≤ most → r ≡ step_of base 0 due (between s at l.end) → r.next ≡ line_next base due (text_laid s at follow l)

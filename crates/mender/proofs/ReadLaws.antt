@@ -8,10 +8,10 @@ use mathlib.Core.List.{List, [], ◌∷◌, ◌++◌, append_assoc}
 use lib.Dec.{eqb, leb, ltb}
 use lib.ListN.{length, drop}
 use borrow.Author.Tests.{not-true, ne_eqb, eqb-false}
+use Rattle.std.specs.Prelude.{Result, Ok, Err}
+use Rattle.rules.specs.declared.Fault.{Fault}
 use Rattle.rules.specs.declared.Due.{Due}
 use Rattle.rules.specs.declared.Due.TheVariants.{Identifier, Keyword, Remarks, Remark, Record, End}
-use Rattle.rules.specs.declared.Next.{Next}
-use Rattle.rules.specs.declared.Next.TheVariants.{Goes, Stops}
 use Rattle.rules.specs.Text.{Text, all, allowed, begins, span}
 use Rattle.rules.specs.Rules.{Rules}
 use Rattle.rules.specs.Arguments.{every}
@@ -64,7 +64,7 @@ module _ (R : Rules) where
   -- # Line by line
 
   -- Where something is left that is no line, that is told.
-  at_no_line : (due : Due) (n c : ℕ) (s : Text) (more : Due → Reading) (l : Text) → at_rest due n (c ∷ s) ≡ on_next more n due l (no_line_due due)
+  at_no_line : (due : Due) (n c : ℕ) (s : Text) (more : Due → Reading) (l : Text) → at_rest due n (c ∷ s) ≡ on_next more n due l (Err (no_line_due due))
   unfolding at_rest on_next no_line_due
   at_no_line Identifier n c s more l = refl
   at_no_line (Keyword k) n c s more l = refl
@@ -73,16 +73,16 @@ module _ (R : Rules) where
   at_no_line (Record m) n c s more l = refl
   at_no_line End n c s more l = refl
 
-  at_some : (due : Due) (n : ℕ) (l rest : Text) (more : Due → Reading) → at_rest due n (l ++ crlf ++ rest) ≡ on_next more n due l (no_line_due due)
+  at_some : (due : Due) (n : ℕ) (l rest : Text) (more : Due → Reading) → at_rest due n (l ++ crlf ++ rest) ≡ on_next more n due l (Err (no_line_due due))
   unfolding crlf
   at_some due n [] rest more = at_no_line due n 13 (10 ∷ rest) more []
   at_some due n (c ∷ l) rest more = at_no_line due n c ((l ++ crlf) ++ rest) more (c ∷ l)
 
   -- What goes on alike is told alike.
-  on_alike : (more other : Due → Reading) → ((d : Due) → more d ≡ other d) → (n : ℕ) (due : Due) (l : Text) (m : Next) → on_next more n due l m ≡ on_next other n due l m
+  on_alike : (more other : Due → Reading) → ((d : Due) → more d ≡ other d) → (n : ℕ) (due : Due) (l : Text) (m : Result Due Fault) → on_next more n due l m ≡ on_next other n due l m
   unfolding on_next
-  on_alike more other h n due l (Goes next) = ap (put due l) (h next)
-  on_alike more other h n due l (Stops number field) = refl
+  on_alike more other h n due l (Ok next) = ap (put due l) (h next)
+  on_alike more other h n due l (Err e) = refl
 
   -- The lines of a text that are found, and what is left of it.
   abbrev walked : Due → ℕ → Lines → Reading
@@ -109,14 +109,14 @@ module _ (R : Rules) where
     told_line_lem t =
         ap (walked due n) (lines_more l (ended ls) t)
         ∙ on_alike (λ d. walked d (n + 1) (lines R (ended ls))) (λ d. walk_lines R d (n + 1) ls) more n due l (step R due l)
-        ∙ ap (λ (b : Bool). on_next (λ d. walk_lines R d (n + 1) ls) n due l (cond b (step R due l) (no_line_due due))) (sym t)
+        ∙ ap (λ (b : Bool). on_next (λ d. walk_lines R d (n + 1) ls) n due l (cond b (step R due l) (Err (no_line_due due)))) (sym t)
 
     told_none : all no_lf l ≡ true → line_rule R l ≡ false → walked due n (lines R (l ++ crlf ++ ended ls)) ≡ walk_lines R due n (l ∷ ls)
     unfolding walk walk_lines line_next
     told_none e t =
         ap (walked due n) (lines_end l (ended ls) e t)
         ∙ at_some due n l (ended ls) (λ d. walk_lines R d (n + 1) ls)
-        ∙ ap (λ (b : Bool). on_next (λ d. walk_lines R d (n + 1) ls) n due l (cond b (step R due l) (no_line_due due))) (sym t)
+        ∙ ap (λ (b : Bool). on_next (λ d. walk_lines R d (n + 1) ls) n due l (cond b (step R due l) (Err (no_line_due due)))) (sym t)
 
   pub walk_by_lines : (ls : List Text) (due : Due) (n : ℕ) → every (all no_lf) ls ≡ true → walked due n (lines R (ended ls)) ≡ walk_lines R due n ls
   unfolding ended every walk walk_lines

@@ -6,10 +6,10 @@ use native.Mathlib.Omega.{arith}
 use mathlib.Core.Path.{◌≡◌, refl, sym, ap, ap₂, subst, ◌∙◌}
 use mathlib.Core.List.{List, [], ◌∷◌, ◌++◌, map, map-append, append_assoc}
 use lib.ListN.{length, drop, length-append, length-map}
+use Rattle.std.specs.Prelude.{Result, Ok, Err}
+use Rattle.rules.specs.declared.Fault.{Fault}
 use Rattle.rules.specs.declared.Due.{Due}
 use Rattle.rules.specs.declared.Due.TheVariants.{Identifier}
-use Rattle.rules.specs.declared.Next.{Next}
-use Rattle.rules.specs.declared.Next.TheVariants.{Goes, Stops}
 use Rattle.rules.specs.declared.Region.{Region}
 use Rattle.rules.specs.Answers.{over}
 use Rattle.rules.specs.Text.{Text}
@@ -19,9 +19,9 @@ use Rattle.rules.specs.Reading.{Reading, accepted, refused, refusal, put, on_nex
 use Rattle.rules.specs.Mending.{MendedLine, lines_mended, mended_lines, texts_of, mended_text, Change, changes_in, changes_from, changes}
 use Rattle.writer.specs.Written.{Puts, written}
 use Rattle.writer.proofs.WrittenLaws.{written_nothing, written_then, puts_length}
-use Rattle.mender.specs.declared.Checked.{Checked}
 use Rattle.mender.specs.declared.Laid.{Laid}
 use Rattle.mender.specs.Lines.{lines_at, mended_at, kinds_of, text_laid, line_laid, Lays}
+use Rattle.std.specs.Prelude.{Err}
 use Rattle.mender.specs.Checking.{line_next, walk_lines, checked_by, rest_told, checked_from, checked_of}
 use Rattle.mender.proofs.CutLaws.{no_lines_lem, some_lines}
 use Rattle.mender.proofs.LayLaws.{mended_turn}
@@ -123,7 +123,7 @@ module _ (R : Rules) (due : Due) (n bytes listed : ℕ) where
     abbrev line : MendedLine
     line = line_laid s at follow l
 
-    pub checked_stop : {number field : ℕ} → line_next R due (text_laid s at follow l) ≡ Stops number field → checked_from R due n bytes listed (line ∷ ms) ≡ Checked.Refused (refusal number n field)
+    pub checked_stop : {f : Fault} → line_next R due (text_laid s at follow l) ≡ Err f → checked_from R due n bytes listed (line ∷ ms) ≡ Err (refusal f.number n f.field)
     unfolding checked_from walk_lines line_laid texts_of checked_by on_next
     checked_stop e = rw e
 
@@ -139,12 +139,12 @@ module _ (R : Rules) (due : Due) (n bytes listed : ℕ) where
     taken_alike a b t (accepted log) = refl
     taken_alike a b t (refused r) = refl
 
-    pub checked_go : {next : Due} {long first second : ℕ} → line_next R due (text_laid s at follow l) ≡ Goes next → long ≡ length (text_laid s at follow l ++ crlf) → first ≡ length (kinds_of l.first) → second ≡ length (kinds_of l.second) → checked_from R due n bytes listed (line ∷ ms) ≡ checked_from R next (n + 1) (bytes + long) (listed + (first + second)) ms
+    pub checked_go : {next : Due} {long first second : ℕ} → line_next R due (text_laid s at follow l) ≡ Ok next → long ≡ length (text_laid s at follow l ++ crlf) → first ≡ length (kinds_of l.first) → second ≡ length (kinds_of l.second) → checked_from R due n bytes listed (line ∷ ms) ≡ checked_from R next (n + 1) (bytes + long) (listed + (first + second)) ms
     unfolding checked_from walk_lines line_laid texts_of on_next
     checked_go {next} {long} {first} {second} e p q r =
         let a : bytes + length (ended (texts_of (line ∷ ms))) ≡ bytes + long + length (ended (texts_of ms)) = omega (arith, bytes_more s at follow l ms, p) in
         let b : listed + length (changes_from n (line ∷ ms)) ≡ listed + (first + second) + length (changes_from (n + 1) ms) = omega (arith, list_long, q, r) in
-        ap (λ (m : Next). checked_by (bytes + length (ended (texts_of (line ∷ ms)))) (listed + length (changes_from n (line ∷ ms))) (on_next (λ d. walk_lines R d (n + 1) (texts_of ms)) n due (text_laid s at follow l) m)) e
+        ap (λ (m : Result Due Fault). checked_by (bytes + length (ended (texts_of (line ∷ ms)))) (listed + length (changes_from n (line ∷ ms))) (on_next (λ d. walk_lines R d (n + 1) (texts_of ms)) n due (text_laid s at follow l) m)) e
         ∙ taken_alike (bytes + length (ended (texts_of (line ∷ ms)))) (listed + length (changes_from n (line ∷ ms))) (text_laid s at follow l) (walk_lines R next (n + 1) (texts_of ms))
         ∙ ap₂ (λ (x y : ℕ). checked_by x y (walk_lines R next (n + 1) (texts_of ms))) a b
 

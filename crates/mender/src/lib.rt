@@ -4,7 +4,7 @@
 
 #![tactic(auto)]
 
-ghost use Rattle.std.specs.Prelude.{◌+◌, ◌-◌, ◌≤◌, ◌<◌, length, cond, ◌++◌, map, ◌≡◌, ltb};
+ghost use Rattle.std.specs.Prelude.{◌+◌, ◌-◌, ◌≤◌, ◌<◌, Err, length, cond, ◌++◌, map, ◌≡◌, ltb};
 ghost use Rattle.reader.specs.Contact.{between};
 ghost use Rattle.rules.specs.Answers.{over};
 ghost use Rattle.rules.specs.Log.{count_line, crlf, count_start};
@@ -13,22 +13,41 @@ ghost use Rattle.rules.specs.Reading.{refusal};
 ghost use Rattle.rules.specs.Rules.{base};
 ghost use Rattle.rules.specs.Text.{all, allowed, same};
 ghost use Rattle.writer.specs.Written.{Puts};
-ghost use Rattle.mender.specs.Lines.{Spans, EndsAt, Trims, Cuts, Lays, kinds_of, lines_at, text_laid, count_kind};
+ghost use Rattle.mender.specs.Lines.{Spans, EndsAt, Trims, Cuts, Lays, kinds_of, sets_count, end_kind, lines_at, text_laid, count_kind};
 ghost use Rattle.mender.specs.Checking.{no_line_due, line_next, rest_told, checked_of};
 ghost use Rattle.mender.specs.Answer.{rooms_of, mended_by, kept_as, kept_in, Mends};
 
-use reader::ReadAnswer;
-use rules::{Due, Next, Refusal, Region};
+use fields::{Besides, Digits};
+use rules::{Due, Fault, Refusal, Region};
+
+// # What is done to a line
+
+// CR is put before a bare LF, the end of the last line is put, the spaces at the end are dropped, or the count is set. The list tells a kind by its
+// number.
+#[derive(Clone, Copy)]
+pub enum Kind {
+    ReturnPut = 1,
+    EndPut = 2,
+    SpacesDropped = 3,
+    CountSet = 4,
+}
+
+// What is done to a line's text is that its count is set.
+fn sets_count(done: Option<Kind>) -> bool
+    ensures { result ≡ sets_count done }
+{
+    matches!(done, Some(Kind::CountSet))
+}
 
 // # Lines that end at LF
 
 // A line of the log: where its text ends, behind which its CR and LF stand as far as they are there; where the next line begins; what has to be done
-// to its end, 0, 1 or 2; and whether every character of its text is allowed.
+// to its end, if anything; and whether every character of its text is allowed.
 #[derive(Clone, Copy)]
 pub struct Cut {
     pub end: usize,
     pub next: usize,
-    pub done: u8,
+    pub done: Option<Kind>,
     pub clean: bool,
 }
 
@@ -37,26 +56,24 @@ fn text_end(s: &[u8], at: usize, feed: usize) -> usize
     requires { (at ≤ feed) × (feed ≤ length s.now) }
     ensures { EndsAt s.now at feed result }
 {
-    if feed <= at {
-        return feed;
+    if at < feed && s[feed - 1] == b'\r' {
+        feed - 1
+    } else {
+        feed
     }
-    if s[feed - 1] == 13 {
-        return feed - 1;
-    }
-    feed
 }
 
 // What has to be done to the end of a line.
-fn end_done(length: usize, feed: usize, end: usize) -> u8
-    ensures { result ≡ cond (ltb feed length) (cond (ltb end feed) 0 1) 2 }
+fn end_done(length: usize, feed: usize, end: usize) -> Option<Kind>
+    ensures { result ≡ end_kind length feed end }
 {
     if length <= feed {
-        return 2;
+        Some(Kind::EndPut)
+    } else if end < feed {
+        None
+    } else {
+        Some(Kind::ReturnPut)
     }
-    if end < feed {
-        return 0;
-    }
-    1
 }
 
 // The line that begins at a place.
@@ -65,7 +82,7 @@ fn cut_at(s: &[u8], at: usize) -> Cut
     ensures { Cuts s.now at result }
 {
     let run = reader::allowed_run(s, at);
-    let feed = reader::run_to(s, run, 10);
+    let feed = fields::run(s, run, &Besides(b'\n'));
     let end = text_end(s, at, feed);
     Cut {
         end,
@@ -95,25 +112,20 @@ fn trimmed_end(s: &[u8], at: usize, end: usize) -> usize
     requires { (at ≤ end) × (end ≤ length s.now) }
     ensures { Trims s.now at end result }
 {
-    let mut i = end;
-    while at < i {
-        if s[i - 1] != 32 {
-            return i;
+    for i in (at..end).rev() {
+        if s[i] != b' ' {
+            return i + 1;
         }
-        i -= 1;
     }
-    i
+    at
 }
 
 // The text is one or more digits, and then `]` and no more.
 fn digits_then_end(t: &[u8]) -> bool
     ensures { result ≡ digits_then_end t.now }
 {
-    let n = fields::digit_run(t, 0);
-    if n == 0 {
-        return false;
-    }
-    header::same_text(&t[n..], b"]")
+    let n = fields::run(t, 0, &Digits);
+    n != 0 && header::same_text(&t[n..], b"]")
 }
 
 // A line is the count line of so many records.
@@ -125,33 +137,31 @@ fn is_count(n: usize, line: &[u8]) -> bool
     header::same_text(&word[..end], line)
 }
 
-// What has to be done to a line that begins as the count line does, 0 or 4.
-fn count_done(line: &[u8], follow: usize) -> u8
+// What has to be done to a line that begins as the count line does.
+fn count_done(line: &[u8], follow: usize) -> Option<Kind>
     requires { length count_start ≤ length line.now }
     ensures { result ≡ count_kind follow line.now }
 {
-    if !digits_then_end(&line[12..]) {
-        return 0;
+    if digits_then_end(&line[12..]) && !is_count(follow, line) {
+        Some(Kind::CountSet)
+    } else {
+        None
     }
-    if is_count(follow, line) {
-        return 0;
-    }
-    4
 }
 
-// A line of the log as it is mended: where its text ends, unless its count is set; where the next line begins; what was done to its end, 0, 1 or 2,
-// and to its text, 0, 3 or 4; whether every character of the text is allowed; and where the next line lies.
+// A line of the log as it is mended: where its text ends, unless its count is set; where the next line begins; what was done to its end, and to its
+// text, if anything; whether every character of the text is allowed; and where the next line lies.
 #[derive(Clone, Copy)]
 pub struct Laid {
     pub end: usize,
     pub next: usize,
-    pub first: u8,
-    pub second: u8,
+    pub first: Option<Kind>,
+    pub second: Option<Kind>,
     pub clean: bool,
     pub region: Region,
 }
 
-fn laid_as(c: Cut, end: usize, second: u8, region: Region) -> Laid
+fn laid_as(c: Cut, end: usize, second: Option<Kind>, region: Region) -> Laid
     ensures { result ≡ record { end = end; next = c.next; first = c.done; second = second; clean = c.clean; region = region } }
 {
     Laid {
@@ -174,22 +184,22 @@ fn lay(s: &[u8], at: usize, region: Region, follow: usize) -> Laid
     match region {
         Region::Head => {
             if header::same_text(&s[at..end], b"[Remarks]") {
-                return laid_as(c, end, 0, Region::Remarks);
+                return laid_as(c, end, None, Region::Remarks);
             }
-            laid_as(c, end, 0, Region::Head)
+            laid_as(c, end, None, Region::Head)
         }
         Region::Remarks => {
             if header::begins_with(b"[QSORecords;", &s[at..end]) {
                 return laid_as(c, end, count_done(&s[at..end], follow), Region::Records);
             }
-            laid_as(c, end, 0, Region::Remarks)
+            laid_as(c, end, None, Region::Remarks)
         }
         Region::Records => {
             let last = trimmed_end(s, at, end);
             if last < end {
-                return laid_as(c, last, 3, Region::Records);
+                return laid_as(c, last, Some(Kind::SpacesDropped), Region::Records);
             }
-            laid_as(c, end, 0, Region::Records)
+            laid_as(c, end, None, Region::Records)
         }
     }
 }
@@ -209,20 +219,17 @@ fn line_length(s: &[u8], at: usize, l: Laid, follow: usize) -> usize
     requires { Spans s.now at l.end l.next }
     ensures { (result ≡ length (text_laid s.now at follow l ++ crlf)) × (result ≤ l.end - at + 35) }
 {
-    if l.second == 4 {
+    if sets_count(l.second) {
         return count_length(follow) + 2;
     }
     l.end - at + 2
 }
 
 // How many things were done: one, or none.
-fn one_if(kind: u8) -> usize
-    ensures { (result ≡ length (kinds_of kind)) × (result ≤ 1) }
+fn one_if(done: Option<Kind>) -> usize
+    ensures { (result ≡ length (kinds_of done)) × (result ≤ 1) }
 {
-    if kind == 0 {
-        return 0;
-    }
-    1
+    usize::from(done.is_some())
 }
 
 // How long the mended log is, which has so many lines.
@@ -246,111 +253,68 @@ fn measure(s: &[u8], total: usize) -> usize
 
 // # Read
 
-// What follows where this is due and no line of a log stands.
-fn no_line_due(due: Due) -> Next
+// Why a log is refused where this is due and no line of a log stands.
+#[tactic(auto, unfolding(crate::specs::Checking::no_line_due))]
+fn no_line_due(due: Due) -> Fault
     ensures { result ≡ no_line_due due }
 {
     match due {
-        Due::Identifier => Next::Stops {
-            number: 2,
-            field: 0,
-        },
-        Due::Keyword(_) => Next::Stops {
-            number: 2,
-            field: 0,
-        },
-        Due::Remarks => Next::Stops {
-            number: 2,
-            field: 0,
-        },
-        Due::Remark => Next::Stops {
-            number: 2,
-            field: 0,
-        },
-        Due::Record(_) => Next::Stops {
-            number: 2,
-            field: 0,
-        },
-        Due::End => Next::Stops {
+        Due::End => Fault {
             number: 6,
+            field: 0,
+        },
+        _ => Fault {
+            number: 2,
             field: 0,
         },
     }
 }
 
 // What follows from the count line of so many records.
-fn count_next(due: Due, n: usize) -> Next
+fn count_next(due: Due, n: usize) -> Result<Due, Fault>
     requires { n ≤ base.longest_log }
     ensures { result ≡ line_next base due (count_line n) }
 {
     let mut word = [0u8; writer::COUNT_LINE];
     let end = writer::count_line(&mut word, n as u64);
-    let stepped = reader::step(due, &word[..end]);
-    stepped.next
+    reader::step(due, &word[..end]).next
 }
 
 // What follows from a mended line.
-fn laid_next(due: Due, s: &[u8], at: usize, l: Laid, follow: usize) -> Next
+fn laid_next(due: Due, s: &[u8], at: usize, l: Laid, follow: usize) -> Result<Due, Fault>
     requires { Spans s.now at l.end l.next × (all allowed (between s.now at l.end) ≡ l.clean) × (follow ≤ base.longest_log) }
     ensures { result ≡ line_next base due (text_laid s.now at follow l) }
 {
-    if l.second == 4 {
+    if sets_count(l.second) {
         return count_next(due, follow);
     }
-    if !l.clean {
-        return no_line_due(due);
+    if !l.clean || rules::longest_line() < l.end - at {
+        return Err(no_line_due(due));
     }
-    if rules::longest_line() < l.end - at {
-        return no_line_due(due);
-    }
-    let end = l.end;
-    let stepped = reader::step(due, &s[at..end]);
-    stepped.next
+    reader::step(due, &s[at..l.end]).next
 }
 
-// How long the mended log and the list are, or why the mended log is refused.
+// How long the mended log and its list are.
 #[derive(Clone, Copy)]
-pub enum Checked {
-    Sound { bytes: usize, listed: usize },
-    Refused(Refusal),
+pub struct Mended {
+    pub length: usize,
+    pub changes: usize,
 }
 
 // What is told where the lines end and this is due.
-fn rest_told(due: Due, line: u32, bytes: usize, listed: usize) -> Checked
-    ensures { result ≡ rest_told due line bytes listed }
+#[tactic(auto, unfolding(crate::specs::Checking::rest_told))]
+fn rest_told(due: Due, line: u32, length: usize, changes: usize) -> Result<Mended, Refusal>
+    ensures { result ≡ rest_told due line length changes }
 {
     match due {
-        Due::End => Checked::Sound { bytes, listed },
-        Due::Record(_) => Checked::Refused(Refusal {
-            number: 6,
-            line,
-            field: 0,
-        }),
-        Due::Identifier => Checked::Refused(Refusal {
-            number: 2,
-            line,
-            field: 0,
-        }),
-        Due::Keyword(_) => Checked::Refused(Refusal {
-            number: 2,
-            line,
-            field: 0,
-        }),
-        Due::Remarks => Checked::Refused(Refusal {
-            number: 2,
-            line,
-            field: 0,
-        }),
-        Due::Remark => Checked::Refused(Refusal {
-            number: 2,
-            line,
-            field: 0,
-        }),
+        Due::End => Ok(Mended { length, changes }),
+        Due::Record(_) => Err(rules::refused_at(6, line)),
+        _ => Err(rules::refused_at(2, line)),
     }
 }
 
-// The mended lines are read one after the other, as long as they are taken.
-fn check(s: &[u8], total: usize) -> Checked
+// How long the mended log and the list are, or why the mended log is refused: its lines are read one after the other, as long as they are taken.
+fn check(s: &[u8], total: usize) -> Result<Mended, Refusal>
     requires { (total ≡ length (lines_at s.now 0)) × (length s.now ≤ base.longest_log) × (total ≤ length s.now) }
     ensures { result ≡ checked_of base s.now }
 {
@@ -364,16 +328,11 @@ fn check(s: &[u8], total: usize) -> Checked
     while at < s.len() {
         follow -= 1;
         let l = lay(s, at, region, follow);
-        let after = laid_next(due, s, at, l, follow);
-        match after {
-            Next::Stops { number, field } => {
-                return Checked::Refused(Refusal {
-                    number,
-                    line,
-                    field,
-                });
+        match laid_next(due, s, at, l, follow) {
+            Err(fault) => {
+                return Err(fault.at(line));
             }
-            Next::Goes(next) => {
+            Ok(next) => {
                 bytes += line_length(s, at, l, follow);
                 listed += one_if(l.first) + one_if(l.second);
                 due = next;
@@ -403,7 +362,7 @@ fn put_laid(out: &mut [u8], to: usize, s: &[u8], at: usize, l: Laid, follow: usi
     requires { Spans s.now at l.end l.next × (to + length (text_laid s.now at follow l) ≤ length out.old) }
     ensures { Puts out.old to (text_laid s.now at follow l) out.new result }
 {
-    if l.second == 4 {
+    if sets_count(l.second) {
         return put_count(out, to, follow);
     }
     let end = l.end;
@@ -420,15 +379,15 @@ fn put_line(out: &mut [u8], to: usize, s: &[u8], at: usize, l: Laid, follow: usi
 }
 
 // What was done to a line is listed, where anything was.
-fn note(kinds: &mut [u8], lines: &mut [u32], i: usize, kind: u8, line: u32) -> usize
-    requires { (i + length (kinds_of kind) ≤ length kinds.old) × (i + length (kinds_of kind) ≤ length lines.old) }
-    ensures kinds { Puts kinds.old i (map (λ c. c.kind) (changes_in line (kinds_of kind))) kinds.new result }
-    ensures lines { Puts lines.old i (map (λ c. c.line) (changes_in line (kinds_of kind))) lines.new result }
+fn note(kinds: &mut [u8], lines: &mut [u32], i: usize, done: Option<Kind>, line: u32) -> usize
+    requires { (i + length (kinds_of done) ≤ length kinds.old) × (i + length (kinds_of done) ≤ length lines.old) }
+    ensures kinds { Puts kinds.old i (map (λ c. c.kind) (changes_in line (kinds_of done))) kinds.new result }
+    ensures lines { Puts lines.old i (map (λ c. c.line) (changes_in line (kinds_of done))) lines.new result }
 {
-    if kind == 0 {
+    let Some(kind) = done else {
         return i;
-    }
-    kinds[i] = kind;
+    };
+    kinds[i] = kind as u8;
     lines[i] = line;
     i + 1
 }
@@ -461,76 +420,69 @@ fn put_lines(s: &[u8], total: usize, out: &mut [u8], kinds: &mut [u8], lines: &m
 
 // # The answer
 
-// How long the mended log and the list are, or why nothing was handed over.
-#[derive(Clone, Copy)]
-pub enum MendAnswer {
-    Mended { length: usize, changes: usize },
-    Refused(Refusal),
-}
-
 // A number whose line and field are 0.
-fn refuse(number: u32) -> MendAnswer
-    ensures { result ≡ MendAnswer.Refused (refusal number 0 0) }
+fn refuse(number: u32) -> Result<Mended, Refusal>
+    ensures { result ≡ Err (refusal number 0 0) }
 {
-    MendAnswer::Refused(Refusal {
-        number,
-        line: 0,
-        field: 0,
-    })
+    Err(rules::refused(number))
 }
 
 // A log that is accepted as it is comes out unchanged, with an empty list.
-fn keep(log: &[u8], out: &mut [u8]) -> MendAnswer
+fn keep(log: &[u8], out: &mut [u8]) -> Result<Mended, Refusal>
     ensures answer { result ≡ kept_as log.now out.old }
     ensures slice { out.new ≡ kept_in log.now out.old }
 {
     if out.len() < log.len() {
         return refuse(8);
     }
-    MendAnswer::Mended {
+    Ok(Mended {
         length: writer::put_text(out, 0, log),
         changes: 0,
-    }
+    })
 }
 
 // The mended log is handed over where it is accepted and there is room for it and for the list.
-fn rework(log: &[u8], out: &mut [u8], kinds: &mut [u8], lines: &mut [u32]) -> MendAnswer
+fn rework(
+    log: &[u8],
+    out: &mut [u8],
+    kinds: &mut [u8],
+    lines: &mut [u32],
+) -> Result<Mended, Refusal>
     requires { length log.now ≤ base.longest_log }
     ensures { Mends base log.now result out.old kinds.old lines.old out.new kinds.new lines.new }
 {
     let total = line_count(log);
     match check(log, total) {
-        Checked::Refused(r) => {
+        Err(r) => {
             if rules::longest_log() < measure(log, total) {
                 return refuse(1);
             }
-            MendAnswer::Refused(r)
+            Err(r)
         }
-        Checked::Sound { bytes, listed } => {
-            if rules::longest_log() < bytes {
+        Ok(mended) => {
+            if rules::longest_log() < mended.length {
                 return refuse(1);
             }
-            if kinds.len() < listed {
+            if kinds.len() < mended.changes || lines.len() < mended.changes {
                 return refuse(10);
             }
-            if lines.len() < listed {
-                return refuse(10);
-            }
-            if out.len() < bytes {
+            if out.len() < mended.length {
                 return refuse(8);
             }
             put_lines(log, total, out, kinds, lines);
-            MendAnswer::Mended {
-                length: bytes,
-                changes: listed,
-            }
+            Ok(mended)
         }
     }
 }
 
 // Mends a chewed log: the result is laid over the front of `out`, and each thing that was changed in a line is listed, by its kind, 1 to 4, and the
 // number of the line. On a refusal nothing is changed.
-pub fn mend(log: &[u8], out: &mut [u8], kinds: &mut [u8], lines: &mut [u32]) -> MendAnswer
+pub fn mend(
+    log: &[u8],
+    out: &mut [u8],
+    kinds: &mut [u8],
+    lines: &mut [u32],
+) -> Result<Mended, Refusal>
     ensures answer { result ≡ mended_by (mend base (rooms_of out.old kinds.old lines.old) log.now) }
     ensures text { out.new ≡ over (bytes_of_mending (mend base (rooms_of out.old kinds.old lines.old) log.now)) out.old }
     ensures kinds { kinds.new ≡ over (kinds_of_mending (mend base (rooms_of out.old kinds.old lines.old) log.now)) kinds.old }
@@ -540,11 +492,7 @@ pub fn mend(log: &[u8], out: &mut [u8], kinds: &mut [u8], lines: &mut [u32]) -> 
         return refuse(1);
     }
     match reader::read(log) {
-        ReadAnswer::Accepted {
-            records: _,
-            first: _,
-            heading: _,
-        } => keep(log, out),
-        ReadAnswer::Refused(_) => rework(log, out, kinds, lines),
+        Ok(_) => keep(log, out),
+        Err(_) => rework(log, out, kinds, lines),
     }
 }

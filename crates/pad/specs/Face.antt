@@ -18,7 +18,7 @@ use Rattle.pad.specs.declared.SumpquinceView.{SumpquinceView}
 use Rattle.pad.specs.declared.SumpquinceJudgement.{SumpquinceJudgement}
 use Rattle.pad.specs.declared.SumpquinceDeclared.{SumpquinceDeclared}
 use Rattle.rules.specs.Mending.{Mending, refusal_of_mending, bytes_of_mending, kinds_of_mending}
-use Rattle.writer.specs.declared.Wrote.{Wrote}
+use Rattle.std.specs.Prelude.{Result, Ok, Err}
 use Rattle.pad.specs.declared.SumpquinceWritten.{SumpquinceWritten}
 use Rattle.pad.specs.declared.SumpquinceMended.{SumpquinceMended}
 
@@ -74,10 +74,10 @@ unfolding refusal_face refusal_of_writing bytes_of_writing
 written_face w = record { refusal = refusal_face (refusal_of_writing w); length = length (bytes_of_writing w) }
 
 -- The same of the code's word for it.
-unfoldable pub wrote_face : Wrote → SumpquinceWritten
+unfoldable pub wrote_face : Result ℕ Refusal → SumpquinceWritten
 unfolding refusal_face no_refusal
-wrote_face (Wrote.Length n) = record { refusal = refusal_face no_refusal; length = n }
-wrote_face (Wrote.Refused r) = record { refusal = refusal_face r; length = 0 }
+wrote_face (Ok n) = record { refusal = refusal_face no_refusal; length = n }
+wrote_face (Err r) = record { refusal = refusal_face r; length = 0 }
 
 -- How long the mended log is, and its list.
 unfoldable pub mended_face : Mending → SumpquinceMended

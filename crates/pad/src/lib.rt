@@ -12,16 +12,12 @@ ghost use Rattle.rules.specs.Mending.{mend, bytes_of_mending, kinds_of_mending, 
 ghost use Rattle.mender.specs.Answer.{rooms_of};
 ghost use Rattle.session.specs.Session.{given_back, kept_taken, started, taken, verdicts_taken};
 ghost use Rattle.link.specs.Link.{close, feed, holding, lent_of, stopped_by};
-ghost use Rattle.pad.specs.Face.{closing_face, declared_face, refusal_face, one_if, reading_face, view_face, totals_face, judgement_face, written_face, wrote_face, mended_face, session_face};
+ghost use Rattle.pad.specs.Face.{closing_face, declared_face, refusal_face, reading_face, view_face, totals_face, judgement_face, written_face, wrote_face, mended_face, session_face};
 
-use judge::Judged;
 use link::{Closing, Link};
-use mender::MendAnswer;
-use places::{Declared, ViewRead};
-use reader::ReadAnswer;
+use places::Declared;
 use rules::{Refusal, Totals};
-use session::{Replied, Session};
-use writer::Wrote;
+use session::Session;
 
 #[repr(C)]
 #[derive(Clone, Copy)]
@@ -104,24 +100,17 @@ fn no_refusal() -> SumpquinceRefusal
     }
 }
 
-fn refusal_face(r: Refusal) -> SumpquinceRefusal
-    ensures { result ≡ refusal_face r }
-{
-    SumpquinceRefusal {
-        number: r.number,
-        line: r.line,
-        field: r.field,
-    }
-}
+impl From<Refusal> for SumpquinceRefusal {
+    ghost from_gives = { λ r face. face ≡ refusal_face r };
 
-// C's word for yes and no.
-fn one_if(said: bool) -> u64
-    ensures { result ≡ one_if said }
-{
-    if said {
-        return 1;
+    #[tactic(auto, unfolding(crate::specs::Face::refusal_face))]
+    fn from(r: Refusal) -> SumpquinceRefusal {
+        SumpquinceRefusal {
+            number: r.number,
+            line: r.line,
+            field: r.field,
+        }
     }
-    0
 }
 
 fn totals_face(refusal: SumpquinceRefusal, t: Totals) -> SumpquinceJudgement
@@ -152,17 +141,13 @@ pub extern "C" fn sumpquince_read(log: &[u8]) -> SumpquinceReading
     ensures { result ≡ reading_face (read base log.now) }
 {
     match reader::read(log) {
-        ReadAnswer::Accepted {
-            records,
-            first: _,
-            heading,
-        } => SumpquinceReading {
+        Ok(read) => SumpquinceReading {
             refusal: no_refusal(),
-            records: records as u64,
-            respelt: heading.respelt as u64,
+            records: read.records as u64,
+            respelt: read.heading.respelt as u64,
         },
-        ReadAnswer::Refused(r) => SumpquinceReading {
-            refusal: refusal_face(r),
+        Err(r) => SumpquinceReading {
+            refusal: SumpquinceRefusal::from(r),
             records: 0,
             respelt: 0,
         },
@@ -174,18 +159,14 @@ pub extern "C" fn sumpquince_view(log: &[u8], keyword: usize) -> SumpquinceView
     ensures { result ≡ view_face (view base keyword log.now) }
 {
     match places::view(log, keyword) {
-        ViewRead::Seen {
-            start,
-            length,
-            listed,
-        } => SumpquinceView {
+        Ok(seen) => SumpquinceView {
             refusal: no_refusal(),
-            start: start as u64,
-            length: length as u64,
-            listed: one_if(listed),
+            start: seen.start as u64,
+            length: seen.length as u64,
+            listed: u64::from(seen.listed),
         },
-        ViewRead::Refused(r) => SumpquinceView {
-            refusal: refusal_face(r),
+        Err(r) => SumpquinceView {
+            refusal: SumpquinceRefusal::from(r),
             start: 0,
             length: 0,
             listed: 0,
@@ -199,22 +180,22 @@ pub extern "C" fn sumpquince_judge(log: &[u8], verdicts: &mut [u8]) -> Sumpquinc
     ensures slice { verdicts.new ≡ over (numbers_of_judgement (judge base (length verdicts.old) log.now)) verdicts.old }
 {
     match judge::judge(log, verdicts) {
-        Judged::Totals(t) => totals_face(no_refusal(), t),
-        Judged::Refused(r) => totals_face(refusal_face(r), judge::no_totals()),
+        Ok(t) => totals_face(no_refusal(), t),
+        Err(r) => totals_face(SumpquinceRefusal::from(r), judge::no_totals()),
     }
 }
 
 // How long what was written is, or the refusal.
-fn written_face(w: Wrote) -> SumpquinceWritten
+fn written_face(w: Result<usize, Refusal>) -> SumpquinceWritten
     ensures { result ≡ wrote_face w }
 {
     match w {
-        Wrote::Length(n) => SumpquinceWritten {
+        Ok(n) => SumpquinceWritten {
             refusal: no_refusal(),
             length: n as u64,
         },
-        Wrote::Refused(r) => SumpquinceWritten {
-            refusal: refusal_face(r),
+        Err(r) => SumpquinceWritten {
+            refusal: SumpquinceRefusal::from(r),
             length: 0,
         },
     }
@@ -249,13 +230,13 @@ pub extern "C" fn sumpquince_mend(
     ensures lines { lines.new ≡ over (lines_of_mending (mend base (rooms_of out.old kinds.old lines.old) log.now)) lines.old }
 {
     match mender::mend(log, out, kinds, lines) {
-        MendAnswer::Mended { length, changes } => SumpquinceMended {
+        Ok(mended) => SumpquinceMended {
             refusal: no_refusal(),
-            length: length as u64,
-            changes: changes as u64,
+            length: mended.length as u64,
+            changes: mended.changes as u64,
         },
-        MendAnswer::Refused(r) => SumpquinceMended {
-            refusal: refusal_face(r),
+        Err(r) => SumpquinceMended {
+            refusal: SumpquinceRefusal::from(r),
             length: 0,
             changes: 0,
         },
@@ -264,31 +245,20 @@ pub extern "C" fn sumpquince_mend(
 
 // # The session, which is handed over by its address: its numbers are those of `session::Session`
 
-fn declared_face(d: SumpquinceDeclared) -> Declared
-    ensures { result ≡ declared_face d }
-{
-    Declared {
-        squarebonus: d.squarebonus as u64,
-        squaremultiplier: d.squaremultiplier as u64,
-        exchangebonus: d.exchangebonus as u64,
-        exchangemultiplier: d.exchangemultiplier as u64,
-        countrybonus: d.countrybonus as u64,
-        countrymultiplier: d.countrymultiplier as u64,
+impl From<SumpquinceDeclared> for Declared {
+    ghost from_gives = { λ d face. face ≡ declared_face d };
+
+    #[tactic(auto, unfolding(crate::specs::Face::declared_face))]
+    fn from(d: SumpquinceDeclared) -> Declared {
+        Declared {
+            squarebonus: d.squarebonus as u64,
+            squaremultiplier: d.squaremultiplier as u64,
+            exchangebonus: d.exchangebonus as u64,
+            exchangemultiplier: d.exchangemultiplier as u64,
+            countrybonus: d.countrybonus as u64,
+            countrymultiplier: d.countrymultiplier as u64,
+        }
     }
-}
-
-// The session started with the bonuses and multipliers as C has them.
-fn session_started(s: Session, d: SumpquinceDeclared) -> Replied
-    ensures { result ≡ started base s (declared_face d) }
-{
-    session::started(s, declared_face(d))
-}
-
-// Why a call was refused, if it was.
-fn reply_face(r: Replied) -> SumpquinceRefusal
-    ensures { result ≡ refusal_face r.refusal }
-{
-    refusal_face(r.refusal)
 }
 
 #[unsafe(no_mangle)]
@@ -299,10 +269,9 @@ pub extern "C" fn sumpquince_session_start(
     ensures { (session.new ≡ (started base session.old (declared_face declared)).session)
         × (result ≡ refusal_face (started base session.old (declared_face declared)).refusal) }
 {
-    let t = session_started(*session, declared);
-    let s = session::session_of(t);
-    *session = s;
-    reply_face(t)
+    let t = session::started(*session, Declared::from(declared));
+    *session = t.session;
+    SumpquinceRefusal::from(t.refusal)
 }
 
 #[unsafe(no_mangle)]
@@ -318,9 +287,8 @@ pub extern "C" fn sumpquince_session_take(
         × (result ≡ refusal_face (taken base session.old line.now verdicts.old kept.old).refusal) }
 {
     let t = session::taken(*session, line, verdicts, kept);
-    let s = session::session_of(t);
-    *session = s;
-    reply_face(t)
+    *session = t.session;
+    SumpquinceRefusal::from(t.refusal)
 }
 
 #[unsafe(no_mangle)]
@@ -333,9 +301,8 @@ pub extern "C" fn sumpquince_session_give_back(
         × (result ≡ refusal_face (given_back base session.old verdicts.now kept.now).refusal) }
 {
     let t = session::given_back(*session, verdicts, kept);
-    let s = session::session_of(t);
-    *session = s;
-    reply_face(t)
+    *session = t.session;
+    SumpquinceRefusal::from(t.refusal)
 }
 
 #[unsafe(no_mangle)]
@@ -347,16 +314,10 @@ pub extern "C" fn sumpquince_session_totals(session: Session) -> SumpquinceJudge
 
 // # The packet link
 
-fn link_face(s: Link) -> SumpquinceRefusal
-    ensures { result ≡ refusal_face s.refusal }
-{
-    refusal_face(s.refusal)
-}
-
 fn closing_face(c: Closing) -> SumpquinceJudgement
     ensures { result ≡ closing_face c }
 {
-    totals_face(refusal_face(c.refusal), c.totals)
+    totals_face(SumpquinceRefusal::from(c.refusal), c.totals)
 }
 
 #[unsafe(no_mangle)]
@@ -380,7 +341,7 @@ pub extern "C" fn sumpquince_link_feed(
 {
     let t = link::fed(*link, bytes, verdicts, worked);
     *link = t;
-    link_face(t)
+    SumpquinceRefusal::from(t.refusal)
 }
 
 #[unsafe(no_mangle)]
@@ -393,7 +354,6 @@ pub extern "C" fn sumpquince_link_close(
         × (result ≡ closing_face (close base (lent_of (length verdicts.now) (length worked.now)) link.old)) }
 {
     let t = link::closed(*link, verdicts, worked);
-    let s = link::link_of(t);
-    *link = s;
+    *link = t.link;
     closing_face(t)
 }

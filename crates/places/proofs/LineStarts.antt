@@ -49,18 +49,6 @@ module _ (s : Text) where
   line_more from i zero = rw (add-zero i)
   line_more from i (suc k) = rw (add-suc i k, line_more from i k)
 
-  lines_rise : (k d : ℕ) → line_start s k ≤ line_start s (k + d)
-  unfolding line_on
-  lines_rise k zero = rw (add-zero k) (omega arith)
-  lines_rise k (suc d) = rw (add-suc k d) (omega (arith, lines_rise k d))
-
-  -- Behind the end there are no more lines.
-  pub line_stays : (k i : ℕ) {at : ℕ} → k ≤ i → at ≡ inside (line_start s k) → at ≡ length s → at ≡ inside (line_start s i)
-  line_stays k i h e g =
-      let n : k + (i - k) ≡ i = omega arith in
-      let r : line_start s k ≤ line_start s i = rw n at (lines_rise k (i - k)) in
-      omega arith
-
   pub text_inside : (at : ℕ) → line_text_at s (inside at) ≡ line_text_at s at
   unfolding line_text_at span
   text_inside at = by (dec_le at (length s))

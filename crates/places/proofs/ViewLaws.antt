@@ -9,6 +9,8 @@ use lib.Dec.{leb}
 use lib.ListN.{length, take, drop, get_or, length-drop, drop_of_length-le}
 use lib.Seq.{length-take-le, drop-cons, drop-drop, take-nil}
 use borrow.Author.Tests.{le-leb, lt-leb, leb-true}
+use Rattle.std.specs.Prelude.{Ok, Err}
+use mathlib.Core.Logic.{◌⊎◌, inl, inr}
 use Rattle.rules.specs.declared.Refusal.{Refusal}
 use Rattle.rules.specs.Text.{Text, allowed, begins, span}
 use Rattle.rules.specs.Rules.{Rules}
@@ -19,12 +21,15 @@ use Rattle.rules.specs.Answers.{Viewing, seen, unseen, view_of_reading, argument
 use Rattle.rules.proofs.TextLaws.{span_short, take_its_length}
 use Rattle.reader.proofs.DueLaws.{entries_length}
 use Rattle.header.specs.Header.{listed_at}
-use Rattle.reader.specs.declared.Heading.{Heading}
-use Rattle.reader.specs.declared.ReadAnswer.{ReadAnswer}
+use Rattle.reader.specs.declared.Accepted.{Accepted}
 use Rattle.reader.specs.Read.{read_told, read_of}
-use Rattle.places.specs.declared.ViewRead.{ViewRead}
+use Rattle.places.specs.declared.Seen.{Seen}
 use Rattle.places.specs.Places.{line_text_at, line_start, argument_on, argument_at, part_seen, view_told, view_of}
 use Rattle.places.proofs.HeaderHeld.{argument_held, argument_starts, keyword_listed, argument_inside, argument_within}
+
+-- What is seen, by its parts.
+abbrev seen_as : ℕ → ℕ → Bool → Seen
+seen_as start size listed = record { start = start; length = size; listed = listed }
 
 -- A line ends within the text.
 pub run_within : (s : Text) (at : ℕ) → at ≤ length s → at + span allowed (drop at s) ≤ length s
@@ -43,16 +48,16 @@ module _ (s : Text) (at end : ℕ) (e : end ≡ at + span allowed (drop at s)) w
   unfolding line_text_at
   line_part = let n : end - at ≡ span allowed (drop at s) = omega arith in ap (λ (m : ℕ). take m (drop at s)) n
 
-  pub part_told : (k : ℕ) {n : ℕ} {listed : Bool} → n ≡ end - (at + 6) → listed ≡ begins (listed_at (k - 1)) (take (end - at) (drop at s)) → ViewRead.Seen (at + 6) n listed ≡ part_seen k s at
+  pub part_told : (k : ℕ) {n : ℕ} {listed : Bool} → n ≡ end - (at + 6) → listed ≡ begins (listed_at (k - 1)) (take (end - at) (drop at s)) → record { start = at + 6; length = n; listed = listed } ≡ part_seen k s at
   unfolding part_seen
-  part_told k q p = ap₂ (ViewRead.Seen (at + 6)) (q ∙ sym behind_length) (p ∙ ap (begins (listed_at (k - 1))) line_part)
+  part_told k q p = ap₂ (seen_as (at + 6)) (q ∙ sym behind_length) (p ∙ ap (begins (listed_at (k - 1))) line_part)
 
 -- The number of a keyword.
 view_law : (R : Rules) (k : ℕ) (s : Text) → view_of R k s ≡ view_told (cond (leb 1 k) (view_of_reading k (drop (k - 1) entries) (read R s)) (unseen (refusal 9 0 0)))
 unfolding view_of view
 view_law R k s = refl
 
-told_unseen : (r : Refusal) → view_told (unseen r) ≡ ViewRead.Refused r
+told_unseen : (r : Refusal) → view_told (unseen r) ≡ Err r
 unfolding view_told
 told_unseen r = refl
 
@@ -62,7 +67,7 @@ beyond k (accepted log) = refl
 beyond k (refused r) = refl
 
 module _ (R : Rules) (k : ℕ) (s : Text) where
-  pub view_none : k < 1 → ViewRead.Refused (refusal 9 0 0) ≡ view_of R k s
+  view_none : k < 1 → Err (refusal 9 0 0) ≡ view_of R k s
   view_none h =
       sym
       (view_law R k s
@@ -74,13 +79,17 @@ module _ (R : Rules) (k : ℕ) (s : Text) where
       view_law R k s
       ∙ ap (λ (b : Bool). view_told (cond b (view_of_reading k (drop (k - 1) entries) (read R s)) (unseen (refusal 9 0 0)))) (le-leb 1 k h)
 
-  pub view_beyond : 36 < k → ViewRead.Refused (refusal 9 0 0) ≡ view_of R k s
+  view_beyond : 36 < k → Err (refusal 9 0 0) ≡ view_of R k s
   view_beyond h =
       sym
       (counted_view (omega arith)
       ∙ ap (λ (es : List Entry). view_told (view_of_reading k es (read R s))) (drop_of_length-le entries {i = k - 1} (omega (arith, entries_length)))
       ∙ ap view_told (beyond k (read R s))
       ∙ told_unseen (refusal 9 0 0))
+
+  pub view_outside : (k < 1) ⊎ (36 < k) → Err (refusal 9 0 0) ≡ view_of R k s
+  view_outside (inl h) = view_none h
+  view_outside (inr h) = view_beyond h
 
   module _ (low : 1 ≤ k) (high : k ≤ 36) where
     abbrev due : Entry
@@ -93,21 +102,21 @@ module _ (R : Rules) (k : ℕ) (s : Text) where
     due_view = counted_view low ∙ ap (λ (es : List Entry). view_told (view_of_reading k es (read R s))) is_due
 
     -- What the reading says.
-    read_refused : (a : Reading) {r : Refusal} → read_told (length s) a ≡ ReadAnswer.Refused r → a ≡ refused r
+    read_refused : (a : Reading) {r : Refusal} → read_told (length s) a ≡ Err r → a ≡ refused r
     unfolding read_told
     read_refused (accepted log) q = let z : ◌≡◌ {A = ℕ} 0 1 = cc in absurd (omega arith)
     read_refused (refused r) q = cc
 
-    pub view_refused : {r : Refusal} → read_of R s ≡ ReadAnswer.Refused r → ViewRead.Refused r ≡ view_of R k s
+    pub view_refused : {r : Refusal} → read_of R s ≡ Err r → Err r ≡ view_of R k s
     unfolding read_of view_of_reading view_told
     view_refused {r} q =
         sym (due_view ∙ ap (λ (a : Reading). view_told (view_of_reading k (due ∷ drop (suc (k - 1)) entries) a)) (read_refused (read R s) q))
 
-    shown_law : (log : Log) → view_told (view_of_reading k (due ∷ drop (suc (k - 1)) entries) (accepted log)) ≡ ViewRead.Seen (argument_start log k due) (length (argument log due.keyword)) (is_listed log k due)
+    shown_law : (log : Log) → view_told (view_of_reading k (due ∷ drop (suc (k - 1)) entries) (accepted log)) ≡ Ok (seen_as (argument_start log k due) (length (argument log due.keyword)) (is_listed log k due))
     unfolding view_of_reading view_told
     shown_law log = refl
 
-    part_law : (at : ℕ) → part_seen k s at ≡ ViewRead.Seen (at + 6) (length (drop 6 (line_text_at s at))) (begins (listed_at (k - 1)) (line_text_at s at))
+    part_law : (at : ℕ) → part_seen k s at ≡ seen_as (at + 6) (length (drop 6 (line_text_at s at))) (begins (listed_at (k - 1)) (line_text_at s at))
     unfolding part_seen
     part_law at = refl
 
@@ -115,23 +124,23 @@ module _ (R : Rules) (k : ℕ) (s : Text) where
     unfolding argument_on
     argument_law = refl
 
-    seen_at : (log : Log) → read R s ≡ accepted log → part_seen k s (min (line_start s k) (length s)) ≡ view_of R k s
+    seen_at : (log : Log) → read R s ≡ accepted log → Ok (part_seen k s (min (line_start s k) (length s))) ≡ view_of R k s
     seen_at log a =
         let rest = drop (suc (k - 1)) entries in
-        ap (part_seen k s) (argument_inside R s log a k due rest low is_due)
-        ∙ part_law (line_start s k)
+        ap (λ (at : ℕ). Ok (part_seen k s at)) (argument_inside R s log a k due rest low is_due)
+        ∙ ap Ok (part_law (line_start s k))
         ∙ (λ i.
-        ViewRead.Seen (argument_starts R s log a k due rest low is_due i)
+        Ok (seen_as (argument_starts R s log a k due rest low is_due i)
         (length ((sym argument_law ∙ argument_held R s log a k due rest low is_due) i))
-        (keyword_listed R s log a k due rest low is_due i))
+        (keyword_listed R s log a k due rest low is_due i)))
         ∙ sym (due_view ∙ ap (λ (x : Reading). view_told (view_of_reading k (due ∷ drop (suc (k - 1)) entries) x)) a ∙ shown_law log)
 
-    accepted_by_lem : (a : Reading) {n f : ℕ} {c : Heading} → read_told (length s) a ≡ ReadAnswer.Accepted n f c → (log : Log) × (a ≡ accepted log)
+    accepted_by_lem : (a : Reading) {t : Accepted} → read_told (length s) a ≡ Ok t → (log : Log) × (a ≡ accepted log)
     unfolding read_told
     accepted_by_lem (accepted log) q = (log, refl)
     accepted_by_lem (refused r) q = let z : ◌≡◌ {A = ℕ} 0 1 = cc in absurd (omega arith)
 
-    pub view_seen : {n f : ℕ} {c : Heading} → read_of R s ≡ ReadAnswer.Accepted n f c → part_seen k s (min (line_start s k) (length s)) ≡ view_of R k s
+    pub view_seen : {t : Accepted} → read_of R s ≡ Ok t → Ok (part_seen k s (min (line_start s k) (length s))) ≡ view_of R k s
     unfolding read_of
     view_seen q = let g = accepted_by_lem (read R s) q in seen_at g.0 g.1
 
@@ -192,16 +201,17 @@ module _ (R : Rules) (k : ℕ) (s : Text) where
   seen_law = refl
 
   -- What a view that is told of shows.
-  shown_by_lem : (v : Viewing) {a n : ℕ} {y : Bool} → view R k s ≡ v → view_told v ≡ ViewRead.Seen a n y → (a + n ≤ length s) × (take n (drop a s) ≡ viewed (view R k s))
+  shown_by_lem : (v : Viewing) {w : Seen} → view R k s ≡ v → view_told v ≡ Ok w → (w.start + w.length ≤ length s) × (take w.length (drop w.start s) ≡ viewed (view R k s))
   unfolding view_told viewed
   shown_by_lem (unseen r) e q = let z : ◌≡◌ {A = ℕ} 0 1 = cc in absurd (omega arith)
-  shown_by_lem (seen b t l) {a} {n} e q =
-      let x : b ≡ a = cc in
-      let y : length t ≡ n = cc in
+  shown_by_lem (seen b t l) {w} e q =
+      let same : seen_as b (length t) l ≡ w = cc in
+      let x : b ≡ w.start = ap (λ (m : Seen). m.start) same in
+      let y : length t ≡ w.length = ap (λ (m : Seen). m.length) same in
       let p : Shows s b t = told_by_lem (leb 1 k) (drop (k - 1) entries) (read R s) refl refl refl (sym seen_law ∙ e) in
       (omega (arith, p.inside, x, y), ap₂ (λ (m c : ℕ). take m (drop c s)) (sym y) (sym x) ∙ p.part ∙ sym (ap viewed e))
 
-  hidden_by : (v : Viewing) {r : Refusal} → view R k s ≡ v → view_told v ≡ ViewRead.Refused r → [] ≡ viewed (view R k s)
+  hidden_by : (v : Viewing) {r : Refusal} → view R k s ≡ v → view_told v ≡ Err r → [] ≡ viewed (view R k s)
   unfolding view_told viewed
   hidden_by (unseen r) e q = sym (ap viewed e)
   hidden_by (seen b t x) e q = let z : ◌≡◌ {A = ℕ} 0 1 = cc in absurd (omega arith)
@@ -210,25 +220,27 @@ module _ (R : Rules) (k : ℕ) (s : Text) where
   unfolding view_of
   told_law = refl
 
-  pub view_shows : {a n : ℕ} {y : Bool} → view_of R k s ≡ ViewRead.Seen a n y → (a + n ≤ length s) × (take n (drop a s) ≡ viewed (view R k s))
+  pub view_shows : {w : Seen} → view_of R k s ≡ Ok w → (w.start + w.length ≤ length s) × (take w.length (drop w.start s) ≡ viewed (view R k s))
   view_shows q = shown_by_lem (view R k s) refl (sym told_law ∙ q)
 
-  pub view_hides : {r : Refusal} → view_of R k s ≡ ViewRead.Refused r → [] ≡ viewed (view R k s)
+  pub view_hides : {r : Refusal} → view_of R k s ≡ Err r → [] ≡ viewed (view R k s)
   view_hides q = hidden_by (view R k s) refl (sym told_law ∙ q)
 
   -- Where it begins.
-  starts_by : (v : Viewing) {a n : ℕ} {y : Bool} → view R k s ≡ v → view_told v ≡ ViewRead.Seen a n y → a ≡ start_of_view (view R k s)
+  starts_by : (v : Viewing) {w : Seen} → view R k s ≡ v → view_told v ≡ Ok w → w.start ≡ start_of_view (view R k s)
   unfolding view_told start_of_view
   starts_by (unseen r) e q = let z : ◌≡◌ {A = ℕ} 0 1 = cc in absurd (omega arith)
-  starts_by (seen b t l) {a} e q = let x : b ≡ a = cc in sym (ap start_of_view e ∙ x)
+  starts_by (seen b t l) {w} e q =
+      let same : seen_as b (length t) l ≡ w = cc in
+      sym (ap start_of_view e ∙ ap (λ (m : Seen). m.start) same)
 
-  none_starts_by : (v : Viewing) {r : Refusal} → view R k s ≡ v → view_told v ≡ ViewRead.Refused r → 0 ≡ start_of_view (view R k s)
+  none_starts_by : (v : Viewing) {r : Refusal} → view R k s ≡ v → view_told v ≡ Err r → 0 ≡ start_of_view (view R k s)
   unfolding view_told start_of_view
   none_starts_by (unseen r) e q = sym (ap start_of_view e)
   none_starts_by (seen b t x) e q = let z : ◌≡◌ {A = ℕ} 0 1 = cc in absurd (omega arith)
 
-  pub view_starts : {a n : ℕ} {y : Bool} → view_of R k s ≡ ViewRead.Seen a n y → a ≡ start_of_view (view R k s)
+  pub view_starts : {w : Seen} → view_of R k s ≡ Ok w → w.start ≡ start_of_view (view R k s)
   view_starts q = starts_by (view R k s) refl (sym told_law ∙ q)
 
-  pub view_starts_nowhere : {r : Refusal} → view_of R k s ≡ ViewRead.Refused r → 0 ≡ start_of_view (view R k s)
+  pub view_starts_nowhere : {r : Refusal} → view_of R k s ≡ Err r → 0 ≡ start_of_view (view R k s)
   view_starts_nowhere q = none_starts_by (view R k s) refl (sym told_law ∙ q)

@@ -1,6 +1,7 @@
 -- Where the lines of a log lie, and what is told of those of its keywords. Each definition gives an answer for every text.
 -- Assumes nothing.
-use Rattle.std.specs.Prelude.{ℕ, zero, suc, ◌+◌, ◌-◌, length, take, drop}
+use Rattle.std.specs.Prelude.{ℕ, zero, suc, ◌+◌, ◌-◌, length, take, drop, Result, Ok, Err}
+use Rattle.rules.specs.declared.Refusal.{Refusal}
 use Rattle.rules.specs.Text.{Text, allowed, begins, span}
 use Rattle.rules.specs.Rules.{Rules}
 use Rattle.rules.specs.Arguments.{bonus, multiplier, part}
@@ -8,7 +9,7 @@ use Rattle.rules.specs.Answers.{Viewing, seen, unseen, view}
 use Rattle.header.specs.Header.{listed_at}
 use Rattle.reader.specs.Contact.{value_by}
 use Rattle.places.specs.declared.Declared.{Declared}
-use Rattle.places.specs.declared.ViewRead.{ViewRead}
+use Rattle.places.specs.declared.Seen.{Seen}
 
 -- The allowed characters from a place on: in an accepted log, the line that begins there.
 unfoldable pub line_text_at : Text → ℕ → Text
@@ -51,16 +52,20 @@ declared_at R s claims =
 -- # Views
 
 -- The part behind the six characters of the k-th keyword and its `=`, on the line that begins at a place, and how the keyword is spelt there.
-unfoldable pub part_seen : ℕ → Text → ℕ → ViewRead
+unfoldable pub part_seen : ℕ → Text → ℕ → Seen
 unfolding line_text_at begins listed_at
 part_seen k s at =
-    ViewRead.Seen (at + 6) (length (drop 6 (line_text_at s at))) (begins (listed_at (k - 1)) (line_text_at s at))
+    record {
+      start = at + 6;
+      length = length (drop 6 (line_text_at s at));
+      listed = begins (listed_at (k - 1)) (line_text_at s at);
+    }
 
 -- The code's word for each case of a view.
-unfoldable pub view_told : Viewing → ViewRead
-view_told (seen start t listed) = ViewRead.Seen start (length t) listed
-view_told (unseen r) = ViewRead.Refused r
+unfoldable pub view_told : Viewing → Result Seen Refusal
+view_told (seen start t listed) = Ok (record { start = start; length = length t; listed = listed })
+view_told (unseen r) = Err r
 
-unfoldable pub view_of : Rules → ℕ → Text → ViewRead
+unfoldable pub view_of : Rules → ℕ → Text → Result Seen Refusal
 unfolding view_told view
 view_of R k s = view_told (view R k s)

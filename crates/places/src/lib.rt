@@ -12,8 +12,8 @@ ghost use Rattle.header.specs.Header.{listed_at};
 ghost use Rattle.reader.specs.Contact.{value_by};
 ghost use Rattle.places.specs.Places.{declared_at, line_start, line_text_at, part_seen, view_of};
 
-use figures::{NumberRead, bonus_of, multiplier_of};
-use reader::{ReadAnswer, allowed_run, field_end};
+use figures::{bonus_of, multiplier_of, value_of};
+use reader::{allowed_run, field_end};
 use rules::Refusal;
 
 // The bonuses and multipliers that a log declares.
@@ -32,14 +32,7 @@ pub struct Declared {
 fn next_line(s: &[u8], at: usize) -> usize
     ensures { result ≡ min (at + span allowed (drop at s.now) + 2) (length s.now) }
 {
-    let end = allowed_run(s, at);
-    if s.len() <= end {
-        return s.len();
-    }
-    if s.len() - end <= 2 {
-        return s.len();
-    }
-    end + 2
+    allowed_run(s, at).saturating_add(2).min(s.len())
 }
 
 // The place of the line behind so many lines, or the log's end where there are not so many.
@@ -47,13 +40,8 @@ fn line_start(s: &[u8], i: usize) -> usize
     ensures { result ≡ min (line_start s.now i) (length s.now) }
 {
     let mut at = 0;
-    let mut k = 0;
-    while k < i {
-        if at == s.len() {
-            return at;
-        }
+    for _ in 0..i {
         at = next_line(s, at);
-        k += 1;
     }
     at
 }
@@ -65,24 +53,6 @@ pub struct Rates {
     pub multiplier: u64,
 }
 
-fn bonus_at(line: &[u8], at: usize) -> u64
-    ensures { result ≡ value_by (bonus base) (text_at line.now at) }
-{
-    let NumberRead::Number(value, _) = bonus_of(line, at) else {
-        return 0;
-    };
-    value
-}
-
-fn multiplier_at(line: &[u8], at: usize) -> u64
-    ensures { result ≡ value_by (multiplier base) (text_at line.now at) }
-{
-    let NumberRead::Number(value, _) = multiplier_of(line, at) else {
-        return 0;
-    };
-    value
-}
-
 // The argument begins behind the six characters of its keyword and `=`; its first part, a count, is passed over.
 pub fn rates_of(line: &[u8]) -> Rates
     ensures bonus { result.bonus ≡ value_by (bonus base) (part 1 (drop 6 line.now)) }
@@ -91,8 +61,8 @@ pub fn rates_of(line: &[u8]) -> Rates
     let second = field_end(line, 6) + 1;
     let third = field_end(line, second) + 1;
     Rates {
-        bonus: bonus_at(line, second),
-        multiplier: multiplier_at(line, third),
+        bonus: value_of(bonus_of(line, second)),
+        multiplier: value_of(multiplier_of(line, third)),
     }
 }
 
@@ -126,16 +96,13 @@ pub fn declared_at(s: &[u8], claims: usize) -> Declared
     }
 }
 
-// A view: the argument's part of an accepted log, or why there is none.
+// What a view shows: the argument's part of an accepted log.
 #[derive(Clone, Copy)]
-pub enum ViewRead {
-    Seen {
-        start: usize,
-        length: usize,
-        // The keyword is spelt as it is listed.
-        listed: bool,
-    },
-    Refused(Refusal),
+pub struct Seen {
+    pub start: usize,
+    pub length: usize,
+    // The keyword is spelt as it is listed.
+    pub listed: bool,
 }
 
 // A line begins with the keyword that comes after so many, spelt as it is listed.
@@ -147,7 +114,7 @@ fn is_listed(k: usize, line: &[u8]) -> bool
 }
 
 // The part behind the keyword and its `=` of the line behind so many lines, and how the keyword is spelt.
-fn argument_part(log: &[u8], k: usize) -> ViewRead
+fn argument_part(log: &[u8], k: usize) -> Seen
     requires { 1 ≤ k }
     ensures { result ≡ part_seen k log.now (min (line_start log.now k) (length log.now)) }
 {
@@ -155,47 +122,22 @@ fn argument_part(log: &[u8], k: usize) -> ViewRead
     let end = allowed_run(log, at);
     let listed = is_listed(k - 1, &log[at..end]);
     let start = at + 6;
-    if end < start {
-        return ViewRead::Seen {
-            start: start,
-            length: 0,
-            listed,
-        };
-    }
-    ViewRead::Seen {
-        start: start,
-        length: end - start,
+    Seen {
+        start,
+        length: end.saturating_sub(start),
         listed,
     }
 }
 
-// The view of a keyword, by its number, 1 to 36.
-pub fn view(log: &[u8], k: usize) -> ViewRead
+// The view of a keyword, by its number, 1 to 36, or why there is none.
+pub fn view(log: &[u8], k: usize) -> Result<Seen, Refusal>
     ensures { result ≡ view_of base k log.now }
 {
-    if k < 1 {
-        return ViewRead::Refused(Refusal {
-            number: 9,
-            line: 0,
-            field: 0,
-        });
+    if !(1..=36).contains(&k) {
+        return Err(rules::refused(9));
     }
-    if 36 < k {
-        return ViewRead::Refused(Refusal {
-            number: 9,
-            line: 0,
-            field: 0,
-        });
-    }
-    let answer = reader::read(log);
-    match answer {
-        ReadAnswer::Refused(refusal) => ViewRead::Refused(refusal),
-        ReadAnswer::Accepted {
-            records: _,
-            first: _,
-            heading: _,
-        } => argument_part(log, k),
-    }
+    reader::read(log)?;
+    Ok(argument_part(log, k))
 }
 
 // The part of the log that a view shows, where it lies: nothing, at the front, where there is none.
@@ -204,16 +146,8 @@ pub fn viewed(log: &[u8], k: usize) -> &[u8]
     ensures block { result.ref_ptr.0 ≡ log.entry.ref_ptr.0 }
     ensures place { result.ref_ptr.1 ≡ log.entry.ref_ptr.1 + start_of_view (view base k log.now) }
 {
-    let seen = view(log, k);
-    match seen {
-        ViewRead::Refused(_) => &log[0..0],
-        ViewRead::Seen {
-            start,
-            length,
-            listed: _,
-        } => {
-            let end = start + length;
-            &log[start..end]
-        }
+    match view(log, k) {
+        Err(_) => &log[0..0],
+        Ok(seen) => &log[seen.start..seen.start + seen.length],
     }
 }

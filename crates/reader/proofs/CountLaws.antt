@@ -1,16 +1,17 @@
 -- The semicolons of a line are one less than its parts, and so tell whether a bad field is told.
 -- Assumes nothing.
-use Prim.Native.Nat.{ℕ, ◌+◌, ◌≤◌, ◌<◌}
+use Prim.Native.Nat.{ℕ, ◌+◌, ◌<◌}
 use native.Mathlib.Omega.{arith}
-use mathlib.Core.Path.{◌≡◌, refl}
+use mathlib.Core.Path.{◌≡◌, refl, ap, ◌∙◌}
 use mathlib.Core.Bool.{Bool, true, false, cond}
 use mathlib.Core.List.{List, [], ◌∷◌}
 use lib.Dec.{eqb}
-use lib.ListN.{length, drop, get_or, drop_of_length-le}
+use lib.ListN.{length}
 use borrow.Author.Tests.{eq-eqb, ne_eqb}
+use Rattle.std.specs.List.{count_by}
+use Rattle.std.proofs.lemmas.List.Sums.{sum_by-cons}
+use Rattle.rules.specs.Reading.{fault}
 use Rattle.rules.specs.Text.{Text, before, parts}
-use Rattle.fields.proofs.FieldLaws.{next}
-use Rattle.reader.specs.declared.RecordRead.{RecordRead}
 use Rattle.reader.specs.Line.{semicolons_in}
 use Rattle.reader.specs.Record.{broken_at}
 
@@ -28,26 +29,18 @@ semicolons_parts (c ∷ l) = by (eqb c 59) (semicolons_parts l)
     by true h = omega arith
     by false h = omega (arith, before_as_many c (parts l) (omega arith))
 
--- One character after the other.
-module _ (l : Text) (i : ℕ) (h : i < length l) where
-  pub one_semicolon : get_or l i 0 ≡ 59 → semicolons_in (drop i l) ≡ 1 + semicolons_in (drop (i + 1) l)
-  unfolding semicolons_in
-  one_semicolon e = rw (next l i h, eq-eqb (get_or l i 0) 59 e)
-
-  pub no_semicolon : (get_or l i 0 ≡ 59 → ⊥) → semicolons_in (drop i l) ≡ semicolons_in (drop (i + 1) l)
-  unfolding semicolons_in
-  no_semicolon e = rw (next l i h, ne_eqb (get_or l i 0) 59 e) (omega arith)
-
-pub none_left : (l : Text) (i : ℕ) → length l ≤ i → semicolons_in (drop i l) ≡ 0
+-- So many characters of the text are semicolons.
+pub semicolons_by : (l : Text) → count_by (λ c. eqb c 59) l ≡ semicolons_in l
 unfolding semicolons_in
-none_left l i h = rw (drop_of_length-le l h)
+semicolons_by [] = refl
+semicolons_by (c ∷ l) = sum_by-cons (λ d. cond (eqb d 59) 1 0) c l ∙ ap (λ (n : ℕ). cond (eqb c 59) 1 0 + n) (semicolons_by l)
 
 -- What is told of a bad field.
 module _ (l : Text) (field : ℕ) {n : ℕ} (e : n ≡ semicolons_in l) where
-  pub right_count : n ≡ 14 → RecordRead.Stops 5 field ≡ broken_at l field
+  pub right_count : n ≡ 14 → fault 5 field ≡ broken_at l field
   unfolding broken_at
   right_count h = rw (eq-eqb (length (parts l)) 15 (omega (arith, semicolons_parts l)))
 
-  pub wrong_count : (n ≡ 14 → ⊥) → RecordRead.Stops 5 0 ≡ broken_at l field
+  pub wrong_count : (n ≡ 14 → ⊥) → fault 5 0 ≡ broken_at l field
   unfolding broken_at
   wrong_count h = rw (ne_eqb (length (parts l)) 15 (λ k. h (omega (arith, semicolons_parts l))))

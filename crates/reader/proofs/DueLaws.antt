@@ -9,22 +9,21 @@ use mathlib.Core.List.{[], ◌∷◌}
 use lib.Dec.{ltb}
 use lib.ListN.{length, take, drop, get_or, length-append, length-drop, get_or-map, drop_of_length-le}
 use lib.Seq.{drop-cons, take_all}
+use Rattle.std.specs.Prelude.{Ok, Err, Result}
+use Rattle.rules.specs.declared.Fault.{Fault}
 use Rattle.rules.specs.Text.{Text, same, begins}
 use Rattle.rules.specs.Rules.{Rules}
 use Rattle.rules.specs.declared.Due.{Due}
-use Rattle.rules.specs.declared.Next.{Next}
 use Rattle.rules.specs.Arguments.{Entry, entries, anything, meets}
 use Rattle.rules.specs.Log.{identifier, remarks_line, keyword_start, keywords_of, count_start}
-use Rattle.rules.specs.Reading.{RecordRule, keeps, breaks, record_rule, records_due, whole, spelling_on, argument_on, has_keyword, keyword_line, keyword_due, count_rule, after_record, step}
+use Rattle.rules.specs.Reading.{RecordRule, keeps, breaks, record_rule, records_due, whole, spelling_on, argument_on, has_keyword, keyword_line, keyword_due, count_rule, after_record, step, fault}
 use borrow.Author.Tests.{le-ltb, lt-ltb}
 use Rattle.rules.proofs.SpellingLaws.{case_length, length_start, keyword_has, listed_has, listed_spelt}
 use Rattle.header.specs.declared.KeywordRead.{KeywordRead}
-use Rattle.header.specs.declared.ArgumentRead.{ArgumentRead}
 use Rattle.header.specs.Header.{first_keyword, keyword_at, first_argument, argument_of}
 use Rattle.header.proofs.WordLaws.{begins_short}
 use Rattle.header.proofs.TableLaws.{word_length, keyword_beyond}
 use Rattle.reader.specs.declared.Contact.{Contact}
-use Rattle.reader.specs.declared.RecordRead.{RecordRead}
 use Rattle.reader.specs.Contact.{contact_at}
 use Rattle.reader.specs.Record.{record_on, told_by}
 use Rattle.reader.specs.Read.{after_argument, says_respelt, respelt_by, step_of}
@@ -32,11 +31,11 @@ use Rattle.reader.specs.declared.Stepped.{Stepped}
 
 -- A line that has to be these words.
 module _ (words line : Text) (next : Due) where
-  pub whole_same : same line words ≡ true → Next.Goes next ≡ whole words line next
+  pub whole_same : same line words ≡ true → Ok next ≡ whole words line next
   unfolding whole
   whole_same e = rw e
 
-  pub whole_other : same line words ≡ false → Next.Stops 3 0 ≡ whole words line next
+  pub whole_other : same line words ≡ false → Err (fault 3 0) ≡ whole words line next
   unfolding whole
   whole_other e = rw e
 
@@ -153,7 +152,7 @@ has_long e line h =
     )
 
 module _ (R : Rules) where
-  argument_by : (k : ℕ) (t : Text) → k < 36 → argument_of R k t ≡ cond (meets R (entry_at k).rule t) ArgumentRead.Kept ArgumentRead.Broken
+  argument_by : (k : ℕ) (t : Text) → k < 36 → argument_of R k t ≡ meets R (entry_at k).rule t
   unfolding argument_of first_argument
   argument_by k t h = rw (entry_due k h)
 
@@ -179,19 +178,19 @@ module _ (R : Rules) where
   -- A keyword's line by its two tests.
   line_law : (e : Entry) (line : Text) (next : Due) →
       keyword_line R e line next
-      ≡ cond (has_keyword e line) (cond (meets R e.rule (drop (length (keyword_start e.keyword)) line)) (Next.Goes next) (Next.Stops 4 0)) (Next.Stops 3 0)
+      ≡ cond (has_keyword e line) (cond (meets R e.rule (drop (length (keyword_start e.keyword)) line)) (Ok next) (Err (fault 4 0))) (Err (fault 3 0))
   unfolding keyword_line argument_on
   line_law e line next = refl
 
   module _ (k : ℕ) (line : Text) where
-    none_left : 36 ≤ k → Next.Stops 3 0 ≡ keyword_due R (drop k entries) k line
+    none_left : 36 ≤ k → Err (fault 3 0) ≡ keyword_due R (drop k entries) k line
     unfolding keyword_due
     none_left h = rw (drop_of_length-le entries {i = k} (omega (arith, entries_length)))
 
-    keyword_differs : keyword_at k line ≡ KeywordRead.Differs → Next.Stops 3 0 ≡ keyword_due R (drop k entries) k line
+    keyword_differs : keyword_at k line ≡ KeywordRead.Differs → Err (fault 3 0) ≡ keyword_due R (drop k entries) k line
     keyword_differs e = by (dec_lt k 36)
       where
-        by : Dec (k < 36) → Next.Stops 3 0 ≡ keyword_due R (drop k entries) k line
+        by : Dec (k < 36) → Err (fault 3 0) ≡ keyword_due R (drop k entries) k line
         by (yes h) = sym (due_by k line h ∙ line_law (entry_at k) line (behind_keyword k) ∙ rw (no_keyword k line e h))
         by (no h) = none_left (omega arith)
 
@@ -206,22 +205,22 @@ module _ (R : Rules) where
           ap (λ (t : Text). after_argument k (argument_of R k t)) (behind 6 line)
           ∙ ap (after_argument k) (argument_by k (drop 6 line) s.within)
           ∙ by (meets R (entry_at k).rule (drop 6 line))
-          ∙ ap (λ (n : ℕ). cond (meets R (entry_at k).rule (drop n line)) (Next.Goes (behind_keyword k)) (Next.Stops 4 0)) (sym (start_six k s.within))
+          ∙ ap (λ (n : ℕ). cond (meets R (entry_at k).rule (drop n line)) (Ok (behind_keyword k)) (Err (fault 4 0))) (sym (start_six k s.within))
           ∙ sym (due_by k line s.within ∙ line_law (entry_at k) line (behind_keyword k) ∙ rw s.has)
         where
-          by : (b : Bool) → after_argument k (cond b ArgumentRead.Kept ArgumentRead.Broken) ≡ cond b (Next.Goes (behind_keyword k)) (Next.Stops 4 0)
+          by : (b : Bool) → after_argument k b ≡ cond b (Ok (behind_keyword k)) (Err (fault 4 0))
           by true = refl
           by false = refl
 
     -- A line that is taken has its keyword.
-    pub keyword_stands : {next : Due} → step R (Due.Keyword k) line ≡ Next.Goes next → Stands k line
+    pub keyword_stands : {next : Due} → step R (Due.Keyword k) line ≡ Ok next → Stands k line
     unfolding step
     keyword_stands {next} q = by (keyword_at k line) refl
       where
         by : (r : KeywordRead) → keyword_at k line ≡ r → Stands k line
         by KeywordRead.Listed e = stands_listed k line e
         by KeywordRead.Respelt e = stands_respelt k line e
-        by KeywordRead.Differs e = let z : Next.Stops 3 0 ≡ Next.Goes next = keyword_differs e ∙ q in let y : ◌≡◌ {A = ℕ} 0 1 = cc in absurd (omega arith)
+        by KeywordRead.Differs e = let z : Err (fault 3 0) ≡ Ok next = keyword_differs e ∙ q in let y : ◌≡◌ {A = ℕ} 0 1 = cc in absurd (omega arith)
 
     -- The step's answer in each of the three cases.
     at_due_keyword : step R (Due.Keyword k) line ≡ keyword_due R (drop k entries) k line
@@ -229,42 +228,42 @@ module _ (R : Rules) where
     at_due_keyword = refl
 
     module _ (before : ℕ) where
-      stepped_by : {next : Next} {r : KeywordRead} {count : ℕ} → keyword_at k line ≡ r → next ≡ keyword_due R (drop k entries) k line → count ≡ before + cond (says_respelt r) 1 0 → record { next = next; respelt = count } ≡ step_of R before (Due.Keyword k) line
+      stepped_by : {next : Result Due Fault} {r : KeywordRead} {count : ℕ} → keyword_at k line ≡ r → next ≡ keyword_due R (drop k entries) k line → count ≡ before + cond (says_respelt r) 1 0 → record { next = next; respelt = count } ≡ step_of R before (Due.Keyword k) line
       unfolding step_of respelt_by
       stepped_by e q n =
-          ap₂ (λ (x : Next) (c : ℕ). record { next = x; respelt = c }) (q ∙ sym at_due_keyword) (n ∙ ap (λ (x : KeywordRead). before + cond (says_respelt x) 1 0) (sym e))
+          ap₂ (λ (x : Result Due Fault) (c : ℕ). record { next = x; respelt = c }) (q ∙ sym at_due_keyword) (n ∙ ap (λ (x : KeywordRead). before + cond (says_respelt x) 1 0) (sym e))
 
-      pub step_differs : keyword_at k line ≡ KeywordRead.Differs → record { next = Next.Stops 3 0; respelt = before } ≡ step_of R before (Due.Keyword k) line
+      pub step_differs : keyword_at k line ≡ KeywordRead.Differs → record { next = Err (fault 3 0); respelt = before } ≡ step_of R before (Due.Keyword k) line
       step_differs e = stepped_by e (keyword_differs e) (omega arith)
 
-      pub step_listed : {next : Next} {count : ℕ} → keyword_at k line ≡ KeywordRead.Listed → next ≡ after_argument k (argument_of R k (take (length line - 6) (drop 6 line))) → count ≡ before → record { next = next; respelt = count } ≡ step_of R before (Due.Keyword k) line
+      pub step_listed : {next : Result Due Fault} {count : ℕ} → keyword_at k line ≡ KeywordRead.Listed → next ≡ after_argument k (argument_of R k (take (length line - 6) (drop 6 line))) → count ≡ before → record { next = next; respelt = count } ≡ step_of R before (Due.Keyword k) line
       step_listed e q n = stepped_by e (q ∙ argument_leads (stands_listed k line e)) (omega arith)
 
-      pub step_respelt : {next : Next} {count : ℕ} → keyword_at k line ≡ KeywordRead.Respelt → next ≡ after_argument k (argument_of R k (take (length line - 6) (drop 6 line))) → count ≡ before + 1 → record { next = next; respelt = count } ≡ step_of R before (Due.Keyword k) line
+      pub step_respelt : {next : Result Due Fault} {count : ℕ} → keyword_at k line ≡ KeywordRead.Respelt → next ≡ after_argument k (argument_of R k (take (length line - 6) (drop 6 line))) → count ≡ before + 1 → record { next = next; respelt = count } ≡ step_of R before (Due.Keyword k) line
       step_respelt e q n = stepped_by e (q ∙ argument_leads (stands_respelt k line e)) n
 
 -- The argument's two cases.
 module _ (k : ℕ) where
-  pub argument_breaks : {r : ArgumentRead} → r ≡ ArgumentRead.Broken → Next.Stops 4 0 ≡ after_argument k r
+  pub argument_breaks : {kept : Bool} → kept ≡ false → Err (fault 4 0) ≡ after_argument k kept
   unfolding after_argument
   argument_breaks e = ap (after_argument k) (sym e)
 
-  pub keyword_follows : {r : ArgumentRead} → r ≡ ArgumentRead.Kept → k < 35 → Next.Goes (Due.Keyword (k + 1)) ≡ after_argument k r
+  pub keyword_follows : {kept : Bool} → kept ≡ true → k < 35 → Ok (Due.Keyword (k + 1)) ≡ after_argument k kept
   unfolding after_argument
   keyword_follows e h =
-      ap (λ (b : Bool). Next.Goes (cond b (Due.Keyword (k + 1)) Due.Remarks)) (sym (lt-ltb k 35 h)) ∙ ap (after_argument k) (sym e)
+      ap (λ (b : Bool). Ok (cond b (Due.Keyword (k + 1)) Due.Remarks)) (sym (lt-ltb k 35 h)) ∙ ap (after_argument k) (sym e)
 
-  pub remarks_follow : {r : ArgumentRead} → r ≡ ArgumentRead.Kept → 35 ≤ k → Next.Goes Due.Remarks ≡ after_argument k r
+  pub remarks_follow : {kept : Bool} → kept ≡ true → 35 ≤ k → Ok Due.Remarks ≡ after_argument k kept
   unfolding after_argument
   remarks_follow e h =
-      ap (λ (b : Bool). Next.Goes (cond b (Due.Keyword (k + 1)) Due.Remarks)) (sym (le-ltb k 35 h)) ∙ ap (after_argument k) (sym e)
+      ap (λ (b : Bool). Ok (cond b (Due.Keyword (k + 1)) Due.Remarks)) (sym (le-ltb k 35 h)) ∙ ap (after_argument k) (sym e)
 
 -- Among the remarks.
 start_length : length count_start ≡ 12
 unfolding count_start
 start_length = refl
 
-remark_law : (R : Rules) (line : Text) → step R Due.Remark line ≡ cond (begins count_start line) (count_rule R (drop (length count_start) line)) (Next.Goes Due.Remark)
+remark_law : (R : Rules) (line : Text) → step R Due.Remark line ≡ cond (begins count_start line) (count_rule R (drop (length count_start) line)) (Ok Due.Remark)
 unfolding step
 remark_law R line = refl
 
@@ -272,28 +271,28 @@ module _ (R : Rules) (line : Text) where
   pub count_long : begins count_start line ≡ true → 12 ≤ length line
   count_long e = omega (arith, start_length, begins_long count_start line e)
 
-  pub count_line : {r : Next} → begins count_start line ≡ true → r ≡ count_rule R (take (length line - 12) (drop 12 line)) → r ≡ step R Due.Remark line
+  pub count_line : {r : Result Due Fault} → begins count_start line ≡ true → r ≡ count_rule R (take (length line - 12) (drop 12 line)) → r ≡ step R Due.Remark line
   count_line e q =
       q
       ∙ ap (count_rule R) (behind 12 line)
       ∙ ap (λ (n : ℕ). count_rule R (drop n line)) (sym start_length)
-      ∙ ap (λ (b : Bool). cond b (count_rule R (drop (length count_start) line)) (Next.Goes Due.Remark)) (sym e)
+      ∙ ap (λ (b : Bool). cond b (count_rule R (drop (length count_start) line)) (Ok Due.Remark)) (sym e)
       ∙ sym (remark_law R line)
 
-  pub a_remark : begins count_start line ≡ false → Next.Goes Due.Remark ≡ step R Due.Remark line
+  pub a_remark : begins count_start line ≡ false → Ok Due.Remark ≡ step R Due.Remark line
   a_remark e =
-      ap (λ (b : Bool). cond b (count_rule R (drop (length count_start) line)) (Next.Goes Due.Remark)) (sym e) ∙ sym (remark_law R line)
+      ap (λ (b : Bool). cond b (count_rule R (drop (length count_start) line)) (Ok Due.Remark)) (sym e) ∙ sym (remark_law R line)
 
 -- What is told of a record says whether it keeps its rules.
-pub kept_told : (c : Contact) (r : RecordRule) {d : Contact} → told_by c r ≡ RecordRead.Kept d → r ≡ keeps
+pub kept_told : (c : Contact) (r : RecordRule) {d : Contact} → told_by c r ≡ Ok d → r ≡ keeps
 unfolding told_by
 kept_told c keeps e = refl
 kept_told c (breaks f) e = let z : ◌≡◌ {A = ℕ} 0 1 = cc in absurd (omega arith)
 
-pub stops_told : (c : Contact) (r : RecordRule) {number field : ℕ} → told_by c r ≡ RecordRead.Stops number field → (number ≡ 5) × (r ≡ breaks field)
+pub stops_told : (c : Contact) (r : RecordRule) {f : Fault} → told_by c r ≡ Err f → (f.number ≡ 5) × (r ≡ breaks f.field)
 unfolding told_by
 stops_told c keeps e = let z : ◌≡◌ {A = ℕ} 0 1 = cc in absurd (omega arith)
-stops_told c (breaks g) {number} {field} e = let h : g ≡ field = cc in (cc, ap breaks h)
+stops_told c (breaks g) {f} e = let h : fault 5 g ≡ f = cc in (ap (λ (x : Fault). x.number) (sym h), ap (λ (x : Fault). breaks x.field) h)
 
 -- A record.
 module _ (R : Rules) (n : ℕ) (line : Text) where
@@ -305,33 +304,29 @@ module _ (R : Rules) (n : ℕ) (line : Text) where
   unfolding record_on
   told_law = refl
 
-  kept_goes : {c : Contact} → record_on R line ≡ RecordRead.Kept c → step R (Due.Record n) line ≡ Next.Goes (records_due (n - 1))
+  kept_goes : {c : Contact} → record_on R line ≡ Ok c → step R (Due.Record n) line ≡ Ok (records_due (n - 1))
   unfolding after_record
   kept_goes e =
       record_law ∙ ap (after_record n) (kept_told (contact_at R line 0) (record_rule R line) (sym told_law ∙ e))
 
-  pub record_last : {c : Contact} → record_on R line ≡ RecordRead.Kept c → n ≡ 0 → Next.Goes Due.End ≡ step R (Due.Record n) line
-  unfolding records_due
-  record_last e z = sym (kept_goes e ∙ ap (λ (m : ℕ). Next.Goes (records_due (m - 1))) z)
+  pub record_next_lem : {c : Contact} {d : Due} → record_on R line ≡ Ok c → d ≡ records_due (n - 1) → Ok d ≡ step R (Due.Record n) line
+  record_next_lem e q = ap Ok q ∙ sym (kept_goes e)
 
-  pub record_next_lem : {c : Contact} {d : Due} → record_on R line ≡ RecordRead.Kept c → d ≡ records_due (n - 1) → Next.Goes d ≡ step R (Due.Record n) line
-  record_next_lem e q = ap Next.Goes q ∙ sym (kept_goes e)
-
-  pub record_bad : {number field : ℕ} → record_on R line ≡ RecordRead.Stops number field → Next.Stops number field ≡ step R (Due.Record n) line
+  pub record_bad : {f : Fault} → record_on R line ≡ Err f → Err f ≡ step R (Due.Record n) line
   unfolding after_record
-  record_bad {number} {field} e =
+  record_bad {f} e =
       let q = stops_told (contact_at R line 0) (record_rule R line) (sym told_law ∙ e) in
-      ap (λ (k : ℕ). Next.Stops k field) q.0 ∙ sym (record_law ∙ ap (after_record n) q.1)
+      ap (λ (k : ℕ). Err (fault k f.field)) q.0 ∙ sym (record_law ∙ ap (after_record n) q.1)
 
 -- The step goes by what is due; only a keyword has a spelling.
 module _ (R : Rules) (before : ℕ) (line : Text) where
-  abbrev plainly : Next → Stepped
+  abbrev plainly : Result Due Fault → Stepped
   plainly next = record { next = next; respelt = before }
 
-  no_more_respelt : (next : Next) → plainly next ≡ record { next = next; respelt = before + 0 }
+  no_more_respelt : (next : Result Due Fault) → plainly next ≡ record { next = next; respelt = before + 0 }
   no_more_respelt next = let none : before ≡ before + 0 = omega arith in ap (λ (n : ℕ). record { next = next; respelt = n }) none
 
-  module _ {r : Next} where
+  module _ {r : Result Due Fault} where
     pub at_identifier : (due : Due) → due ≡ Due.Identifier → r ≡ whole identifier line (Due.Keyword 0) → plainly r ≡ step_of R before due line
     unfolding step step_of respelt_by
     at_identifier due e q = ap plainly q ∙ no_more_respelt (whole identifier line (Due.Keyword 0)) ∙ ap (λ (d : Due). step_of R before d line) (sym e)
@@ -348,13 +343,6 @@ module _ (R : Rules) (before : ℕ) (line : Text) where
     unfolding step_of respelt_by
     at_record {n} due e q = ap plainly q ∙ no_more_respelt (step R (Due.Record n) line) ∙ ap (λ (d : Due). step_of R before d line) (sym e)
 
-  pub at_due : (due : Due) {r : Stepped} {d : Due} → due ≡ d → r ≡ step_of R before d line → r ≡ step_of R before due line
-  at_due due e q = q ∙ ap (λ (x : Due). step_of R before x line) (sym e)
-
-  pub at_end_lem : (due : Due) {r : Stepped} → due ≡ Due.End → r ≡ step_of R before Due.End [] → r ≡ step_of R before due line
-  unfolding step step_of respelt_by
-  at_end_lem due e q = q ∙ ap (λ (d : Due). step_of R before d line) (sym e)
-
-pub nothing_due : (R : Rules) (before : ℕ) → record { next = Next.Stops 6 0; respelt = before } ≡ step_of R before Due.End []
-unfolding step step_of respelt_by
-nothing_due R before = no_more_respelt R before [] (Next.Stops 6 0)
+    pub at_end_lem : (due : Due) → due ≡ Due.End → r ≡ Err (fault 6 0) → plainly r ≡ step_of R before due line
+    unfolding step step_of respelt_by
+    at_end_lem due e q = ap plainly q ∙ no_more_respelt (Err (fault 6 0)) ∙ ap (λ (d : Due). step_of R before d line) (sym e)

@@ -6,6 +6,8 @@ use mathlib.Core.Path.{◌≡◌, refl, sym, ap, subst, ◌∙◌}
 use mathlib.Core.List.{[], ◌∷◌, ◌++◌, append-nil}
 use lib.Dec.{T, eqb}
 use lib.ListN.{length, get_or}
+use Rattle.std.specs.Prelude.{Ok, Err}
+use Rattle.rules.specs.declared.Fault.{Fault}
 use Rattle.rules.specs.Text.{Text, begins, joined, parts, same}
 use Rattle.rules.specs.Rules.{Rules}
 use Rattle.rules.specs.Fields.{Qso, duplicate_mark, empty_or, fields_of, qso_of}
@@ -16,7 +18,6 @@ use Rattle.rules.proofs.FieldLaws.{IsRecord, record_is}
 use Rattle.rules.proofs.Passing.{same→equal}
 use Rattle.fields.specs.Field.{end_of}
 use Rattle.reader.specs.declared.Contact.{Contact}
-use Rattle.reader.specs.declared.RecordRead.{RecordRead}
 use Rattle.reader.specs.Contact.{contact_at, field_start}
 use Rattle.reader.specs.Record.{Alone, record_on}
 use Rattle.reader.proofs.DueLaws.{kept_told, stops_told}
@@ -26,11 +27,14 @@ use Rattle.reader.proofs.RecordsHeld.{Lies, described, first_is, last_is, last_m
 use Rattle.reader.proofs.ParseLaws.{kept_is, told_alone}
 
 -- What is told of a line says whether it keeps the rules of a record.
-pub kept_rule : (R : Rules) (l : Text) {c : Contact} → record_on R l ≡ RecordRead.Kept c → record_rule R l ≡ keeps
+pub kept_rule : (R : Rules) (l : Text) {c : Contact} → record_on R l ≡ Ok c → record_rule R l ≡ keeps
 kept_rule R l e = kept_told (contact_at R l 0) (record_rule R l) (told_alone R l refl ∙ e)
 
-pub stops_rule : (R : Rules) (l : Text) {number field : ℕ} → record_on R l ≡ RecordRead.Stops number field → record_rule R l ≡ breaks field
+pub stops_rule : (R : Rules) (l : Text) {e : Fault} → record_on R l ≡ Err e → record_rule R l ≡ breaks e.field
 stops_rule R l e = (stops_told (contact_at R l 0) (record_rule R l) (told_alone R l refl ∙ e)).1
+
+pub stops_number : (R : Rules) (l : Text) {e : Fault} → record_on R l ≡ Err e → e.number ≡ 5
+stops_number R l e = (stops_told (contact_at R l 0) (record_rule R l) (told_alone R l refl ∙ e)).0
 
 -- A line that keeps them: the record stands at its front, and nothing behind it.
 module _ (R : Rules) (l : Text) (k : record_rule R l ≡ keeps) where
@@ -96,7 +100,7 @@ module _ (R : Rules) (l : Text) (k : record_rule R l ≡ keeps) where
       }
 
 -- The line is a record, whose parts lie at these places.
-pub alone_told : (R : Rules) (l : Text) {c : Contact} → record_on R l ≡ RecordRead.Kept c → Alone R l c
+pub alone_told : (R : Rules) (l : Text) {c : Contact} → record_on R l ≡ Ok c → Alone R l c
 alone_told R l e =
     let k : record_rule R l ≡ keeps = kept_rule R l e in
     subst (Alone R l) (kept_is (contact_at R l 0) (told_alone R l k ∙ e)) (alone R l k)

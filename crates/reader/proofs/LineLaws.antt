@@ -17,7 +17,7 @@ use Rattle.rules.specs.Reading.{FirstLine, a_line, no_line, first_line}
 use Rattle.rules.proofs.Tests.{and_r}
 use Rattle.rules.proofs.TextLaws.{span_short}
 use Rattle.fields.proofs.FieldLaws.{Within, run_more}
-use Rattle.reader.specs.declared.LineRead.{LineRead}
+use Rattle.std.specs.Prelude.{Some, None}
 use Rattle.reader.specs.Line.{line_from, line_at}
 
 -- Two characters decide whether CR LF stands at the front.
@@ -79,29 +79,29 @@ module _ (R : Rules) (s : Text) (at end : ℕ) (e : end ≡ at + span allowed (d
   front_length : length (take (span allowed (drop at s)) (drop at s)) ≡ span allowed (drop at s)
   front_length = length-take-le (span allowed (drop at s)) (drop at s) (span_short allowed (drop at s))
 
-  from_cond : (b : Bool) → line_from at (cond b (a_line (take (span allowed (drop at s)) (drop at s)) (drop (span allowed (drop at s) + 2) (drop at s))) no_line) ≡ cond b (LineRead.Line end) LineRead.Missing
+  from_cond : (b : Bool) → line_from at (cond b (a_line (take (span allowed (drop at s)) (drop at s)) (drop (span allowed (drop at s) + 2) (drop at s))) no_line) ≡ cond b (Some end) None
   unfolding line_from
-  from_cond true = ap LineRead.Line (ap (λ (n : ℕ). at + n) front_length ∙ sym e)
+  from_cond true = ap Some (ap (λ (n : ℕ). at + n) front_length ∙ sym e)
   from_cond false = refl
 
   line_by_place :
-      line_at R s at ≡ cond (leb (span allowed (drop at s)) R.longest_line && begins crlf (drop end s)) (LineRead.Line end) LineRead.Missing
+      line_at R s at ≡ cond (leb (span allowed (drop at s)) R.longest_line && begins crlf (drop end s)) (Some end) None
   unfolding line_at first_line
   line_by_place =
       rw behind_run (from_cond (leb (span allowed (drop at s)) R.longest_line && begins crlf (drop end s)))
 
   -- One law for each answer.
-  pub line_too_long : R.longest_line < end - at → LineRead.Missing ≡ line_at R s at
+  pub line_too_long : R.longest_line < end - at → None ≡ line_at R s at
   line_too_long h = sym (line_by_place ∙ rw (lt-leb (span allowed (drop at s)) R.longest_line (omega arith)))
 
-  pub line_missing : begins crlf (drop end s) ≡ false → LineRead.Missing ≡ line_at R s at
+  pub line_missing : begins crlf (drop end s) ≡ false → None ≡ line_at R s at
   line_missing k = sym (line_by_place ∙ rw k (by (leb (span allowed (drop at s)) R.longest_line)))
     where
-      by : (b : Bool) → cond (b && false) (LineRead.Line end) LineRead.Missing ≡ LineRead.Missing
+      by : (b : Bool) → cond (b && false) (Some end) None ≡ None
       by true = refl
       by false = refl
 
-  pub line_found : end - at ≤ R.longest_line → begins crlf (drop end s) ≡ true → LineRead.Line end ≡ line_at R s at
+  pub line_found : end - at ≤ R.longest_line → begins crlf (drop end s) ≡ true → Some end ≡ line_at R s at
   line_found h k = sym (line_by_place ∙ rw (le-leb (span allowed (drop at s)) R.longest_line (omega arith), k))
 
 -- One character more of a run, by the place behind it.
@@ -127,7 +127,7 @@ module _ (R : Rules) where
   module _ (s : Text) (at : ℕ) where
     stood_by : {end : ℕ} (b : Bool) →
         (leb (span allowed (drop at s)) R.longest_line && begins crlf (drop (span allowed (drop at s)) (drop at s))) ≡ b →
-        line_from at (cond b (a_line (take (span allowed (drop at s)) (drop at s)) (drop (span allowed (drop at s) + 2) (drop at s))) no_line) ≡ LineRead.Line end →
+        line_from at (cond b (a_line (take (span allowed (drop at s)) (drop at s)) (drop (span allowed (drop at s) + 2) (drop at s))) no_line) ≡ Some end →
         Stood s at end
     unfolding line_from
     stood_by {end} true e q =
@@ -153,14 +153,14 @@ module _ (R : Rules) where
         }
     stood_by {end} false e q = let z : ◌≡◌ {A = ℕ} 0 1 = cc in absurd (omega arith)
 
-    pub stood : {end : ℕ} → line_at R s at ≡ LineRead.Line end → Stood s at end
+    pub stood : {end : ℕ} → line_at R s at ≡ Some end → Stood s at end
     stood q = stood_by _ refl (ap (line_from at) (sym (first_law (drop at s))) ∙ sym (line_law s at) ∙ q)
 
     -- No line stands there.
-    missed_by : (f : FirstLine) → line_from at f ≡ LineRead.Missing → f ≡ no_line
+    missed_by : (f : FirstLine) → line_from at f ≡ None → f ≡ no_line
     unfolding line_from
     missed_by (a_line l r) q = let z : ◌≡◌ {A = ℕ} 0 1 = cc in absurd (omega arith)
     missed_by no_line q = refl
 
-    pub missed : line_at R s at ≡ LineRead.Missing → first_line R (drop at s) ≡ no_line
+    pub missed : line_at R s at ≡ None → first_line R (drop at s) ≡ no_line
     missed q = missed_by (first_line R (drop at s)) (sym (line_law s at) ∙ q)

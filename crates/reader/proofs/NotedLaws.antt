@@ -7,6 +7,8 @@ use mathlib.Core.Path.{◌≡◌, refl, sym, ap, ap₂, ◌∙◌}
 use mathlib.Core.List.{List, [], ◌∷◌}
 use lib.ListN.{length, length-set, set}
 use borrow.Author.Tests.{le-ltb, lt-ltb}
+use Rattle.std.specs.Prelude.{Ok, Err, Result}
+use Rattle.rules.specs.declared.Fault.{Fault}
 use Rattle.rules.specs.declared.Refusal.{Refusal}
 use Rattle.rules.specs.Text.{Text}
 use Rattle.rules.specs.Rules.{Rules}
@@ -14,16 +16,15 @@ use Rattle.rules.specs.Answers.{over}
 use Rattle.rules.specs.Reading.{refusal}
 use Rattle.reader.specs.declared.Contact.{Contact}
 use Rattle.reader.specs.declared.Heading.{Heading}
-use Rattle.reader.specs.declared.HeadRead.{HeadRead}
-use Rattle.reader.specs.declared.ReadAnswer.{ReadAnswer}
-use Rattle.reader.specs.declared.RecordRead.{RecordRead}
+use Rattle.reader.specs.declared.Head.{Head}
+use Rattle.reader.specs.declared.Accepted.{Accepted}
 use Rattle.reader.specs.Contact.{behind, contact_at, field_start, last_end}
 use Rattle.reader.specs.Record.{record_at}
 use Rattle.reader.specs.Read.{no_heading, head_of, read_of, records_told}
 use Rattle.reader.specs.Noted.{contacts_from, contacts_read, listed}
 use Rattle.reader.proofs.ParseLaws.{took}
 use Rattle.reader.proofs.PlaceLaws.{last_behind, start_more, start_next, starts_rise}
-use Rattle.reader.proofs.ReadLaws.{behind_line, end_told, next_kept, next_stops, noted_ends, noted_kept}
+use Rattle.reader.proofs.ReadLaws.{accepting, behind_line, end_told, next_kept, next_stops, noted_ends, noted_kept}
 use Rattle.reader.proofs.WholeLaws.{contacts_by_head, head_contacts, on_head, read_by_head}
 
 -- What a list holds once the places of these records are noted from a number on.
@@ -66,7 +67,7 @@ module _ (R : Rules) (s : Text) (at : ℕ) where
   starts_grow : (j k : ℕ) → field_start s at j ≤ field_start s at (j + k)
   starts_grow j k = omega (arith, starts_rise s (field_start s at j) k, start_more s at j k)
 
-  pub placed : {c : Contact} → record_at R s at ≡ RecordRead.Kept c → Placed s at c
+  pub placed : {c : Contact} → record_at R s at ≡ Ok c → Placed s at c
   unfolding contact_at
   placed {c} e =
       let t = took R s at e in
@@ -114,7 +115,7 @@ module _ (R : Rules) (s : Text) (records first : ℕ) (heading : Heading) where
       told_next : records_told R s records first heading records before first ≡ records_told R s records first heading (suc (records - (i + 1))) line at
       told_next = w.answer ∙ ap (λ (j : ℕ). records_told R s records first heading j line at) (one_left h)
 
-      pub surveys_next : {c : Contact} → record_at R s at ≡ RecordRead.Kept c → Surveys before (behind c) (line + 1) (i + 1)
+      pub surveys_next : {c : Contact} → record_at R s at ≡ Ok c → Surveys before (behind c) (line + 1) (i + 1)
       surveys_next {c} e =
           let p = placed R s at e in
           record {
@@ -126,7 +127,7 @@ module _ (R : Rules) (s : Text) (records first : ℕ) (heading : Heading) where
             answer = told_next ∙ next_kept R s records first heading (records - (i + 1)) line at e;
           }
 
-      pub surveys_stop : {number field : ℕ} → record_at R s at ≡ RecordRead.Stops number field → ReadAnswer.Refused (refusal number line field) ≡ records_told R s records first heading records before first
+      pub surveys_stop : {f : Fault} → record_at R s at ≡ Err f → Err (refusal f.number line f.field) ≡ records_told R s records first heading records before first
       surveys_stop e = sym (told_next ∙ next_stops R s records first heading (records - (i + 1)) line at e)
 
     -- No record is left.
@@ -134,10 +135,10 @@ module _ (R : Rules) (s : Text) (records first : ℕ) (heading : Heading) where
       told_last : records_told R s records first heading records before first ≡ records_told R s records first heading 0 line at
       told_last = let none : records - i ≡ 0 = omega arith in w.answer ∙ ap (λ (j : ℕ). records_told R s records first heading j line at) none
 
-      pub surveys_more : at < length s → ReadAnswer.Refused (refusal 6 line 0) ≡ records_told R s records first heading records before first
+      pub surveys_more : at < length s → Err (refusal 6 line 0) ≡ records_told R s records first heading records before first
       surveys_more g = sym (told_last ∙ end_told R s records first heading line at (lt-ltb at (length s) g))
 
-      pub surveys_end : length s ≤ at → ReadAnswer.Accepted records first heading ≡ records_told R s records first heading records before first
+      pub surveys_end : length s ≤ at → accepting records first heading ≡ records_told R s records first heading records before first
       surveys_end g = sym (told_last ∙ end_told R s records first heading line at (le-ltb at (length s) g))
 
 -- One of the lists: it is as long as it was, and once the records that are left are noted it holds what it shall.
@@ -162,7 +163,7 @@ module _ (R : Rules) (s : Text) (records first : ℕ) (place : Contact → ℕ) 
         let k : records - i ≡ suc (records - (i + 1)) = omega arith in
         w.list ∙ ap (λ (j : ℕ). listed_from i place (contacts_from R s j at) now) k
 
-    pub fills_next : i < records → {c : Contact} {then : List ℕ} → record_at R s at ≡ RecordRead.Kept c → then ≡ set now i (place c) → Fills (behind c) (i + 1) then
+    pub fills_next : i < records → {c : Contact} {then : List ℕ} → record_at R s at ≡ Ok c → then ≡ set now i (place c) → Fills (behind c) (i + 1) then
     fills_next h {c} {then} e q =
         let rest : List Contact = contacts_from R s (records - (i + 1)) (behind c) in
         record {
@@ -174,7 +175,7 @@ module _ (R : Rules) (s : Text) (records first : ℕ) (place : Contact → ℕ) 
               ∙ ap₂ (λ (j : ℕ) (t : List ℕ). listed_from j place rest t) (sym (add-one i)) (sym q);
         }
 
-    pub fills_stop : i < records → {number field : ℕ} → record_at R s at ≡ RecordRead.Stops number field → now ≡ listed place (contacts_from R s records first) slice
+    pub fills_stop : i < records → {f : Fault} → record_at R s at ≡ Err f → now ≡ listed place (contacts_from R s records first) slice
     fills_stop h e =
         sym
         (left_next h
@@ -194,8 +195,8 @@ module _ (R : Rules) (s : Text) (records first : ℕ) (place : Contact → ℕ) 
 
 module _ (R : Rules) (s : Text) where
   -- A head that is refused: nothing is noted.
-  module _ {r : Refusal} (e : head_of R s ≡ HeadRead.Refused r) where
-    pub refused_read : ReadAnswer.Refused r ≡ read_of R s
+  module _ {r : Refusal} (e : head_of R s ≡ Err r) where
+    pub refused_read : Err r ≡ read_of R s
     refused_read = sym (read_by_head R s ∙ ap (on_head R s) e)
 
     pub refused_listed : (place : Contact → ℕ) (slice : List ℕ) → slice ≡ listed place (contacts_read R s) slice
@@ -203,9 +204,9 @@ module _ (R : Rules) (s : Text) where
         sym (ap (λ (cs : List Contact). listed place cs slice) (contacts_by_head R s ∙ ap (head_contacts R s) e) ∙ listed_first place [] slice ∙ listed_none place 0 slice)
 
   -- A head that leads to the records: what is told and noted of them is told and noted of the log.
-  module _ {records first line : ℕ} {heading : Heading} (e : head_of R s ≡ HeadRead.Head records first heading line) where
-    pub records_read : {a : ReadAnswer} → a ≡ records_told R s records first heading records line first → a ≡ read_of R s
-    records_read h = h ∙ sym (read_by_head R s ∙ ap (on_head R s) e)
+  module _ {h : Head} (e : head_of R s ≡ Ok h) where
+    pub records_read : {a : Result Accepted Refusal} → a ≡ records_told R s h.records h.first h.heading h.records h.line h.first → a ≡ read_of R s
+    records_read q = q ∙ sym (read_by_head R s ∙ ap (on_head R s) e)
 
-    pub records_listed : (place : Contact → ℕ) (slice : List ℕ) {now : List ℕ} → now ≡ listed place (contacts_from R s records first) slice → now ≡ listed place (contacts_read R s) slice
-    records_listed place slice h = h ∙ sym (ap (λ (cs : List Contact). listed place cs slice) (contacts_by_head R s ∙ ap (head_contacts R s) e))
+    pub records_listed : (place : Contact → ℕ) (slice : List ℕ) {now : List ℕ} → now ≡ listed place (contacts_from R s h.records h.first) slice → now ≡ listed place (contacts_read R s) slice
+    records_listed place slice q = q ∙ sym (ap (λ (cs : List Contact). listed place cs slice) (contacts_by_head R s ∙ ap (head_contacts R s) e))

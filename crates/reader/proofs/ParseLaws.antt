@@ -5,27 +5,26 @@ use native.Mathlib.Omega.{arith}
 use mathlib.Core.Path.{◌≡◌, refl, sym, ap, ap₂, ◌∙◌}
 use mathlib.Core.Bool.{Bool, true, false, cond, ◌&&◌, true≢false}
 use mathlib.Core.List.{List, [], ◌∷◌, ◌++◌, append_assoc, append-nil}
-use lib.Dec.{eqb, ltb}
+use lib.Dec.{eqb}
 use lib.ListN.{length, take, drop, drop_of_length-le}
 use lib.Seq.{drop-append_seam, drop-drop}
 use borrow.Author.Tests.{eq-eqb, eqb-true, le-ltb, lt-ltb, ne_eqb}
+use Rattle.rules.specs.declared.Fault.{Fault}
 use Rattle.rules.specs.Text.{Text, all, begins, joined, parts, same}
 use Rattle.rules.specs.Rules.{Rules, base}
 use Rattle.rules.specs.Fields.{Qso, duplicate_mark, empty_or, field_rules, fields_of, qso_of}
 use Rattle.rules.specs.Arguments.{every}
 use Rattle.rules.specs.Log.{conjunction, crlf, record_line}
-use Rattle.rules.specs.Reading.{FirstLine, RecordRule, a_line, breaks, first_broken, first_line, keeps, no_line, record_rule}
+use Rattle.rules.specs.Reading.{FirstLine, RecordRule, a_line, breaks, first_broken, first_line, keeps, no_line, record_rule, fault}
 use Rattle.rules.proofs.Tests.{and_i, and_l, and_r, holds, picked, so}
 use Rattle.rules.proofs.TextLaws.{begins_front, begins_split, joined_parts, parts_plain, plain}
 use Rattle.rules.proofs.FieldLaws.{all_hold, fields_of_texts, record_is, record_kept, record_line_rule, room, rooms}
 use Rattle.rules.proofs.LineLaws.{first_front, first_is}
 use Rattle.rules.proofs.ValidLogs.{rule_at}
 use Rattle.reader.specs.declared.Contact.{Contact}
-use Rattle.reader.specs.declared.LineRead.{LineRead}
-use Rattle.reader.specs.declared.Parsed.{Parsed}
+use Rattle.std.specs.Prelude.{Some, None, Ok, Err, Result}
 use Rattle.reader.specs.Line.{line_at}
 use Rattle.reader.specs.Contact.{contact_at, field_start, last_end}
-use Rattle.reader.specs.declared.RecordRead.{RecordRead}
 use Rattle.reader.specs.Record.{broken_at, broken_from, due_at, fields_from, lineless, parsed_at, parsed_by, qso_at, record_at, record_on, rules_at, told_by}
 use Rattle.reader.proofs.DueLaws.{kept_told}
 use Rattle.reader.proofs.LineLaws.{ends_within, missed, stood}
@@ -34,12 +33,12 @@ use Rattle.reader.proofs.FieldsHeld.{fields_held, fields_joined, starts_held, st
 
 -- # What is told of the fields
 
-bad_parsed : (c : Contact) (r : RecordRule) {f : ℕ} → parsed_by c r ≡ Parsed.Bad f → r ≡ breaks f
+bad_parsed : (c : Contact) (r : RecordRule) {f : ℕ} → parsed_by c r ≡ Err f → r ≡ breaks f
 unfolding parsed_by
 bad_parsed c keeps e = let z : ◌≡◌ {A = ℕ} 0 1 = cc in absurd (omega arith)
 bad_parsed c (breaks g) {f} e = let h : g ≡ f = cc in ap breaks h
 
-fields_parsed : (c : Contact) (r : RecordRule) {d : Contact} → parsed_by c r ≡ Parsed.Fields d → (r ≡ keeps) × (c ≡ d)
+fields_parsed : (c : Contact) (r : RecordRule) {d : Contact} → parsed_by c r ≡ Ok d → (r ≡ keeps) × (c ≡ d)
 unfolding parsed_by
 fields_parsed c keeps e = (refl, cc)
 fields_parsed c (breaks g) e = let z : ◌≡◌ {A = ℕ} 0 1 = cc in absurd (omega arith)
@@ -49,13 +48,13 @@ module _ (R : Rules) (s : Text) (at : ℕ) where
   unfolding parsed_at
   parsed_law = refl
 
-  pub first_bad : {f : ℕ} → parsed_at R s at ≡ Parsed.Bad f → first_broken 1 (rules_at R s at) ≡ breaks f
+  pub first_bad : {f : ℕ} → parsed_at R s at ≡ Err f → first_broken 1 (rules_at R s at) ≡ breaks f
   first_bad e = bad_parsed (contact_at R s at) (first_broken 1 (rules_at R s at)) (sym parsed_law ∙ e)
 
-  pub none_bad : {c : Contact} → parsed_at R s at ≡ Parsed.Fields c → first_broken 1 (rules_at R s at) ≡ keeps
+  pub none_bad : {c : Contact} → parsed_at R s at ≡ Ok c → first_broken 1 (rules_at R s at) ≡ keeps
   none_bad e = (fields_parsed (contact_at R s at) (first_broken 1 (rules_at R s at)) (sym parsed_law ∙ e)).0
 
-  pub contact_told : {c : Contact} → parsed_at R s at ≡ Parsed.Fields c → contact_at R s at ≡ c
+  pub contact_told : {c : Contact} → parsed_at R s at ≡ Ok c → contact_at R s at ≡ c
   contact_told e = (fields_parsed (contact_at R s at) (first_broken 1 (rules_at R s at)) (sym parsed_law ∙ e)).1
 
 -- One test more, behind the others.
@@ -142,7 +141,7 @@ module _ (R : Rules) (s : Text) (at : ℕ) (l rest : Text) (e : drop at s ≡ l 
   by_rules = rw (eq-eqb (length (parts l)) 15 n) (ap (first_broken 1) (rules_split R q))
 
   -- The first bad field of the fourteen is that of the line.
-  pub line_bad : {f : ℕ} → parsed_at R s at ≡ Parsed.Bad f → record_rule R l ≡ breaks f
+  pub line_bad : {f : ℕ} → parsed_at R s at ≡ Err f → record_rule R l ≡ breaks f
   line_bad h =
       by_rules
       ∙ broken_before 1 (take 14 (field_rules R q)) (last_rule q.duplicate) (ap (first_broken 1) (sym same_rules) ∙ first_bad R s at h)
@@ -165,7 +164,7 @@ module _ (R : Rules) (s : Text) (at : ℕ) (l rest : Text) (e : drop at s ≡ l 
         ∙ ap (λ (k : ℕ). field_start s at 14 + k) (marked_front q.duplicate rest h)
 
     -- Where the fields do not end with the line, the last is bad.
-    pub line_late : {c : Contact} → parsed_at R s at ≡ Parsed.Fields c → (c.end ≡ at + length l → ⊥) → record_rule R l ≡ breaks 15
+    pub line_late : {c : Contact} → parsed_at R s at ≡ Ok c → (c.end ≡ at + length l → ⊥) → record_rule R l ≡ breaks 15
     unfolding field_rules
     line_late {c} p k =
         let bad : last_rule q.duplicate ≡ false =
@@ -222,7 +221,7 @@ module _ (R : Rules) (s : Text) (at : ℕ) where
           ∙ ap (λ (t : Text). duplicate_mark ++ t) (drop-drop 1 (field_start s at 14) s)
       by false h = let k : field_start s at 14 ≡ field_start s at 14 + 0 = omega arith in ap (λ (i : ℕ). drop i s) k
 
-  module _ {c : Contact} (p : parsed_at R s at ≡ Parsed.Fields c) where
+  module _ {c : Contact} (p : parsed_at R s at ≡ Ok c) where
     pub made_rules : conjunction (field_rules R made) ≡ true
     made_rules =
         ap conjunction (rules_split R made)
@@ -277,22 +276,22 @@ module _ (R : Rules) (l : Text) where
   unfolding record_on
   told_alone e = ap (told_by (contact_at R l 0)) (sym e)
 
-  pub kept_alone : {c : Contact} → parsed_at R l 0 ≡ Parsed.Fields c → c.end ≡ length l → RecordRead.Kept c ≡ record_on R l
+  pub kept_alone : {c : Contact} → parsed_at R l 0 ≡ Ok c → c.end ≡ length l → Ok c ≡ record_on R l
   unfolding told_by
-  kept_alone p h = ap RecordRead.Kept (sym (contact_told R l 0 p)) ∙ told_alone (alone_kept R l 0 p refl h)
+  kept_alone p h = ap Ok (sym (contact_told R l 0 p)) ∙ told_alone (alone_kept R l 0 p refl h)
 
-  broken_alone : (field : ℕ) → (length (parts l) ≡ 15 → record_rule R l ≡ breaks field) → broken_at l field ≡ record_on R l
+  broken_alone : (field : ℕ) → (length (parts l) ≡ 15 → record_rule R l ≡ breaks field) → Err (broken_at l field) ≡ record_on R l
   unfolding broken_at told_by record_rule
   broken_alone field h = by (eqb (length (parts l)) 15) refl
     where
-      by : (b : Bool) → eqb (length (parts l)) 15 ≡ b → cond b (RecordRead.Stops 5 field) (RecordRead.Stops 5 0) ≡ record_on R l
+      by : (b : Bool) → eqb (length (parts l)) 15 ≡ b → Err (cond b (fault 5 field) (fault 5 0)) ≡ record_on R l
       by true e = told_alone (h (eqb-true (length (parts l)) 15 e))
       by false e = told_alone (ap (λ (b : Bool). cond b (first_broken 1 (field_rules R (qso_of (parts l)))) (breaks 0)) e)
 
-  pub bad_alone : {field : ℕ} → parsed_at R l 0 ≡ Parsed.Bad field → broken_at l field ≡ record_on R l
+  pub bad_alone : {field : ℕ} → parsed_at R l 0 ≡ Err field → Err (broken_at l field) ≡ record_on R l
   bad_alone {field} p = broken_alone field (λ n. line_bad R l 0 l [] (sym (append-nil l)) n p)
 
-  pub late_alone : {c : Contact} → parsed_at R l 0 ≡ Parsed.Fields c → (c.end ≡ length l → ⊥) → broken_at l 15 ≡ record_on R l
+  pub late_alone : {c : Contact} → parsed_at R l 0 ≡ Ok c → (c.end ≡ length l → ⊥) → Err (broken_at l 15) ≡ record_on R l
   unfolding begins duplicate_mark
   late_alone p h = broken_alone 15 (λ n. line_late R l 0 l [] (sym (append-nil l)) n refl p (λ k. h (omega arith)))
 
@@ -301,50 +300,50 @@ fifteen : (R : Rules) (l : Text) → record_rule R l ≡ keeps → length (parts
 unfolding record_rule
 fifteen R l k = eqb-true (length (parts l)) 15 (picked (eqb (length (parts l)) 15) k no_break).0
 
-pub kept_is : (c : Contact) {d : Contact} → told_by c keeps ≡ RecordRead.Kept d → c ≡ d
+pub kept_is : (c : Contact) {d : Contact} → told_by c keeps ≡ Ok d → c ≡ d
 unfolding told_by
 kept_is c e = cc
 
 -- Of the place of a log where a record is due.
 module _ (R : Rules) (s : Text) (at : ℕ) where
-  abbrev of_line : Text → RecordRead
+  abbrev of_line : Text → Result Contact Fault
   of_line l = told_by (contact_at R s at) (record_rule R l)
 
-  pub due_by : {f : FirstLine} → first_line R (drop at s) ≡ f → due_at of_line s at f ≡ record_at R s at
+  pub due_by : {f : FirstLine} → first_line R (drop at s) ≡ f → due_at of_line (Err (lineless s at)) f ≡ record_at R s at
   unfolding record_at
-  due_by e = ap (due_at of_line s at) (sym e)
+  due_by e = ap (due_at of_line (Err (lineless s at))) (sym e)
 
-  broken_by : {f : FirstLine} (field : ℕ) → first_line R (drop at s) ≡ f → broken_from R s at field ≡ due_at (λ l. broken_at l field) s at f
+  broken_by : {f : FirstLine} (field : ℕ) → first_line R (drop at s) ≡ f → broken_from R s at field ≡ due_at (λ l. broken_at l field) (lineless s at) f
   unfolding broken_from
-  broken_by field e = ap (due_at (λ l. broken_at l field) s at) e
+  broken_by field e = ap (due_at (λ l. broken_at l field) (lineless s at)) e
 
   -- The text from a place on is the line that stands there, its end, and the rest.
   pub line_there : (l rest : Text) → first_line R (drop at s) ≡ a_line l rest → drop at s ≡ l ++ (crlf ++ rest)
   line_there l rest e = (first_is R (drop at s) l rest e).text ∙ append_assoc l crlf rest
 
-  pub kept_due : {c : Contact} → room (rooms R) ≤ R.longest_line → parsed_at R s at ≡ Parsed.Fields c → begins crlf (drop c.end s) ≡ true → RecordRead.Kept c ≡ record_at R s at
+  pub kept_due : {c : Contact} → room (rooms R) ≤ R.longest_line → parsed_at R s at ≡ Ok c → begins crlf (drop c.end s) ≡ true → Ok c ≡ record_at R s at
   unfolding due_at told_by
   kept_due fits p h =
-      ap RecordRead.Kept (sym (contact_told R s at p))
+      ap Ok (sym (contact_told R s at p))
       ∙ ap (told_by (contact_at R s at)) (sym (line_kept_lem R s at p fits h))
       ∙ due_by (line_made R s at p fits h)
 
-  broken_due : (field : ℕ) → ((l rest : Text) → first_line R (drop at s) ≡ a_line l rest → length (parts l) ≡ 15 → record_rule R l ≡ breaks field) → broken_from R s at field ≡ record_at R s at
+  broken_due : (field : ℕ) → ((l rest : Text) → first_line R (drop at s) ≡ a_line l rest → length (parts l) ≡ 15 → record_rule R l ≡ breaks field) → Err (broken_from R s at field) ≡ record_at R s at
   unfolding due_at broken_at told_by record_rule
   broken_due field h = by (first_line R (drop at s)) refl
     where
-      counted : (l : Text) (b : Bool) → eqb (length (parts l)) 15 ≡ b → (length (parts l) ≡ 15 → record_rule R l ≡ breaks field) → cond b (RecordRead.Stops 5 field) (RecordRead.Stops 5 0) ≡ of_line l
+      counted : (l : Text) (b : Bool) → eqb (length (parts l)) 15 ≡ b → (length (parts l) ≡ 15 → record_rule R l ≡ breaks field) → Err (cond b (fault 5 field) (fault 5 0)) ≡ of_line l
       counted l true e g = ap (told_by (contact_at R s at)) (sym (g (eqb-true (length (parts l)) 15 e)))
       counted l false e g = ap (λ (b : Bool). told_by (contact_at R s at) (cond b (first_broken 1 (field_rules R (qso_of (parts l)))) (breaks 0))) (sym e)
 
-      by : (f : FirstLine) → first_line R (drop at s) ≡ f → broken_from R s at field ≡ record_at R s at
-      by (a_line l rest) e = broken_by field e ∙ counted l (eqb (length (parts l)) 15) refl (h l rest e) ∙ due_by e
-      by no_line e = broken_by field e ∙ due_by e
+      by : (f : FirstLine) → first_line R (drop at s) ≡ f → Err (broken_from R s at field) ≡ record_at R s at
+      by (a_line l rest) e = ap Err (broken_by field e) ∙ counted l (eqb (length (parts l)) 15) refl (h l rest e) ∙ due_by e
+      by no_line e = ap Err (broken_by field e) ∙ due_by e
 
-  pub bad_due : {field : ℕ} → parsed_at R s at ≡ Parsed.Bad field → broken_from R s at field ≡ record_at R s at
+  pub bad_due : {field : ℕ} → parsed_at R s at ≡ Err field → Err (broken_from R s at field) ≡ record_at R s at
   bad_due {field} p = broken_due field (λ l rest e n. line_bad R s at l (crlf ++ rest) (line_there l rest e) n p)
 
-  pub late_due : {c : Contact} → parsed_at R s at ≡ Parsed.Fields c → begins crlf (drop c.end s) ≡ false → broken_from R s at 15 ≡ record_at R s at
+  pub late_due : {c : Contact} → parsed_at R s at ≡ Ok c → begins crlf (drop c.end s) ≡ false → Err (broken_from R s at 15) ≡ record_at R s at
   late_due {c} p h = broken_due 15 (λ l rest e n. line_late R s at l (crlf ++ rest) (line_there l rest e) n (no_letter rest) p (λ k. apart l rest e k))
     where
       apart : (l rest : Text) → first_line R (drop at s) ≡ a_line l rest → c.end ≡ at + length l → ⊥
@@ -369,17 +368,13 @@ module _ (R : Rules) (s : Text) (at : ℕ) where
     pub told : c ≡ contact_at R s at
     pub end : c.end ≡ at + length line
 
-  no_record : {A : Type 0} {number field : ℕ} {c : Contact} → RecordRead.Stops number field ≡ RecordRead.Kept c → A
+  no_record : {A : Type 0} {f : Fault} {c : Contact} → Err f ≡ Ok c → A
   no_record e = let z : ◌≡◌ {A = ℕ} 0 1 = cc in absurd (omega arith)
 
-  pub took : {c : Contact} → record_at R s at ≡ RecordRead.Kept c → Took c
+  pub took : {c : Contact} → record_at R s at ≡ Ok c → Took c
   unfolding due_at lineless
   took {c} h = by (first_line R (drop at s)) refl
     where
-      lost : (b : Bool) → cond b (RecordRead.Stops 2 0) (RecordRead.Stops 6 0) ≡ RecordRead.Kept c → Took c
-      lost true e = no_record e
-      lost false e = no_record e
-
       by : (f : FirstLine) → first_line R (drop at s) ≡ f → Took c
       by (a_line l rest) e =
           let k : record_rule R l ≡ keeps = kept_told (contact_at R s at) (record_rule R l) (due_by e ∙ h) in
@@ -392,23 +387,23 @@ module _ (R : Rules) (s : Text) (at : ℕ) where
             told = sym is;
             end = ap (λ (d : Contact). d.end) (sym is) ∙ taken_end l rest e k;
           }
-      by no_line e = lost (ltb at (length s)) (due_by e ∙ h)
+      by no_line e = no_record (due_by e ∙ h)
 
   -- A bad field where no line stands, and where one does.
-  pub broken_missing : (field : ℕ) {r : RecordRead} → line_at R s at ≡ LineRead.Missing → r ≡ lineless s at → r ≡ broken_from R s at field
+  pub broken_missing : (field : ℕ) {r : Fault} → line_at R s at ≡ None → r ≡ lineless s at → r ≡ broken_from R s at field
   unfolding due_at
   broken_missing field h e = e ∙ sym (broken_by field (missed R s at h))
 
-  pub broken_line : (field : ℕ) {end : ℕ} → line_at R s at ≡ LineRead.Line end → broken_at (take (end - at) (drop at s)) field ≡ broken_from R s at field
+  pub broken_line : (field : ℕ) {end : ℕ} → line_at R s at ≡ Some end → broken_at (take (end - at) (drop at s)) field ≡ broken_from R s at field
   unfolding due_at
   broken_line field h = sym (broken_by field (stood R s at h).line)
 
 -- Where the log goes on, and where it is at its end.
-pub goes_on_there : (s : Text) (at : ℕ) → at < length s → RecordRead.Stops 2 0 ≡ lineless s at
+pub goes_on_there : (s : Text) (at : ℕ) → at < length s → fault 2 0 ≡ lineless s at
 unfolding lineless
 goes_on_there s at h = rw (lt-ltb at (length s) h)
 
-pub ends_there : (s : Text) (at : ℕ) → length s ≤ at → RecordRead.Stops 6 0 ≡ lineless s at
+pub ends_there : (s : Text) (at : ℕ) → length s ≤ at → fault 6 0 ≡ lineless s at
 unfolding lineless
 ends_there s at h = rw (le-ltb at (length s) h)
 

@@ -1,25 +1,24 @@
 -- Laws of places: of a field by where it ends, and of the fields and records behind one another.
 -- Assumes nothing.
+use Rattle.std.specs.Prelude.{Some, None}
 use Prim.Native.Nat.{ℕ, zero, suc, ◌+◌, ◌-◌, ◌≤◌, ◌<◌, max}
 use native.Mathlib.Omega.{arith}
 use native.Mathlib.Nat.{add-zero, add-suc}
 use native.Mathlib.Numerals.{add-one}
 use mathlib.Core.List.{List, [], ◌∷◌, ◌++◌}
 use mathlib.Core.Path.{◌≡◌, refl, sym, ap, ◌∙◌}
-use mathlib.Core.Bool.{Bool, false, and-true}
+use mathlib.Core.Bool.{Bool, true, false, cond, and-true}
 use lib.Dec.{eqb}
 use lib.ListN.{length, take, drop, get_or, drop_of_length-le, length-drop}
 use borrow.Author.Tests.{eq-eqb, ne_eqb}
-use Rattle.rules.specs.Text.{Text, begins, span, same}
+use Rattle.rules.specs.Text.{Text, begins, span, same, value}
 use Rattle.rules.specs.Rules.{Rules}
 use Rattle.rules.specs.Fields.{Qso, duplicate_mark, error_call, new_mark}
 use Rattle.rules.specs.Log.{crlf}
 use Rattle.rules.proofs.TextLaws.{span_short, same_apart}
 use Rattle.fields.specs.Field.{in_field, text_at, end_of}
 use Rattle.fields.proofs.FieldLaws.{next}
-use Rattle.figures.specs.declared.NumberRead.{NumberRead}
-use Rattle.figures.specs.Figure.{number_at}
-use Rattle.figures.proofs.Picked.{number_picked, number_refused}
+use Rattle.figures.specs.Figure.{number_at, value_told}
 use Rattle.fields.proofs.PartLaws.{end_by_span, end_within}
 use Rattle.reader.specs.Contact.{field_start, value_by, last_end, contact_at, behind, Holds}
 
@@ -61,15 +60,15 @@ module _ (s : Text) where
   start_within at zero = omega arith
   start_within at (suc k) = omega (arith, start_within at k, end_within s (field_start s at k))
 
-  -- A number that is read, and one that is not.
+  -- What a number is worth.
   module _ (rule : Text → Bool) (at : ℕ) where
-    pub value_read : {v e : ℕ} → number_at rule s at ≡ NumberRead.Number v e → v ≡ value_by rule (text_at s at)
-    unfolding value_by
-    value_read p = let q = number_picked rule s at p in rw q.0 q.1
-
-    pub value_none : number_at rule s at ≡ NumberRead.Bad → 0 ≡ value_by rule (text_at s at)
-    unfolding value_by
-    value_none p = rw (number_refused rule s at p)
+    pub value_is : value_told (number_at rule s at) ≡ value_by rule (text_at s at)
+    unfolding number_at value_by
+    value_is = by (rule (text_at s at))
+      where
+        by : (b : Bool) → value_told (cond b (Some (value (text_at s at), end_of s at)) None) ≡ cond b (value (text_at s at)) 0
+        by true = refl
+        by false = refl
 
   -- The mark of a new one is one character, and the call of a mistake is five.
   module _ (a : ℕ) {e : ℕ} (h : e ≡ end_of s a) where

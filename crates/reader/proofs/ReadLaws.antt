@@ -9,17 +9,19 @@ use lib.Dec.{ltb}
 use lib.ListN.{length, drop, length-append, length-drop}
 use lib.Seq.{drop-append-add, drop-drop}
 use borrow.Author.Tests.{le-ltb, lt-ltb}
+use Rattle.std.specs.Prelude.{Result, Ok, Err}
+use Rattle.rules.specs.declared.Fault.{Fault}
 use Rattle.rules.specs.declared.Due.{Due}
-use Rattle.rules.specs.declared.Next.{Next}
+use Rattle.std.specs.Prelude.{Result, Ok, Err}
+use Rattle.rules.specs.declared.Refusal.{Refusal}
 use Rattle.rules.specs.Text.{Text}
 use Rattle.rules.specs.Rules.{Rules}
 use Rattle.rules.specs.Log.{crlf}
-use Rattle.rules.specs.Reading.{FirstLine, Lines, Reading, RecordRule, a_line, accepted, after_record, at_rest, breaks, first_line, keeps, lines, no_line, on_first_line, on_next, put, record_rule, records_due, refusal, refused, step, walk}
+use Rattle.rules.specs.Reading.{FirstLine, Lines, Reading, RecordRule, a_line, accepted, after_record, at_rest, breaks, first_line, keeps, lines, no_line, on_first_line, on_next, put, record_rule, records_due, refusal, refused, step, walk, fault}
 use Rattle.rules.proofs.LineLaws.{lines_law}
 use Rattle.reader.specs.declared.Contact.{Contact}
 use Rattle.reader.specs.declared.Heading.{Heading}
-use Rattle.reader.specs.declared.ReadAnswer.{ReadAnswer}
-use Rattle.reader.specs.declared.RecordRead.{RecordRead}
+use Rattle.reader.specs.declared.Accepted.{Accepted}
 use Rattle.reader.specs.Contact.{behind, contact_at}
 use Rattle.reader.specs.Record.{due_at, lineless, record_at, told_by}
 use Rattle.reader.specs.Read.{record_next, records_told}
@@ -92,10 +94,14 @@ module _ (R : Rules) (s : Text) (at : ℕ) where
 
 -- # The records
 
+-- The answer that accepts so many records, the first of which begins at a place.
+abbrev pub accepting : ℕ → ℕ → Heading → Result Accepted Refusal
+accepting records first heading = Ok (record { records = records; first = first; heading = heading })
+
 -- What is told at the end of an accepted log.
-abbrev pub late_told : ℕ → ℕ → Heading → Reading → ReadAnswer
-late_told records first heading (accepted log) = ReadAnswer.Accepted records first heading
-late_told records first heading (refused r) = ReadAnswer.Refused r
+abbrev pub late_told : ℕ → ℕ → Heading → Reading → Result Accepted Refusal
+late_told records first heading (accepted log) = accepting records first heading
+late_told records first heading (refused r) = Err r
 
 late_put : (records first : ℕ) (heading : Heading) (due : Due) (l : Text) (r : Reading) → late_told records first heading (put due l r) ≡ late_told records first heading r
 unfolding put
@@ -108,11 +114,11 @@ module _ (R : Rules) (due : Due) (n : ℕ) (l : Text) (ls : List Text) (rest : T
   unfolding walk
   walk_law = refl
 
-  pub walk_goes : {next : Due} → step R due l ≡ Next.Goes next → walk R due n (l ∷ ls) rest ≡ put due l (walk R next (n + 1) ls rest)
+  pub walk_goes : {next : Due} → step R due l ≡ Ok next → walk R due n (l ∷ ls) rest ≡ put due l (walk R next (n + 1) ls rest)
   unfolding on_next
   walk_goes e = walk_law ∙ ap (on_next (λ next. walk R next (n + 1) ls rest) n due l) e
 
-  pub walk_stops : {number field : ℕ} → step R due l ≡ Next.Stops number field → walk R due n (l ∷ ls) rest ≡ refused (refusal number n field)
+  pub walk_stops : {f : Fault} → step R due l ≡ Err f → walk R due n (l ∷ ls) rest ≡ refused (refusal f.number n f.field)
   unfolding on_next
   walk_stops e = walk_law ∙ ap (on_next (λ next. walk R next (n + 1) ls rest) n due l) e
 
@@ -122,23 +128,23 @@ module _ (R : Rules) (s : Text) (due : Due) (at : ℕ) (l : Text) (ls : List Tex
   unfolding noted_from
   noted_law = refl
 
-  pub noted_goes : {next : Due} → step R due l ≡ Next.Goes next → noted_from R s due at (l ∷ ls) ≡ noted_line due (contact_at R s at) (noted_from R s next (at + length l + 2) ls)
+  pub noted_goes : {next : Due} → step R due l ≡ Ok next → noted_from R s due at (l ∷ ls) ≡ noted_line due (contact_at R s at) (noted_from R s next (at + length l + 2) ls)
   unfolding noted_next
   noted_goes e = noted_law ∙ ap (noted_next (λ next. noted_from R s next (at + length l + 2) ls) due (contact_at R s at)) e
 
-  pub noted_stops : {number field : ℕ} → step R due l ≡ Next.Stops number field → noted_from R s due at (l ∷ ls) ≡ []
+  pub noted_stops : {f : Fault} → step R due l ≡ Err f → noted_from R s due at (l ∷ ls) ≡ []
   unfolding noted_next
   noted_stops e = noted_law ∙ ap (noted_next (λ next. noted_from R s next (at + length l + 2) ls) due (contact_at R s at)) e
 
-step_kept : (R : Rules) (j : ℕ) (l : Text) → record_rule R l ≡ keeps → step R (Due.Record (suc j)) l ≡ Next.Goes (records_due j)
+step_kept : (R : Rules) (j : ℕ) (l : Text) → record_rule R l ≡ keeps → step R (Due.Record (suc j)) l ≡ Ok (records_due j)
 unfolding step after_record
 step_kept R j l e = let k : suc j - 1 ≡ j = omega arith in ap (after_record (suc j)) e ∙ rw k
 
-step_broken : (R : Rules) (j f : ℕ) (l : Text) → record_rule R l ≡ breaks f → step R (Due.Record (suc j)) l ≡ Next.Stops 5 f
+step_broken : (R : Rules) (j f : ℕ) (l : Text) → record_rule R l ≡ breaks f → step R (Due.Record (suc j)) l ≡ Err (fault 5 f)
 unfolding step after_record
 step_broken R j f l e = ap (after_record (suc j)) e
 
-step_ended : (R : Rules) (l : Text) → step R Due.End l ≡ Next.Stops 6 0
+step_ended : (R : Rules) (l : Text) → step R Due.End l ≡ Err (fault 6 0)
 unfolding step
 step_ended R l = refl
 
@@ -149,7 +155,7 @@ module _ (R : Rules) (s : Text) (records first : ℕ) (heading : Heading) where
     pub contacts : contacts_from R s j at ≡ noted_from R s (records_due j) at ls
 
   -- Behind the last record.
-  pub end_told : (n at : ℕ) {b : Bool} → ltb at (length s) ≡ b → records_told R s records first heading 0 n at ≡ cond b (ReadAnswer.Refused (refusal 6 n 0)) (ReadAnswer.Accepted records first heading)
+  pub end_told : (n at : ℕ) {b : Bool} → ltb at (length s) ≡ b → records_told R s records first heading 0 n at ≡ cond b (Err (refusal 6 n 0)) (accepting records first heading)
   unfolding records_told
   end_told n at e = rw e
 
@@ -169,27 +175,27 @@ module _ (R : Rules) (s : Text) (records first : ℕ) (heading : Heading) where
       }
 
   -- One record more.
-  next_told : (j n at : ℕ) {r : RecordRead} → record_at R s at ≡ r → records_told R s records first heading (suc j) n at ≡ record_next (λ c. records_told R s records first heading j (n + 1) (behind c)) n r
+  next_told : (j n at : ℕ) {r : Result Contact Fault} → record_at R s at ≡ r → records_told R s records first heading (suc j) n at ≡ record_next (λ c. records_told R s records first heading j (n + 1) (behind c)) n r
   unfolding records_told
   next_told j n at e = ap (record_next (λ c. records_told R s records first heading j (n + 1) (behind c)) n) e
 
-  next_noted : (j at : ℕ) {r : RecordRead} → record_at R s at ≡ r → contacts_from R s (suc j) at ≡ contact_next (λ c. contacts_from R s j (behind c)) r
+  next_noted : (j at : ℕ) {r : Result Contact Fault} → record_at R s at ≡ r → contacts_from R s (suc j) at ≡ contact_next (λ c. contacts_from R s j (behind c)) r
   unfolding contacts_from
   next_noted j at e = ap (contact_next (λ c. contacts_from R s j (behind c))) e
 
-  pub next_kept : (j n at : ℕ) {c : Contact} → record_at R s at ≡ RecordRead.Kept c → records_told R s records first heading (suc j) n at ≡ records_told R s records first heading j (n + 1) (behind c)
+  pub next_kept : (j n at : ℕ) {c : Contact} → record_at R s at ≡ Ok c → records_told R s records first heading (suc j) n at ≡ records_told R s records first heading j (n + 1) (behind c)
   unfolding record_next
   next_kept j n at e = next_told j n at e
 
-  pub next_stops : (j n at : ℕ) {number field : ℕ} → record_at R s at ≡ RecordRead.Stops number field → records_told R s records first heading (suc j) n at ≡ ReadAnswer.Refused (refusal number n field)
+  pub next_stops : (j n at : ℕ) {f : Fault} → record_at R s at ≡ Err f → records_told R s records first heading (suc j) n at ≡ Err (refusal f.number n f.field)
   unfolding record_next
   next_stops j n at e = next_told j n at e
 
-  pub noted_kept : (j at : ℕ) {c : Contact} → record_at R s at ≡ RecordRead.Kept c → contacts_from R s (suc j) at ≡ c ∷ contacts_from R s j (behind c)
+  pub noted_kept : (j at : ℕ) {c : Contact} → record_at R s at ≡ Ok c → contacts_from R s (suc j) at ≡ c ∷ contacts_from R s j (behind c)
   unfolding contact_next
   noted_kept j at e = next_noted j at e
 
-  pub noted_ends : (j at : ℕ) {number field : ℕ} → record_at R s at ≡ RecordRead.Stops number field → contacts_from R s (suc j) at ≡ []
+  pub noted_ends : (j at : ℕ) {f : Fault} → record_at R s at ≡ Err f → contacts_from R s (suc j) at ≡ []
   unfolding contact_next
   noted_ends j at e = next_noted j at e
 
@@ -197,10 +203,10 @@ module _ (R : Rules) (s : Text) (records first : ℕ) (heading : Heading) where
   missing_late : (j n at : ℕ) (rest : Text) → at ≤ length s → first_line R (drop at s) ≡ no_line → drop at s ≡ rest → Late (suc j) n at [] rest
   unfolding records_due walk at_rest noted_from due_at lineless
   missing_late j n at [] h g e =
-      let r : record_at R s at ≡ RecordRead.Stops 6 0 = sym (due_by R s at g) ∙ rw (le-ltb at (length s) (omega (arith, ap length e, length-drop at s))) in
+      let r : record_at R s at ≡ Err (fault 6 0) = sym (due_by R s at g) ∙ rw (le-ltb at (length s) (omega (arith, ap length e, length-drop at s))) in
       record { answer = next_stops j n at r; contacts = noted_ends j at r }
   missing_late j n at (c ∷ rest) h g e =
-      let r : record_at R s at ≡ RecordRead.Stops 2 0 = sym (due_by R s at g) ∙ rw (lt-ltb at (length s) (omega (arith, ap length e, length-drop at s))) in
+      let r : record_at R s at ≡ Err (fault 2 0) = sym (due_by R s at g) ∙ rw (lt-ltb at (length s) (omega (arith, ap length e, length-drop at s))) in
       record { answer = next_stops j n at r; contacts = noted_ends j at r }
 
   -- A line stands there.
@@ -208,7 +214,7 @@ module _ (R : Rules) (s : Text) (records first : ℕ) (heading : Heading) where
     broken_late : (f : ℕ) → record_rule R l ≡ breaks f → Late (suc j) n at (l ∷ ls) rest
     unfolding records_due due_at told_by
     broken_late f e =
-        let r : record_at R s at ≡ RecordRead.Stops 5 f = sym (due_by R s at g) ∙ ap (told_by (contact_at R s at)) e in
+        let r : record_at R s at ≡ Err (fault 5 f) = sym (due_by R s at g) ∙ ap (told_by (contact_at R s at)) e in
         record {
           answer = next_stops j n at r ∙ ap (late_told records first heading) (sym (walk_stops R (Due.Record (suc j)) n l ls rest (step_broken R j f l e)));
           contacts = noted_ends j at r ∙ sym (noted_stops R s (Due.Record (suc j)) at l ls (step_broken R j f l e));
@@ -217,7 +223,7 @@ module _ (R : Rules) (s : Text) (records first : ℕ) (heading : Heading) where
     kept_late : record_rule R l ≡ keeps → Late j (n + 1) (at + length l + 2) ls rest → Late (suc j) n at (l ∷ ls) rest
     unfolding records_due due_at told_by noted_line
     kept_late e h =
-        let r : record_at R s at ≡ RecordRead.Kept (contact_at R s at) = sym (due_by R s at g) ∙ ap (told_by (contact_at R s at)) e in
+        let r : record_at R s at ≡ Ok (contact_at R s at) = sym (due_by R s at g) ∙ ap (told_by (contact_at R s at)) e in
         let there : behind (contact_at R s at) ≡ at + length l + 2 = omega (arith, taken_end R s at l (drop (at + length l + 2) s) g e) in
         record {
           answer =

@@ -16,7 +16,7 @@ use Rattle.rules.proofs.TextLaws.{same_eq, same_of_eq}
 use Rattle.fields.specs.Field.{end_of, text_at}
 use Rattle.fields.proofs.Picked.{Kept}
 use Rattle.reader.specs.declared.Contact.{Contact}
-use Rattle.reader.specs.declared.Parsed.{Parsed}
+use Rattle.std.specs.Prelude.{Ok, Err}
 use Rattle.reader.specs.Contact.{contact_at, field_start, last_end, value_by}
 use Rattle.reader.specs.Record.{fields_from, parsed_at, parsed_by, qso_at, rules_at, score_rule}
 use Rattle.reader.proofs.PlaceLaws.{field_first, next_start, start_within}
@@ -70,7 +70,7 @@ pub record Stands (R : Rules) (s : Text) (at k a : ℕ) : Type 0 where
 pub stands_first : (R : Rules) (s : Text) (at : ℕ) → Stands R s at 0 at
 stands_first R s at = record { place = field_first s at; right = refl }
 
-bad_told : (R : Rules) (s : Text) (at : ℕ) {field : ℕ} → first_broken 1 (rules_at R s at) ≡ breaks field → Parsed.Bad field ≡ parsed_at R s at
+bad_told : (R : Rules) (s : Text) (at : ℕ) {field : ℕ} → first_broken 1 (rules_at R s at) ≡ breaks field → Err field ≡ parsed_at R s at
 unfolding parsed_at parsed_by
 bad_told R s at e = sym (ap (parsed_by (contact_at R s at)) e)
 
@@ -87,7 +87,7 @@ module _ {R : Rules} {s : Text} {at k a : ℕ} (p : Stands R s at k a) where
         right = p.right ∙ passes (rules_at R s at) (suc k) k t;
       }
 
-  pub stands_broken : k < 14 → get_or (rules_at R s at) k false ≡ false → Parsed.Bad (suc k) ≡ parsed_at R s at
+  pub stands_broken : k < 14 → get_or (rules_at R s at) k false ≡ false → Err (suc k) ≡ parsed_at R s at
   stands_broken h t =
       bad_told R s at (p.right ∙ fails (rules_at R s at) (suc k) k (rw (tests_are R s at) h) t)
 
@@ -99,11 +99,11 @@ module _ {R : Rules} {s : Text} {at k a : ℕ} (p : Stands R s at k a) where
     pub field_kept : {e : ℕ} → Kept rule s a e → Stands R s at (suc k) (e + 1)
     field_kept f = stands_next f.ending (is ∙ here ∙ f.holds)
 
-    pub field_broken : k < 14 → rule (text_at s a) ≡ false → Parsed.Bad (suc k) ≡ parsed_at R s at
+    pub field_broken : k < 14 → rule (text_at s a) ≡ false → Err (suc k) ≡ parsed_at R s at
     field_broken h f = stands_broken h (is ∙ here ∙ f)
 
 -- All fourteen fields are right: what is told is where they lie.
-pub fields_told : {R : Rules} {s : Text} {at a : ℕ} → Stands R s at 14 a → Parsed.Fields (contact_at R s at) ≡ parsed_at R s at
+pub fields_told : {R : Rules} {s : Text} {at a : ℕ} → Stands R s at 14 a → Ok (contact_at R s at) ≡ parsed_at R s at
 unfolding parsed_at parsed_by first_broken
 fields_told {R} {s} {at} p =
     sym (ap (parsed_by (contact_at R s at)) (p.right ∙ ap (λ (bs : List Bool). first_broken 15 (drop 14 bs)) (tests_are R s at)))

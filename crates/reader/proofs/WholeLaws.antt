@@ -10,24 +10,25 @@ use mathlib.Core.List.{List, [], ◌∷◌, ◌++◌, map}
 use lib.Dec.{ltb}
 use lib.ListN.{length, length-append, length-drop, take, drop}
 use borrow.Author.Tests.{eq-eqb, ne_eqb}
+use Rattle.std.specs.Prelude.{Result, Ok, Err}
+use Rattle.rules.specs.declared.Fault.{Fault}
 use Rattle.rules.specs.declared.Due.{Due}
-use Rattle.rules.specs.declared.Next.{Next}
+use Rattle.std.specs.Prelude.{Result, Ok, Err}
 use Rattle.rules.specs.declared.Refusal.{Refusal}
 use Rattle.rules.specs.Text.{Text, begins, same}
 use Rattle.rules.specs.Rules.{Rules}
 use Rattle.rules.specs.Arguments.{Entry, entries, meets}
 use Rattle.rules.specs.Log.{Log, count_start, ended, identifier, lines_of, record_line, remarks_line, respelt}
-use Rattle.rules.specs.Reading.{Reading, accepted, argument_on, at_rest, count_rule, has_keyword, keyword_due, keyword_line, lines, put, read, records_due, refusal, refused, spelling_due, spelling_on, step, walk, whole, with_line}
+use Rattle.rules.specs.Reading.{Reading, accepted, argument_on, at_rest, count_rule, has_keyword, keyword_due, keyword_line, lines, put, read, records_due, refusal, refused, spelling_due, spelling_on, step, walk, whole, with_line, fault}
 use Rattle.rules.proofs.LineLaws.{lines_are_lem}
 use Rattle.rules.proofs.LogLaws.{length_ended_more}
 use Rattle.rules.proofs.WalkLaws.{drop_next, log_is, records_are}
 use Rattle.header.specs.Header.{keyword_at}
 use Rattle.reader.specs.declared.Contact.{Contact}
 use Rattle.reader.specs.declared.Heading.{Heading}
-use Rattle.reader.specs.declared.CountRead.{CountRead}
-use Rattle.reader.specs.declared.HeadRead.{HeadRead}
-use Rattle.reader.specs.declared.ReadAnswer.{ReadAnswer}
-use Rattle.reader.specs.declared.RecordRead.{RecordRead}
+use Rattle.std.specs.Prelude.{None, Some}
+use Rattle.reader.specs.declared.Head.{Head}
+use Rattle.reader.specs.declared.Accepted.{Accepted}
 use Rattle.reader.specs.Contact.{behind, contact_at, contacts_at}
 use Rattle.reader.specs.Record.{record_at}
 use Rattle.reader.specs.Read.{claims_by, claims_start, heading_by, heading_of, says_respelt, no_heading, respelt_by, counted_by, early, head_count, head_from, head_next, head_of, read_of, read_told, records_told}
@@ -35,17 +36,21 @@ use Rattle.reader.specs.Noted.{contacts_from, contacts_read, noted_from, noted_l
 use Rattle.reader.proofs.DueLaws.{Stands, entries_length, entry_due, entry_at, keyword_stands, respelt_told}
 use Rattle.reader.proofs.StepLaws.{counted_due, goes_to}
 use Rattle.reader.proofs.ParseLaws.{took}
-use Rattle.reader.proofs.ReadLaws.{Lie, first_lies, late, late_told, next_kept, next_stops, noted_goes, noted_kept, noted_stops, walk_goes, walk_stops}
+use Rattle.reader.proofs.ReadLaws.{Lie, accepting, first_lies, late, late_told, next_kept, next_stops, noted_goes, noted_kept, noted_stops, walk_goes, walk_stops}
 use Rattle.reader.proofs.RecordsHeld.{records_start}
 
--- What the head leads to: the answer, and the records that are noted.
-abbrev pub on_head : Rules → Text → HeadRead → ReadAnswer
-on_head R s (HeadRead.Head records first heading n) = records_told R s records first heading records n first
-on_head R s (HeadRead.Refused r) = ReadAnswer.Refused r
+-- The head that leads to so many records.
+abbrev pub leading : ℕ → ℕ → Heading → ℕ → Result Head Refusal
+leading records first heading line = Ok (record { records = records; first = first; heading = heading; line = line })
 
-abbrev pub head_contacts : Rules → Text → HeadRead → List Contact
-head_contacts R s (HeadRead.Head records first heading n) = contacts_from R s records first
-head_contacts R s (HeadRead.Refused r) = []
+-- What the head leads to: the answer, and the records that are noted.
+abbrev pub on_head : Rules → Text → Result Head Refusal → Result Accepted Refusal
+on_head R s (Ok h) = records_told R s h.records h.first h.heading h.records h.line h.first
+on_head R s (Err r) = Err r
+
+abbrev pub head_contacts : Rules → Text → Result Head Refusal → List Contact
+head_contacts R s (Ok h) = contacts_from R s h.records h.first
+head_contacts R s (Err r) = []
 
 -- # Before the records
 
@@ -53,10 +58,10 @@ head_contacts R s (HeadRead.Refused r) = []
 abbrev heading_with : List Entry → ℕ → ℕ → List Text → Heading
 heading_with es claims before ws = record { claims = claims; respelt = before + respelt es ws }
 
-abbrev told_with : List Entry → ℕ → ℕ → ℕ → Reading → ReadAnswer
+abbrev told_with : List Entry → ℕ → ℕ → ℕ → Reading → Result Accepted Refusal
 told_with es claims before end (accepted log) =
-    ReadAnswer.Accepted (length log.records) (end - length (ended (map record_line log.records))) (heading_with es claims before log.keywords)
-told_with es claims before end (refused r) = ReadAnswer.Refused r
+    accepting (length log.records) (end - length (ended (map record_line log.records))) (heading_with es claims before log.keywords)
+told_with es claims before end (refused r) = Err r
 
 -- The entries whose keywords stand from here on, and those behind the line that is due.
 abbrev left : Due → List Entry
@@ -89,7 +94,7 @@ abbrev claims_from : ℕ → ℕ → ℕ → List Text → ℕ
 claims_from zero claims at ls = claims
 claims_from (suc k) claims at ls = at + length (ended (take (suc k) ls))
 
-goes_within : (b c : Bool) (d next : Due) (x y v w : ℕ) → cond b (cond c (Next.Goes d) (Next.Stops x y)) (Next.Stops v w) ≡ Next.Goes next → d ≡ next
+goes_within : (b c : Bool) (d next : Due) (x y v w : ℕ) → cond b (cond c (Ok d) (Err (fault x y))) (Err (fault v w)) ≡ Ok next → d ≡ next
 goes_within true c d next x y v w e = goes_to c d next x y e
 goes_within false c d next x y v w e = let z : ◌≡◌ {A = ℕ} 0 1 = cc in absurd (omega arith)
 
@@ -102,7 +107,7 @@ still : {due next : Due} (d : Due) → early d ≡ true → ahead d ≡ ahead du
 still d h k w e = inl (ap early (sym e) ∙ h, ap ahead (sym e) ∙ k, ap left (sym e) ∙ w)
 
 module _ (R : Rules) where
-  keyword_leads : (es : List Entry) (k : ℕ) (l : Text) (next : Due) → drop k entries ≡ es → length es ≡ 36 - k → keyword_due R es k l ≡ Next.Goes next → Leads (Due.Keyword k) next
+  keyword_leads : (es : List Entry) (k : ℕ) (l : Text) (next : Due) → drop k entries ≡ es → length es ≡ 36 - k → keyword_due R es k l ≡ Ok next → Leads (Due.Keyword k) next
   unfolding keyword_due keyword_line
   keyword_leads [] k l next h n e = let z : ◌≡◌ {A = ℕ} 0 1 = cc in absurd (omega arith)
   keyword_leads (e ∷ []) k l next h n q =
@@ -110,11 +115,11 @@ module _ (R : Rules) where
   keyword_leads (e ∷ f ∷ es) k l next h n q =
       still (Due.Keyword (k + 1)) refl (omega arith) refl (goes_within (has_keyword e l) (meets R e.rule (argument_on e l)) (Due.Keyword (k + 1)) next 4 0 3 0 q)
 
-  remark_leads : (b : Bool) (t : Text) (next : Due) → cond b (count_rule R t) (Next.Goes Due.Remark) ≡ Next.Goes next → Leads Due.Remark next
+  remark_leads : (b : Bool) (t : Text) (next : Due) → cond b (count_rule R t) (Ok Due.Remark) ≡ Ok next → Leads Due.Remark next
   remark_leads true t next e = let q = counted_due R t next e in inr (refl, q.0, q.1)
   remark_leads false t next e = still Due.Remark refl refl refl cc
 
-  leads : (due : Due) (l : Text) (next : Due) → early due ≡ true → step R due l ≡ Next.Goes next → Leads due next
+  leads : (due : Due) (l : Text) (next : Due) → early due ≡ true → step R due l ≡ Ok next → Leads due next
   unfolding step whole
   leads Due.Identifier l next h e = still (Due.Keyword 0) refl refl refl (goes_to (same l identifier) (Due.Keyword 0) next 3 0 e)
   leads (Due.Keyword k) l next h e = keyword_leads (drop k entries) k l next refl (length-drop k entries ∙ ap (λ (n : ℕ). n - k) entries_length) e
@@ -166,8 +171,8 @@ module _ (R : Rules) (l : Text) (claims before end : ℕ) where
   abbrev counting : Due → ℕ
   counting due = before + cond (respelt_by due l) 1 0
 
-  told_so : (n first : ℕ) {a b : ℕ} → a ≡ b → ReadAnswer.Accepted n first (record { claims = claims; respelt = a }) ≡ ReadAnswer.Accepted n first (record { claims = claims; respelt = b })
-  told_so n first e = ap (λ (k : ℕ). ReadAnswer.Accepted n first (record { claims = claims; respelt = k })) e
+  told_so : (n first : ℕ) {a b : ℕ} → a ≡ b → accepting n first (record { claims = claims; respelt = a }) ≡ accepting n first (record { claims = claims; respelt = b })
+  told_so n first e = ap (λ (k : ℕ). accepting n first (record { claims = claims; respelt = k })) e
 
   spelling_brought : (k : ℕ) (ws : List Text) → Stands k l → before + respelt (drop k entries) (spelling_due (drop k entries) l ∷ ws) ≡ counting (Due.Keyword k) + respelt (drop (k + 1) entries) ws
   unfolding respelt spelling_due respelt_by
@@ -179,7 +184,7 @@ module _ (R : Rules) (l : Text) (claims before end : ℕ) where
       ∙ ap (λ (n : ℕ). before + (cond (says_respelt (keyword_at k l)) 1 0 + respelt (drop n entries) ws)) next
       ∙ omega arith
 
-  put_early : (due next : Due) (r : Reading) → early due ≡ true → step R due l ≡ Next.Goes next → told_with (left due) claims before end (put due l r) ≡ told_with (left_behind due) claims (counting due) end r
+  put_early : (due next : Due) (r : Reading) → early due ≡ true → step R due l ≡ Ok next → told_with (left due) claims before end (put due l r) ≡ told_with (left_behind due) claims (counting due) end r
   unfolding put with_line respelt_by respelt
   put_early due next (refused r) h e = refl
   put_early Due.Identifier next (accepted log) h e = told_so (length log.records) (end - length (ended (map record_line log.records))) (omega arith)
@@ -198,7 +203,7 @@ noted_early Due.Remark c cs h = refl
 noted_early (Due.Record n) c cs h = absurd (true≢false (sym h))
 noted_early Due.End c cs h = absurd (true≢false (sym h))
 
-further_early : (next : Due) → early next ≡ true → counted_by next ≡ CountRead.Further
+further_early : (next : Due) → early next ≡ true → counted_by next ≡ None
 unfolding counted_by
 further_early Due.Identifier h = refl
 further_early (Due.Keyword k) h = refl
@@ -207,7 +212,7 @@ further_early Due.Remark h = refl
 further_early (Due.Record n) h = absurd (true≢false (sym h))
 further_early Due.End h = absurd (true≢false (sym h))
 
-counted_records : (j : ℕ) → counted_by (records_due j) ≡ CountRead.Counted j
+counted_records : (j : ℕ) → counted_by (records_due j) ≡ Some j
 unfolding counted_by records_due
 counted_records zero = refl
 counted_records (suc j) = refl
@@ -217,26 +222,26 @@ module _ (R : Rules) (due : Due) (n at : ℕ) (heading : Heading) (l : Text) (ls
   abbrev next_place_lem : ℕ
   next_place_lem = at + length l + 2
 
-  abbrev more : Due → HeadRead
+  abbrev more : Due → Result Head Refusal
   more next = head_from R next (n + 1) next_place_lem (heading_by due l heading next_place_lem) ls
 
   head_law : head_from R due n at heading (l ∷ ls) ≡ head_next more n next_place_lem heading (step R due l)
   unfolding head_from
   head_law = refl
 
-  pub head_stops : {number field : ℕ} → step R due l ≡ Next.Stops number field → head_from R due n at heading (l ∷ ls) ≡ HeadRead.Refused (refusal number n field)
+  pub head_stops : {f : Fault} → step R due l ≡ Err f → head_from R due n at heading (l ∷ ls) ≡ Err (refusal f.number n f.field)
   unfolding head_next
   head_stops e = head_law ∙ ap (head_next more n next_place_lem heading) e
 
-  head_goes_lem : {next : Due} → step R due l ≡ Next.Goes next → head_from R due n at heading (l ∷ ls) ≡ head_count (more next) n next_place_lem heading (counted_by next)
+  head_goes_lem : {next : Due} → step R due l ≡ Ok next → head_from R due n at heading (l ∷ ls) ≡ head_count (more next) n next_place_lem heading (counted_by next)
   unfolding head_next
   head_goes_lem e = head_law ∙ ap (head_next more n next_place_lem heading) e
 
-  pub head_further : {next : Due} → step R due l ≡ Next.Goes next → counted_by next ≡ CountRead.Further → head_from R due n at heading (l ∷ ls) ≡ more next
+  pub head_further : {next : Due} → step R due l ≡ Ok next → counted_by next ≡ None → head_from R due n at heading (l ∷ ls) ≡ more next
   unfolding head_count
   head_further {next} e c = head_goes_lem e ∙ ap (head_count (more next) n next_place_lem heading) c
 
-  pub head_counts : {next : Due} {records : ℕ} → step R due l ≡ Next.Goes next → counted_by next ≡ CountRead.Counted records → head_from R due n at heading (l ∷ ls) ≡ HeadRead.Head records next_place_lem heading (n + 1)
+  pub head_counts : {next : Due} {records : ℕ} → step R due l ≡ Ok next → counted_by next ≡ Some records → head_from R due n at heading (l ∷ ls) ≡ leading records next_place_lem heading (n + 1)
   unfolding head_count
   head_counts {next} e c = head_goes_lem e ∙ ap (head_count (more next) n next_place_lem heading) c
 
@@ -283,8 +288,8 @@ module _ (R : Rules) (s : Text) where
         ap (λ (ts : List Text). length (ended ts)) q.the_lines,
       ) in
       let none : heading.respelt ≡ heading.respelt + 0 = omega arith in
-      ap₂ (λ (count first : ℕ). ReadAnswer.Accepted count first heading) (sym q.count) (sym size)
-      ∙ ap (λ (c : ℕ). ReadAnswer.Accepted (length log.records) (length s - length (ended (map record_line log.records))) (record { claims = heading.claims; respelt = c })) none
+      ap₂ (λ (count first : ℕ). accepting count first heading) (sym q.count) (sym size)
+      ∙ ap (λ (c : ℕ). accepting (length log.records) (length s - length (ended (map record_line log.records))) (record { claims = heading.claims; respelt = c })) none
 
   module _ (due : Due) (n at : ℕ) (heading : Heading) (l : Text) (ls : List Text) (rest : Text) (h : early due ≡ true) where
     -- The place behind the line, where the claims begin, and how many are respelt behind the line.
@@ -297,7 +302,7 @@ module _ (R : Rules) (s : Text) where
     abbrev count : Due → ℕ
     count d = heading.respelt + cond (respelt_by d l) 1 0
 
-    stops_early : {number field : ℕ} → step R due l ≡ Next.Stops number field → Early due n at heading (l ∷ ls) rest
+    stops_early : {f : Fault} → step R due l ≡ Err f → Early due n at heading (l ∷ ls) rest
     stops_early e =
         record {
           answer = ap (on_head R s) (head_stops R due n at heading l ls e) ∙ ap (told_with (left due) begin heading.respelt (length s)) (sym (walk_stops R due n l ls rest e));
@@ -305,7 +310,7 @@ module _ (R : Rules) (s : Text) where
         }
 
     -- What is told of the lines behind this one is told of it too.
-    joins : {next : Due} → step R due l ≡ Next.Goes next
+    joins : {next : Due} → step R due l ≡ Ok next
         → on_head R s (head_from R due n at heading (l ∷ ls)) ≡ told_with (left_behind due) begin (count due) (length s) (walk R next (n + 1) ls rest)
         → head_contacts R s (head_from R due n at heading (l ∷ ls)) ≡ noted_from R s next there ls
         → Early due n at heading (l ∷ ls) rest
@@ -321,7 +326,7 @@ module _ (R : Rules) (s : Text) where
               ∙ sym (noted_goes R s due at l ls e);
         }
 
-    goes_early : (next : Due) → step R due l ≡ Next.Goes next → early next ≡ true → ahead next ≡ ahead due - 1 → left next ≡ left_behind due → Early next (n + 1) there (heading_by due l heading there) ls rest → Early due n at heading (l ∷ ls) rest
+    goes_early : (next : Due) → step R due l ≡ Ok next → early next ≡ true → ahead next ≡ ahead due - 1 → left next ≡ left_behind due → Early next (n + 1) there (heading_by due l heading there) ls rest → Early due n at heading (l ∷ ls) rest
     goes_early next e g k w m =
         let after : Reading = walk R next (n + 1) ls rest in
         joins e
@@ -341,7 +346,7 @@ module _ (R : Rules) (s : Text) where
         ap (λ (c : ℕ). told_with [] heading.claims c (length s) r) none
         ∙ ap (λ (x : Due). told_with (left_behind x) (claims_from (ahead x) heading.claims at (l ∷ ls)) (count x) (length s) r) (sym d)
 
-    counts_early : (j : ℕ) → due ≡ Due.Remark → step R due l ≡ Next.Goes (records_due j) → there ≤ length s → Lie R s there ls rest → Early due n at heading (l ∷ ls) rest
+    counts_early : (j : ℕ) → due ≡ Due.Remark → step R due l ≡ Ok (records_due j) → there ≤ length s → Lie R s there ls rest → Early due n at heading (l ∷ ls) rest
     counts_early j d e w k =
         let m = late R s j there heading ls j (n + 1) there rest w k in
         joins e
@@ -351,13 +356,13 @@ module _ (R : Rules) (s : Text) where
         ∙ remark_told (walk R (records_due j) (n + 1) ls rest) d)
         (ap (head_contacts R s) (head_counts R due n at heading l ls e (counted_records j)) ∙ m.contacts)
 
-    early_more : (x : Next) → step R due l ≡ x → there ≤ length s → Lie R s there ls rest → ((d : Due) (c : Heading) → early d ≡ true → Early d (n + 1) there c ls rest) → Early due n at heading (l ∷ ls) rest
-    early_more (Next.Stops number field) e w k m = stops_early e
-    early_more (Next.Goes next) e w k m = by (leads R due l next h e)
+    early_more : (x : Result Due Fault) → step R due l ≡ x → there ≤ length s → Lie R s there ls rest → ((d : Due) (c : Heading) → early d ≡ true → Early d (n + 1) there c ls rest) → Early due n at heading (l ∷ ls) rest
+    early_more (Err f) e w k m = stops_early e
+    early_more (Ok next) e w k m = by (leads R due l next h e)
       where
         by : Leads due next → Early due n at heading (l ∷ ls) rest
         by (inl (g, q, b)) = goes_early next e g q b (m next (heading_by due l heading there) g)
-        by (inr (d, j, q)) = counts_early j d (e ∙ ap Next.Goes q) w k
+        by (inr (d, j, q)) = counts_early j d (e ∙ ap Ok q) w k
 
   early_told : (ls : List Text) (due : Due) (n at : ℕ) (heading : Heading) (rest : Text) → early due ≡ true → at ≤ length s → Lie R s at ls rest → Early due n at heading ls rest
   early_told [] due n at heading rest h w k = early_rest due n at heading rest h
@@ -376,7 +381,7 @@ module _ (R : Rules) (s : Text) where
   unfolding read_of read
   read_law = refl
 
-  pub head_of_law : head_of R s ≡ cond (ltb R.longest_log (length s)) (HeadRead.Refused (refusal 1 0 0)) (head_from R Due.Identifier 1 0 no_heading (lines R s).whole)
+  pub head_of_law : head_of R s ≡ cond (ltb R.longest_log (length s)) (Err (refusal 1 0 0)) (head_from R Due.Identifier 1 0 no_heading (lines R s).whole)
   unfolding head_of
   head_of_law = refl
 
@@ -392,7 +397,7 @@ module _ (R : Rules) (s : Text) where
       let start : length (ended (take 27 (lines_of log))) ≡ 0 + length (ended (take 27 ls)) =
       omega (arith, ap (λ (ts : List Text). length (ended (take 27 ts))) (log_is R n ls rest log e).the_lines) in
       let all : respelt entries log.keywords ≡ 0 + respelt entries log.keywords = omega arith in
-      ap₂ (λ (c d : ℕ). ReadAnswer.Accepted (length log.records) (end - length (ended (map record_line log.records))) (record { claims = c; respelt = d })) start all
+      ap₂ (λ (c d : ℕ). accepting (length log.records) (end - length (ended (map record_line log.records))) (record { claims = c; respelt = d })) start all
 
   at_first : Early Due.Identifier 1 0 no_heading (lines R s).whole (lines R s).rest
   at_first = early_told (lines R s).whole Due.Identifier 1 0 no_heading (lines R s).rest refl (omega arith) (record { whole = refl; left = refl })
@@ -401,49 +406,51 @@ module _ (R : Rules) (s : Text) where
   unfolding read_told no_heading
   read_by_head = read_law ∙ by (ltb R.longest_log (length s)) ∙ ap (on_head R s) (sym head_of_law)
     where
-      by : (b : Bool) → read_told (length s) (cond b (refused (refusal 1 0 0)) walked) ≡ on_head R s (cond b (HeadRead.Refused (refusal 1 0 0)) (head_from R Due.Identifier 1 0 no_heading (lines R s).whole))
+      by : (b : Bool) → read_told (length s) (cond b (refused (refusal 1 0 0)) walked) ≡ on_head R s (cond b (Err (refusal 1 0 0)) (head_from R Due.Identifier 1 0 no_heading (lines R s).whole))
       by true = refl
       by false = told_whole (length s) 1 (lines R s).whole (lines R s).rest walked refl ∙ sym at_first.answer
 
   pub contacts_by_head : contacts_read R s ≡ head_contacts R s (head_of R s)
   contacts_by_head = contacts_law ∙ by (ltb R.longest_log (length s)) ∙ ap (head_contacts R s) (sym head_of_law)
     where
-      by : (b : Bool) → cond b [] (noted_from R s Due.Identifier 0 (lines R s).whole) ≡ head_contacts R s (cond b (HeadRead.Refused (refusal 1 0 0)) (head_from R Due.Identifier 1 0 no_heading (lines R s).whole))
+      by : (b : Bool) → cond b [] (noted_from R s Due.Identifier 0 (lines R s).whole) ≡ head_contacts R s (cond b (Err (refusal 1 0 0)) (head_from R Due.Identifier 1 0 no_heading (lines R s).whole))
       by true = refl
       by false = sym at_first.contacts
 
   -- # What is noted of an accepted log
 
-  no_answer : {A : Type 0} {r : Refusal} {k first : ℕ} {heading : Heading} → ReadAnswer.Refused r ≡ ReadAnswer.Accepted k first heading → A
+  no_answer : {A : Type 0} {r : Refusal} {k first : ℕ} {heading : Heading} → Err r ≡ accepting k first heading → A
   no_answer e = let z : ◌≡◌ {A = ℕ} 0 1 = cc in absurd (omega arith)
 
   -- Where so many records are accepted, those that are noted are those that lie there.
   module _ (records first : ℕ) (heading : Heading) {k f : ℕ} {c : Heading} where
-    accepted_told : (j n at : ℕ) → records_told R s records first heading j n at ≡ ReadAnswer.Accepted k f c → (records ≡ k) × (first ≡ f) × (contacts_from R s j at ≡ contacts_at R s at j)
+    accepted_told : (j n at : ℕ) → records_told R s records first heading j n at ≡ accepting k f c → (records ≡ k) × (first ≡ f) × (contacts_from R s j at ≡ contacts_at R s at j)
     unfolding records_told contacts_from contacts_at
     accepted_told zero n at e = by (ltb at (length s)) e
       where
-        by : (b : Bool) → cond b (ReadAnswer.Refused (refusal 6 n 0)) (ReadAnswer.Accepted records first heading) ≡ ReadAnswer.Accepted k f c → (records ≡ k) × (first ≡ f) × (◌≡◌ {A = List Contact} [] [])
+        by : (b : Bool) → cond b (Err (refusal 6 n 0)) (accepting records first heading) ≡ accepting k f c → (records ≡ k) × (first ≡ f) × (◌≡◌ {A = List Contact} [] [])
         by true g = no_answer g
-        by false g = (cc, cc, refl)
+        by false g =
+            let same : ◌≡◌ {A = Accepted} (record { records = records; first = first; heading = heading }) (record { records = k; first = f; heading = c }) = cc in
+            (ap (λ (a : Accepted). a.records) same, ap (λ (a : Accepted). a.first) same, refl)
     accepted_told (suc j) n at e = by (record_at R s at) refl (λ i g. accepted_told j (n + 1) i g)
       where
-        by : (r : RecordRead) → record_at R s at ≡ r → ((i : ℕ) → records_told R s records first heading j (n + 1) i ≡ ReadAnswer.Accepted k f c → (records ≡ k) × (first ≡ f) × (contacts_from R s j i ≡ contacts_at R s i j)) → (records ≡ k) × (first ≡ f) × (contacts_from R s (suc j) at ≡ contacts_at R s at (suc j))
-        by (RecordRead.Kept d) g more =
+        by : (r : Result Contact Fault) → record_at R s at ≡ r → ((i : ℕ) → records_told R s records first heading j (n + 1) i ≡ accepting k f c → (records ≡ k) × (first ≡ f) × (contacts_from R s j i ≡ contacts_at R s i j)) → (records ≡ k) × (first ≡ f) × (contacts_from R s (suc j) at ≡ contacts_at R s at (suc j))
+        by (Ok d) g more =
             let q = more (behind d) (sym (next_kept R s records first heading j n at g) ∙ e) in
             let is : d ≡ contact_at R s at = (took R s at g).told in
             (q.0, q.1, noted_kept R s records first heading j at g ∙ ap (λ (cs : List Contact). d ∷ cs) q.2 ∙ ap (λ (x : Contact). x ∷ contacts_at R s (behind x) j) is)
-        by (RecordRead.Stops number field) g more = no_answer (sym (next_stops R s records first heading j n at g) ∙ e)
+        by (Err f) g more = no_answer (sym (next_stops R s records first heading j n at g) ∙ e)
 
   pub contacts_accepted : (log : Log) → read R s ≡ accepted log → contacts_read R s ≡ contacts_at R s (records_start s log) (length log.records)
   unfolding read_of read_told
   contacts_accepted log w = by (head_of R s) refl
     where
-      answer : on_head R s (head_of R s) ≡ ReadAnswer.Accepted (length log.records) (records_start s log) (heading_of log)
+      answer : on_head R s (head_of R s) ≡ accepting (length log.records) (records_start s log) (heading_of log)
       answer = sym read_by_head ∙ ap (read_told (length s)) w
 
-      by : (h : HeadRead) → head_of R s ≡ h → contacts_read R s ≡ contacts_at R s (records_start s log) (length log.records)
-      by (HeadRead.Refused r) e = no_answer (sym (ap (on_head R s) e) ∙ answer)
-      by (HeadRead.Head records first heading n) e =
-          let q = accepted_told records first heading records n first (sym (ap (on_head R s) e) ∙ answer) in
+      by : (h : Result Head Refusal) → head_of R s ≡ h → contacts_read R s ≡ contacts_at R s (records_start s log) (length log.records)
+      by (Err r) e = no_answer (sym (ap (on_head R s) e) ∙ answer)
+      by (Ok h) e =
+          let q = accepted_told h.records h.first h.heading h.records h.line h.first (sym (ap (on_head R s) e) ∙ answer) in
           contacts_by_head ∙ ap (head_contacts R s) e ∙ q.2 ∙ ap₂ (λ (i j : ℕ). contacts_at R s i j) q.1 q.0

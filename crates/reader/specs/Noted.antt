@@ -1,16 +1,14 @@
 -- What is noted of the records while a log is read, and what a lent list of places holds afterwards.
 -- Assumes nothing.
-use Rattle.std.specs.Prelude.{ℕ, zero, suc, ◌+◌, cond, List, [], ◌∷◌, map, ltb, length, take}
+use Rattle.std.specs.Prelude.{ℕ, zero, suc, ◌+◌, cond, List, [], ◌∷◌, map, ltb, length, take, Result, Ok, Err}
+use Rattle.rules.specs.declared.Fault.{Fault}
 use Rattle.rules.specs.declared.Due.{Due}
 use Rattle.rules.specs.declared.Due.TheVariants.{Identifier, Keyword, Remarks, Remark, Record, End}
-use Rattle.rules.specs.declared.Next.{Next}
-use Rattle.rules.specs.declared.Next.TheVariants.{Goes, Stops}
 use Rattle.rules.specs.Text.{Text}
 use Rattle.rules.specs.Rules.{Rules}
 use Rattle.rules.specs.Reading.{lines, step}
 use Rattle.rules.specs.Answers.{over}
 use Rattle.reader.specs.declared.Contact.{Contact}
-use Rattle.reader.specs.declared.RecordRead.{RecordRead}
 use Rattle.reader.specs.Contact.{behind, contact_at}
 use Rattle.reader.specs.Record.{record_at}
 
@@ -24,10 +22,10 @@ noted_line (Record n) c cs = c ∷ cs
 noted_line End c cs = cs
 
 -- A line that is refused ends what is noted.
-unfoldable pub noted_next : (Due → List Contact) → Due → Contact → Next → List Contact
+unfoldable pub noted_next : (Due → List Contact) → Due → Contact → Result Due Fault → List Contact
 unfolding noted_line
-noted_next more due c (Goes next) = noted_line due c (more next)
-noted_next more due c (Stops number field) = []
+noted_next more due c (Ok next) = noted_line due c (more next)
+noted_next more due c (Err e) = []
 
 -- The records among these lines, the first of which begins at a place and is due as said.
 unfoldable pub noted_from : Rules → Text → Due → ℕ → List Text → List Contact
@@ -44,9 +42,9 @@ contacts_read R s =
     cond (ltb R.longest_log (length s)) [] noted
 
 -- The same of so many records, the first of which is due at a place: those in front of the first that is refused.
-unfoldable pub contact_next : (Contact → List Contact) → RecordRead → List Contact
-contact_next more (RecordRead.Kept c) = c ∷ more c
-contact_next more (RecordRead.Stops number field) = []
+unfoldable pub contact_next : (Contact → List Contact) → Result Contact Fault → List Contact
+contact_next more (Ok c) = c ∷ more c
+contact_next more (Err e) = []
 
 unfoldable pub contacts_from : Rules → Text → ℕ → ℕ → List Contact
 unfolding contact_next record_at

@@ -1,25 +1,22 @@
 -- What is answered of a log as a whole, and of its two parts: what stands in front of the records, and the records.
 -- Assumes nothing.
-use Rattle.std.specs.Prelude.{ℕ, zero, suc, ◌+◌, ◌-◌, Bool, true, false, cond, List, [], ◌∷◌, map, eqb, ltb, length, take}
+use Rattle.std.specs.Prelude.{ℕ, zero, suc, ◌+◌, ◌-◌, Bool, true, false, cond, List, [], ◌∷◌, map, eqb, ltb, length, take, Result, Ok, Err, Option, None, Some}
+use Rattle.rules.specs.declared.Fault.{Fault}
 use Rattle.rules.specs.declared.Due.{Due}
 use Rattle.rules.specs.declared.Due.TheVariants.{Identifier, Keyword, Remarks, Remark, Record, End}
-use Rattle.rules.specs.declared.Next.{Next}
-use Rattle.rules.specs.declared.Next.TheVariants.{Goes, Stops}
+use Rattle.rules.specs.declared.Refusal.{Refusal}
 use Rattle.rules.specs.Text.{Text}
 use Rattle.rules.specs.Rules.{Rules}
 use Rattle.rules.specs.Arguments.{entries}
 use Rattle.rules.specs.Log.{Log, lines_of, ended, record_line, respelt}
-use Rattle.rules.specs.Reading.{Reading, accepted, lines, read, refusal, refused, step}
+use Rattle.rules.specs.Reading.{Reading, accepted, lines, read, refusal, refused, step, fault}
 use Rattle.reader.specs.declared.Contact.{Contact}
-use Rattle.reader.specs.declared.CountRead.{CountRead}
-use Rattle.header.specs.declared.ArgumentRead.{ArgumentRead}
 use Rattle.header.specs.declared.KeywordRead.{KeywordRead}
 use Rattle.header.specs.Header.{keyword_at}
-use Rattle.reader.specs.declared.HeadRead.{HeadRead}
-use Rattle.reader.specs.declared.ReadAnswer.{ReadAnswer}
+use Rattle.reader.specs.declared.Head.{Head}
+use Rattle.reader.specs.declared.Accepted.{Accepted}
 use Rattle.reader.specs.declared.Heading.{Heading}
 use Rattle.reader.specs.declared.Stepped.{Stepped}
-use Rattle.reader.specs.declared.RecordRead.{RecordRead}
 use Rattle.reader.specs.Contact.{behind}
 use Rattle.reader.specs.Record.{record_at}
 
@@ -47,9 +44,8 @@ unfolding step respelt_by
 step_of R before due l = record { next = step R due l; respelt = before + cond (respelt_by due l) 1 0 }
 
 -- The argument behind a keyword after so many: the next keyword is due, or `[Remarks]` behind the last.
-unfoldable pub after_argument : ℕ → ArgumentRead → Next
-after_argument k ArgumentRead.Kept = Goes (cond (ltb k 35) (Keyword (k + 1)) Remarks)
-after_argument k ArgumentRead.Broken = Stops 4 0
+unfoldable pub after_argument : ℕ → Bool → Result Due Fault
+after_argument k kept = cond kept (Ok (cond (ltb k 35) (Keyword (k + 1)) Remarks)) (Err (fault 4 0))
 
 -- # A log
 
@@ -65,13 +61,18 @@ heading_of log = record { claims = claims_start log; respelt = respelt entries l
 
 -- The code's word for each case: of an accepted log, how many records there are, where the first begins, which is as far from the end as the
 -- records are long, and its heading.
-unfoldable pub read_told : ℕ → Reading → ReadAnswer
+unfoldable pub read_told : ℕ → Reading → Result Accepted Refusal
 unfolding ended record_line heading_of
 read_told end (accepted log) =
-    ReadAnswer.Accepted (length log.records) (end - length (ended (map record_line log.records))) (heading_of log)
-read_told end (refused r) = ReadAnswer.Refused r
+    Ok
+    (record {
+      records = length log.records;
+      first = end - length (ended (map record_line log.records));
+      heading = heading_of log;
+    })
+read_told end (refused r) = Err r
 
-unfoldable pub read_of : Rules → Text → ReadAnswer
+unfoldable pub read_of : Rules → Text → Result Accepted Refusal
 unfolding read_told read
 read_of R s = read_told (length s) (read R s)
 
@@ -86,14 +87,14 @@ early Remark = true
 early (Record n) = false
 early End = false
 
--- The count line says how many records there are.
-unfoldable pub counted_by : Due → CountRead
-counted_by Identifier = CountRead.Further
-counted_by (Keyword k) = CountRead.Further
-counted_by Remarks = CountRead.Further
-counted_by Remark = CountRead.Further
-counted_by (Record n) = CountRead.Counted n
-counted_by End = CountRead.Counted 0
+-- The count line says how many records there are, and no line in front of it does.
+unfoldable pub counted_by : Due → Option ℕ
+counted_by Identifier = None
+counted_by (Keyword k) = None
+counted_by Remarks = None
+counted_by Remark = None
+counted_by (Record n) = Some n
+counted_by End = Some 0
 
 -- The claims begin behind the line of the keyword that comes after 25, and else where they were found to begin.
 unfoldable pub claims_by : Due → ℕ → ℕ → ℕ
@@ -117,38 +118,38 @@ unfoldable pub no_heading : Heading
 no_heading = record { claims = 0; respelt = 0 }
 
 -- A line that is taken, behind which the next begins at a place: the count line is the last of the head.
-unfoldable pub head_count : HeadRead → ℕ → ℕ → Heading → CountRead → HeadRead
-head_count more n at heading (CountRead.Counted records) = HeadRead.Head records at heading (n + 1)
-head_count more n at heading CountRead.Further = more
+unfoldable pub head_count : Result Head Refusal → ℕ → ℕ → Heading → Option ℕ → Result Head Refusal
+head_count more n at heading (Some records) = Ok (record { records = records; first = at; heading = heading; line = n + 1 })
+head_count more n at heading None = more
 
-unfoldable pub head_next : (Due → HeadRead) → ℕ → ℕ → Heading → Next → HeadRead
+unfoldable pub head_next : (Due → Result Head Refusal) → ℕ → ℕ → Heading → Result Due Fault → Result Head Refusal
 unfolding head_count counted_by
-head_next more n at heading (Goes next) = head_count (more next) n at heading (counted_by next)
-head_next more n at heading (Stops number field) = HeadRead.Refused (refusal number n field)
+head_next more n at heading (Ok next) = head_count (more next) n at heading (counted_by next)
+head_next more n at heading (Err e) = Err (refusal e.number n e.field)
 
 -- What is told of these lines, the first of which has this number, begins at a place and is due as said.
-unfoldable pub head_from : Rules → Due → ℕ → ℕ → Heading → List Text → HeadRead
+unfoldable pub head_from : Rules → Due → ℕ → ℕ → Heading → List Text → Result Head Refusal
 unfolding head_next heading_by step
-head_from R due n at heading [] = HeadRead.Refused (refusal 2 n 0)
+head_from R due n at heading [] = Err (refusal 2 n 0)
 head_from R due n at heading (l ∷ ls) =
     head_next (λ next. head_from R next (n + 1) (at + length l + 2) (heading_by due l heading (at + length l + 2)) ls) n (at + length l + 2) heading (step R due l)
 
-unfoldable pub head_of : Rules → Text → HeadRead
+unfoldable pub head_of : Rules → Text → Result Head Refusal
 unfolding head_from no_heading lines
 head_of R s =
     let by_line = head_from R Identifier 1 0 no_heading (lines R s).whole in
-    cond (ltb R.longest_log (length s)) (HeadRead.Refused (refusal 1 0 0)) by_line
+    cond (ltb R.longest_log (length s)) (Err (refusal 1 0 0)) by_line
 
 -- # The records
 
 -- Where the first record begins, and the heading; then of so many records from the line of this number on, that begins at a place.
-unfoldable pub record_next : (Contact → ReadAnswer) → ℕ → RecordRead → ReadAnswer
-record_next more n (RecordRead.Kept c) = more c
-record_next more n (RecordRead.Stops number field) = ReadAnswer.Refused (refusal number n field)
+unfoldable pub record_next : (Contact → Result Accepted Refusal) → ℕ → Result Contact Fault → Result Accepted Refusal
+record_next more n (Ok c) = more c
+record_next more n (Err e) = Err (refusal e.number n e.field)
 
-unfoldable pub records_told : Rules → Text → ℕ → ℕ → Heading → ℕ → ℕ → ℕ → ReadAnswer
+unfoldable pub records_told : Rules → Text → ℕ → ℕ → Heading → ℕ → ℕ → ℕ → Result Accepted Refusal
 unfolding record_next record_at
 records_told R s records first heading zero n at =
-    cond (ltb at (length s)) (ReadAnswer.Refused (refusal 6 n 0)) (ReadAnswer.Accepted records first heading)
+    cond (ltb at (length s)) (Err (refusal 6 n 0)) (Ok (record { records = records; first = first; heading = heading }))
 records_told R s records first heading (suc left) n at =
     record_next (λ c. records_told R s records first heading left (n + 1) (behind c)) n (record_at R s at)

@@ -1,17 +1,15 @@
 -- What is told of a record: by its fields where they lie, of a line by itself, and of the place of a log where a record is due.
 -- Assumes nothing.
-use Rattle.std.specs.Prelude.{ℕ, zero, suc, ◌+◌, ◌-◌, ◌≤◌, ◌<◌, ◌≡◌, Bool, true, cond, not, ◌&&◌, ◌||◌, List, [], ◌∷◌, eqb, ltb, length, take, drop, get_or}
+use Rattle.std.specs.Prelude.{ℕ, zero, suc, ◌+◌, ◌-◌, ◌≤◌, ◌<◌, ◌≡◌, Bool, true, cond, not, ◌&&◌, ◌||◌, List, [], ◌∷◌, eqb, ltb, length, take, drop, get_or, Option, Some, None, Result, Ok, Err}
+use Rattle.rules.specs.declared.Fault.{Fault}
 use Rattle.rules.specs.Text.{Text, bytes, number_of, parts, same, semicolon}
 use Rattle.rules.specs.Rules.{Rules}
 use Rattle.rules.specs.Fields.{Qso, date_rule, field_rules, qso_of}
-use Rattle.rules.specs.Reading.{FirstLine, RecordRule, a_line, breaks, first_broken, first_line, keeps, no_line, record_rule}
+use Rattle.rules.specs.Reading.{FirstLine, RecordRule, a_line, breaks, fault, first_broken, first_line, keeps, no_line, record_rule}
 use Rattle.rules.specs.Log.{conjunction}
 use Rattle.rules.specs.Judging.{claims_duplicate}
 use Rattle.fields.specs.Field.{end_of, text_at}
 use Rattle.reader.specs.declared.Contact.{Contact}
-use Rattle.reader.specs.declared.DatedRead.{DatedRead}
-use Rattle.reader.specs.declared.Parsed.{Parsed}
-use Rattle.reader.specs.declared.RecordRead.{RecordRead}
 use Rattle.reader.specs.Contact.{contact_at, Describes}
 
 -- # The fields where they lie
@@ -33,18 +31,18 @@ unfolding field_rules qso_at
 rules_at R s at = take 14 (field_rules R (qso_at s at))
 
 -- "A field that cannot be read stops the line there": the first bad field, or where the fields lie.
-unfoldable pub parsed_by : Contact → RecordRule → Parsed
-parsed_by c keeps = Parsed.Fields c
-parsed_by c (breaks field) = Parsed.Bad field
+unfoldable pub parsed_by : Contact → RecordRule → Result Contact ℕ
+parsed_by c keeps = Ok c
+parsed_by c (breaks field) = Err field
 
-unfoldable pub parsed_at : Rules → Text → ℕ → Parsed
+unfoldable pub parsed_at : Rules → Text → ℕ → Result Contact ℕ
 unfolding parsed_by contact_at first_broken rules_at
 parsed_at R s at = parsed_by (contact_at R s at) (first_broken 1 (rules_at R s at))
 
 -- The two fields whose rules look at the call: the date, and the points of a record that is an ERROR or is not.
-unfoldable pub dated_at : Text → ℕ → DatedRead
+unfoldable pub dated_at : Text → ℕ → Option ℕ
 unfolding date_rule qso_at end_of
-dated_at s at = cond (date_rule (qso_at s at)) (DatedRead.Dated (end_of s at)) DatedRead.Bad
+dated_at s at = cond (date_rule (qso_at s at)) (Some (end_of s at)) None
 
 unfoldable pub score_rule : Rules → Bool → Text → Bool
 unfolding number_of same
@@ -53,38 +51,38 @@ score_rule R error t = number_of R.points_digits t && (not error || same t (byte
 -- # The record
 
 -- 5: "a record breaks a rule"
-unfoldable pub told_by : Contact → RecordRule → RecordRead
-told_by c keeps = RecordRead.Kept c
-told_by c (breaks field) = RecordRead.Stops 5 field
+unfoldable pub told_by : Contact → RecordRule → Result Contact Fault
+told_by c keeps = Ok c
+told_by c (breaks field) = Err (fault 5 field)
 
 -- Of a line by itself.
-unfoldable pub record_on : Rules → Text → RecordRead
+unfoldable pub record_on : Rules → Text → Result Contact Fault
 unfolding told_by contact_at record_rule
 record_on R l = told_by (contact_at R l 0) (record_rule R l)
 
 -- "field 0 for a wrong number of semicolons, else the first bad field", once this is known to be it.
-unfoldable pub broken_at : Text → ℕ → RecordRead
+unfoldable pub broken_at : Text → ℕ → Fault
 unfolding parts
-broken_at l field = cond (eqb (length (parts l)) 15) (RecordRead.Stops 5 field) (RecordRead.Stops 5 0)
+broken_at l field = cond (eqb (length (parts l)) 15) (fault 5 field) (fault 5 0)
 
 -- Where no line stands. 2: "the line due has no CR LF ..., but see 6"; 6: "the log ends where a record line is due to begin"
-unfoldable pub lineless : Text → ℕ → RecordRead
-lineless s at = cond (ltb at (length s)) (RecordRead.Stops 2 0) (RecordRead.Stops 6 0)
+unfoldable pub lineless : Text → ℕ → Fault
+lineless s at = cond (ltb at (length s)) (fault 2 0) (fault 6 0)
+
+-- What is told of the line that stands at a place, and what is told where none does.
+unfoldable pub due_at : {A : Type 0} → (Text → A) → A → FirstLine → A
+due_at of_line of_none (a_line l rest) = of_line l
+due_at of_line of_none no_line = of_none
 
 -- Of the place of a log where a record is due.
-unfoldable pub due_at : (Text → RecordRead) → Text → ℕ → FirstLine → RecordRead
-unfolding lineless
-due_at of_line s at (a_line l rest) = of_line l
-due_at of_line s at no_line = lineless s at
+unfoldable pub record_at : Rules → Text → ℕ → Result Contact Fault
+unfolding due_at told_by contact_at record_rule lineless first_line
+record_at R s at = due_at (λ l. told_by (contact_at R s at) (record_rule R l)) (Err (lineless s at)) (first_line R (drop at s))
 
-unfoldable pub record_at : Rules → Text → ℕ → RecordRead
-unfolding due_at told_by contact_at record_rule first_line
-record_at R s at = due_at (λ l. told_by (contact_at R s at) (record_rule R l)) s at (first_line R (drop at s))
-
--- The same, once a field is known to be the first bad one of whatever line stands there.
-unfoldable pub broken_from : Rules → Text → ℕ → ℕ → RecordRead
-unfolding due_at broken_at first_line
-broken_from R s at field = due_at (λ l. broken_at l field) s at (first_line R (drop at s))
+-- Why none stands there, once a field is known to be the first bad one of whatever line does.
+unfoldable pub broken_from : Rules → Text → ℕ → ℕ → Fault
+unfolding due_at broken_at lineless first_line
+broken_from R s at field = due_at (λ l. broken_at l field) (lineless s at) (first_line R (drop at s))
 
 -- # A record in a line by itself
 

@@ -2,49 +2,42 @@
 
 #![tactic(auto)]
 
-ghost use Rattle.std.specs.Prelude.{◌≡◌, true, cond, [], ◌+◌, ◌≤◌, ◌<◌, drop, length, set};
+ghost use Rattle.std.specs.Prelude.{◌≡◌, true, ◌+◌, ◌≤◌, drop, length, set, Err};
 ghost use Rattle.rules.specs.Text.{allowed, begins, same, span};
 ghost use Rattle.rules.specs.Rules.{base};
 ghost use Rattle.rules.specs.Fields.{error_call};
 ghost use Rattle.rules.specs.Log.{crlf};
-ghost use Rattle.rules.specs.Reading.{count_rule, records_due, step, whole};
+ghost use Rattle.rules.specs.Reading.{count_rule, fault, records_due, step, whole};
 ghost use Rattle.header.specs.Header.{argument_of};
 ghost use Rattle.fields.specs.Field.{in_field, text_at};
 ghost use Rattle.figures.specs.Figure.{number_at};
-ghost use Rattle.reader.specs.Line.{line_at, other_than, semicolons_in};
+ghost use Rattle.reader.specs.Line.{line_at, semicolons_in};
 ghost use Rattle.reader.specs.Contact.{field_start, last_end};
 ghost use Rattle.reader.specs.Record.{broken_at, broken_from, dated_at, parsed_at, record_at, record_on, score_rule};
 ghost use Rattle.reader.specs.Read.{after_argument, claims_by, counted_by, early, head_of, read_of, records_told, step_of};
 ghost use Rattle.reader.specs.Noted.{contacts_from, contacts_read, listed};
 
-use fields::{CallRead, ExchangeRead, LocatorRead, MarkRead, ModeRead, ReportRead, SerialRead};
-use figures::{DateRead, NumberRead, TimeRead};
-use header::{ArgumentRead, KeywordRead};
-use rules::{Due, Next, Refusal};
+use fields::{Besides, CallField, Digits, Kind, MarkField, run};
+use figures::DateRead;
+use header::KeywordRead;
+use rules::{Due, Fault, Refusal};
 
 // # Lines
 
 pub fn is_allowed(b: u8) -> bool
     ensures { result ≡ allowed b }
 {
-    if b < 32 {
-        return false;
-    }
-    b <= 127
+    matches!(b, 32..=127)
 }
 
-// The place behind the allowed characters from here on, looked at one by one.
-fn allowed_tail(s: &[u8], at: usize) -> usize
-    ensures { result ≡ at + span allowed (drop at s.now) }
-{
-    let mut i = at;
-    while i < s.len() {
-        if !is_allowed(s[i]) {
-            return i;
-        }
-        i += 1;
+pub struct Allowed;
+
+impl Kind for Allowed {
+    ghost holds = { λ k. allowed };
+
+    fn has(&self, b: u8) -> bool {
+        is_allowed(b)
     }
-    i
 }
 
 // The place behind the allowed characters from here on, looked at four by four.
@@ -70,79 +63,43 @@ pub fn allowed_run(s: &[u8], at: usize) -> usize
         }
         i += 4;
     }
-    allowed_tail(s, i)
+    run(s, i, &Allowed)
 }
 
 // CR LF stand at this place.
 pub fn line_ends(s: &[u8], at: usize) -> bool
     ensures { result ≡ begins crlf (drop at s.now) }
 {
-    if s.len() <= at {
-        return false;
-    }
-    if s.len() - at < 2 {
-        return false;
-    }
-    if s[at] != 13 {
-        return false;
-    }
-    s[at + 1] == 10
+    at <= s.len() && s[at..].starts_with(b"\r\n")
 }
 
-// Whether a line stands at a place, and where it ends, before its CR LF.
-#[derive(Clone, Copy)]
-pub enum LineRead {
-    Line(usize),
-    Missing,
-}
-
-pub fn line_end(s: &[u8], at: usize) -> LineRead
+// Where the line that stands at a place ends, before its CR LF.
+pub fn line_end(s: &[u8], at: usize) -> Option<usize>
     ensures { result ≡ line_at base s.now at }
 {
     let end = allowed_run(s, at);
     if rules::longest_line() < end - at {
-        return LineRead::Missing;
+        return None;
     }
     if line_ends(s, end) {
-        return LineRead::Line(end);
+        return Some(end);
     }
-    LineRead::Missing
-}
-
-// The first place from here on where this byte stands, or the end of the text.
-pub fn run_to(s: &[u8], at: usize, b: u8) -> usize
-    ensures { result ≡ at + span (other_than b) (drop at s.now) }
-{
-    let mut i = at;
-    while i < s.len() {
-        if s[i] == b {
-            return i;
-        }
-        i += 1;
-    }
-    i
+    None
 }
 
 // The place behind the field that begins here: a semicolon stands there, or the line ends.
 pub fn field_end(s: &[u8], at: usize) -> usize
     ensures { result ≡ at + span in_field (drop at s.now) }
 {
-    run_to(s, at, 59)
+    run(s, at, &Besides(b';'))
 }
 
 // How many semicolons a line has.
+#[tactic(auto, using(crate::proofs::CountLaws::semicolons_by))]
 pub fn semicolons(line: &[u8]) -> usize
     ensures { result ≡ semicolons_in line.now }
 {
-    let mut n = 0;
-    let mut i = 0;
-    while i < line.len() {
-        if line[i] == 59 {
-            n += 1;
-        }
-        i += 1;
-    }
-    n
+    line.iter().filter(|b| **b == b';').count()
 }
 
 // # The record reader
@@ -171,50 +128,44 @@ fn third_is_error(s: &[u8], at: usize) -> bool
 {
     let first = field_end(s, at);
     let second = field_end(s, first + 1);
-    let CallRead::Call { end: _, error } = fields::call(s, second + 1) else {
+    let Some(call) = fields::call(s, second + 1) else {
         return false;
     };
-    error
+    call.error
 }
 
 // Where the date of a record ends, if it may stand there: only an ERROR record may leave it empty.
-#[derive(Clone, Copy)]
-pub enum DatedRead {
-    Dated(usize),
-    Bad,
-}
-
-fn dated(s: &[u8], at: usize) -> DatedRead
+fn dated(s: &[u8], at: usize) -> Option<usize>
     requires { at ≤ length s.now }
     ensures { result ≡ dated_at s.now at }
 {
     let read = figures::date(s, at);
     match read {
-        DateRead::Date(end) => DatedRead::Dated(end),
-        DateRead::Bad => DatedRead::Bad,
+        DateRead::Date(end) => Some(end),
+        DateRead::Bad => None,
         DateRead::Empty => {
             if third_is_error(s, at) {
-                return DatedRead::Dated(at);
+                return Some(at);
             }
-            DatedRead::Bad
+            None
         }
     }
 }
 
 // The points of a record, if they may stand there: an ERROR record has none.
-fn scored(s: &[u8], at: usize, error: bool) -> NumberRead
+fn scored(s: &[u8], at: usize, error: bool) -> Option<(u64, usize)>
     ensures { result ≡ number_at (score_rule base error) s.now at }
 {
-    let NumberRead::Number(worth, end) = figures::points(s, at) else {
-        return NumberRead::Bad;
+    let Some((worth, end)) = figures::points(s, at) else {
+        return None;
     };
     if !error {
-        return NumberRead::Number(worth, end);
+        return Some((worth, end));
     }
     if worth == 0 {
-        return NumberRead::Number(worth, end);
+        return Some((worth, end));
     }
-    NumberRead::Bad
+    None
 }
 
 // The end of the last field, behind which no semicolon stands.
@@ -231,84 +182,85 @@ fn last_end(s: &[u8], at: usize) -> usize
 }
 
 // The fields of a record where they lie, or the first of the fourteen in front that breaks its rule. What stands behind the last is for the
-// caller to look at.
-#[derive(Clone, Copy)]
-pub enum Parsed {
-    Fields(Contact),
-    Bad(u32),
-}
-
-// Each field is taken where the one before it ends: a field that cannot be read stops the line there.
-pub fn parse(s: &[u8], at: usize) -> Parsed
+// caller to look at. Each field is taken where the one before it ends: a field that cannot be read stops the line there.
+pub fn parse(s: &[u8], at: usize) -> Result<Contact, u32>
     ensures { result ≡ parsed_at base s.now at }
 {
     if s.len() <= at {
-        return Parsed::Bad(1);
+        return Err(1);
     }
-    let DatedRead::Dated(date) = dated(s, at) else {
-        return Parsed::Bad(1);
+    let Some(date) = dated(s, at) else {
+        return Err(1);
     };
-    let TimeRead::Time(_, time) = figures::time(s, date + 1) else {
-        return Parsed::Bad(2);
+    let Some((_, time)) = figures::time(s, date + 1) else {
+        return Err(2);
     };
     let call = time + 1;
-    let CallRead::Call {
-        end: callend,
-        error,
-    } = fields::call(s, call)
+    let Some(
+        CallField {
+            end: callend,
+            error,
+        },
+    ) = fields::call(s, call)
     else {
-        return Parsed::Bad(3);
+        return Err(3);
     };
-    let ModeRead::Mode(mode) = fields::mode(s, callend + 1) else {
-        return Parsed::Bad(4);
+    let Some(mode) = fields::mode(s, callend + 1) else {
+        return Err(4);
     };
-    let ReportRead::Report(sent) = fields::report(s, mode + 1) else {
-        return Parsed::Bad(5);
+    let Some(sent) = fields::report(s, mode + 1) else {
+        return Err(5);
     };
-    let SerialRead::Serial(sentnumber) = fields::serial(s, sent + 1) else {
-        return Parsed::Bad(6);
+    let Some(sentnumber) = fields::serial(s, sent + 1) else {
+        return Err(6);
     };
-    let ReportRead::Report(received) = fields::report(s, sentnumber + 1) else {
-        return Parsed::Bad(7);
+    let Some(received) = fields::report(s, sentnumber + 1) else {
+        return Err(7);
     };
-    let SerialRead::Serial(receivednumber) = fields::serial(s, received + 1) else {
-        return Parsed::Bad(8);
+    let Some(receivednumber) = fields::serial(s, received + 1) else {
+        return Err(8);
     };
     let exchange = receivednumber + 1;
-    let ExchangeRead::Exchange(exchangeend) = fields::exchange(s, exchange) else {
-        return Parsed::Bad(9);
+    let Some(exchangeend) = fields::exchange(s, exchange) else {
+        return Err(9);
     };
     let locator = exchangeend + 1;
-    let LocatorRead::Locator(locatorend) = fields::locator_or_empty(s, locator) else {
-        return Parsed::Bad(10);
+    let Some(locatorend) = fields::locator_or_empty(s, locator) else {
+        return Err(10);
     };
     let points = locatorend + 1;
-    let NumberRead::Number(worth, pointsend) = scored(s, points, error) else {
-        return Parsed::Bad(11);
+    let Some((worth, pointsend)) = scored(s, points, error) else {
+        return Err(11);
     };
-    let MarkRead::Mark {
-        set: _,
-        end: newexchange,
-    } = fields::mark(s, pointsend + 1, 78)
+    let Some(
+        MarkField {
+            end: newexchange,
+            set: _,
+        },
+    ) = fields::mark(s, pointsend + 1, 78)
     else {
-        return Parsed::Bad(12);
+        return Err(12);
     };
-    let MarkRead::Mark {
-        set: _,
-        end: newsquare,
-    } = fields::mark(s, newexchange + 1, 78)
+    let Some(
+        MarkField {
+            end: newsquare,
+            set: _,
+        },
+    ) = fields::mark(s, newexchange + 1, 78)
     else {
-        return Parsed::Bad(13);
+        return Err(13);
     };
-    let MarkRead::Mark {
-        set: country,
-        end: newcountry,
-    } = fields::mark(s, newsquare + 1, 78)
+    let Some(
+        MarkField {
+            end: newcountry,
+            set: country,
+        },
+    ) = fields::mark(s, newsquare + 1, 78)
     else {
-        return Parsed::Bad(14);
+        return Err(14);
     };
     let end = last_end(s, newcountry + 1);
-    Parsed::Fields(Contact {
+    Ok(Contact {
         call,
         callend,
         exchange,
@@ -324,54 +276,46 @@ pub fn parse(s: &[u8], at: usize) -> Parsed
     })
 }
 
-// What is told where a record is due: where its parts lie, or the refusal's number and field.
-#[derive(Clone, Copy)]
-pub enum RecordRead {
-    Kept(Contact),
-    Stops { number: u32, field: u32 },
-}
-
-// A field of a line is bad: it is told where the number of semicolons is right.
-fn broken(line: &[u8], field: u32) -> RecordRead
+// Why a line is refused whose field is bad: the field is told where the number of semicolons is right.
+fn broken(line: &[u8], field: u32) -> Fault
     ensures { result ≡ broken_at line.now field }
 {
     if semicolons(line) == 14 {
-        return RecordRead::Stops { number: 5, field };
+        return Fault { number: 5, field };
     }
-    RecordRead::Stops {
+    Fault {
         number: 5,
         field: 0,
     }
 }
 
-// A record line by itself.
-pub fn record(line: &[u8]) -> RecordRead
+// A record line by itself: where its parts lie, or why it is none.
+pub fn record(line: &[u8]) -> Result<Contact, Fault>
     ensures { result ≡ record_on base line.now }
 {
-    let read = parse(line, 0);
-    match read {
-        Parsed::Bad(field) => broken(line, field),
-        Parsed::Fields(c) => {
+    match parse(line, 0) {
+        Err(field) => Err(broken(line, field)),
+        Ok(c) => {
             if c.end == line.len() {
-                return RecordRead::Kept(c);
+                return Ok(c);
             }
-            broken(line, 15)
+            Err(broken(line, 15))
         }
     }
 }
 
-// Why the line at this place of a log is no record, where this would be its first bad field.
-fn broken_at(s: &[u8], at: usize, field: u32) -> RecordRead
+// Why no record stands at this place of a log, where this would be the first bad field of its line.
+fn broken_at(s: &[u8], at: usize, field: u32) -> Fault
     ensures { result ≡ broken_from base s.now at field }
 {
-    let LineRead::Line(end) = line_end(s, at) else {
+    let Some(end) = line_end(s, at) else {
         if at < s.len() {
-            return RecordRead::Stops {
+            return Fault {
                 number: 2,
                 field: 0,
             };
         }
-        return RecordRead::Stops {
+        return Fault {
             number: 6,
             field: 0,
         };
@@ -380,23 +324,20 @@ fn broken_at(s: &[u8], at: usize, field: u32) -> RecordRead
 }
 
 // The record that is due at a place of a log. Where fifteen fields are right and CR LF stand behind them, they are a line.
-pub fn record_at(s: &[u8], at: usize) -> RecordRead
+pub fn record_at(s: &[u8], at: usize) -> Result<Contact, Fault>
     ensures { result ≡ record_at base s.now at }
 {
-    let mut field = 15;
-    let read = parse(s, at);
-    match read {
-        Parsed::Bad(bad) => {
-            field = bad;
-        }
-        Parsed::Fields(c) => {
+    let field = match parse(s, at) {
+        Err(bad) => bad,
+        Ok(c) => {
             if line_ends(s, c.end) {
-                return RecordRead::Kept(c);
+                return Ok(c);
             }
+            15
         }
-    }
+    };
     // asked in one place, since it is the longest way and the rarest
-    broken_at(s, at, field)
+    Err(broken_at(s, at, field))
 }
 
 // # The steps
@@ -411,58 +352,44 @@ fn records_due(n: usize) -> Due
     Due::Record(n)
 }
 
+// A line is refused, and no field is told.
+fn refused(number: u32) -> Result<Due, Fault>
+    ensures { result ≡ Err (fault number 0) }
+{
+    Err(Fault { number, field: 0 })
+}
+
 // The count line behind its `[QSORecords;`: a number, and then `]` and no more.
-fn count_step(t: &[u8]) -> Next
+fn count_step(t: &[u8]) -> Result<Due, Fault>
     ensures { result ≡ count_rule base t.now }
 {
-    let n = fields::digit_run(t, 0);
-    if t.len() <= n {
-        return Next::Stops {
-            number: 4,
-            field: 0,
-        };
+    let n = run(t, 0, &Digits);
+    if !header::same_text(&t[n..], b"]") {
+        return refused(4);
     }
-    let NumberRead::Number(count, _) = figures::record_count(&t[..n], 0) else {
-        return Next::Stops {
-            number: 4,
-            field: 0,
-        };
+    let Some((count, _)) = figures::record_count(&t[..n], 0) else {
+        return refused(4);
     };
-    if t.len() != n + 1 {
-        return Next::Stops {
-            number: 4,
-            field: 0,
-        };
-    }
-    if t[n] != 93 {
-        return Next::Stops {
-            number: 4,
-            field: 0,
-        };
-    }
-    Next::Goes(records_due(count as usize))
+    Ok(records_due(count as usize))
 }
 
 // The argument behind a keyword after so many: it has to keep its rule.
-fn argument_step(k: usize, t: &[u8]) -> Next
+fn argument_step(k: usize, t: &[u8]) -> Result<Due, Fault>
     ensures { result ≡ after_argument k (argument_of base k t.now) }
 {
-    let ArgumentRead::Kept = header::argument(k, t) else {
-        return Next::Stops {
-            number: 4,
-            field: 0,
-        };
-    };
-    if k < 35 {
-        return Next::Goes(Due::Keyword(k + 1));
+    if !header::argument(k, t) {
+        return refused(4);
     }
-    Next::Goes(Due::Remarks)
+    if k < 35 {
+        return Ok(Due::Keyword(k + 1));
+    }
+    Ok(Due::Remarks)
 }
 
 // What follows from a line, and how many keywords are respelt so far, its own too.
 #[derive(Clone, Copy)]
 pub struct Stepped {
-    pub next: Next,
+    pub next: Result<Due, Fault>,
     pub respelt: usize,
 }
 
@@ -471,23 +398,16 @@ fn keyword_step(k: usize, line: &[u8], respelt: usize) -> Stepped
     requires { respelt ≤ base.longest_log }
     ensures { result ≡ step_of base respelt (Due.Keyword k) line.now }
 {
-    let spelling = header::keyword(k, line);
-    let mut count = respelt;
-    match spelling {
-        KeywordRead::Listed => {}
-        KeywordRead::Respelt => {
-            count = respelt + 1;
-        }
+    let count = match header::keyword(k, line) {
+        KeywordRead::Listed => respelt,
+        KeywordRead::Respelt => respelt + 1,
         KeywordRead::Differs => {
             return Stepped {
-                next: Next::Stops {
-                    number: 3,
-                    field: 0,
-                },
+                next: refused(3),
                 respelt,
             };
         }
-    }
+    };
     Stepped {
         next: argument_step(k, &line[6..]),
         respelt: count,
@@ -495,55 +415,31 @@ fn keyword_step(k: usize, line: &[u8], respelt: usize) -> Stepped
 }
 
 // A line that has to be these words and no more.
-fn whole_step(words: &[u8], line: &[u8], next: Due) -> Next
+fn whole_step(words: &[u8], line: &[u8], next: Due) -> Result<Due, Fault>
     ensures { result ≡ whole words.now line.now next }
 {
     if header::same_text(line, words) {
-        return Next::Goes(next);
+        return Ok(next);
     }
-    Next::Stops {
-        number: 3,
-        field: 0,
-    }
+    refused(3)
 }
 
 // A remark, or the count line.
-fn remark_step(line: &[u8]) -> Next
+fn remark_step(line: &[u8]) -> Result<Due, Fault>
     ensures { result ≡ step base Due.Remark line.now }
 {
     if header::begins_with(b"[QSORecords;", line) {
         return count_step(&line[12..]);
     }
-    Next::Goes(Due::Remark)
+    Ok(Due::Remark)
 }
 
 // A record, of which there are so many from here on.
-fn record_step(n: usize, line: &[u8]) -> Next
+fn record_step(n: usize, line: &[u8]) -> Result<Due, Fault>
     ensures { result ≡ step base (Due.Record n) line.now }
 {
-    let read = record(line);
-    match read {
-        RecordRead::Stops { number, field } => Next::Stops { number, field },
-        RecordRead::Kept(_) => {
-            if n == 0 {
-                return Next::Goes(Due::End);
-            }
-            Next::Goes(records_due(n - 1))
-        }
-    }
-}
-
-// A line where nothing more is due.
-fn no_more(respelt: usize) -> Stepped
-    ensures { result ≡ step_of base respelt Due.End [] }
-{
-    Stepped {
-        next: Next::Stops {
-            number: 6,
-            field: 0,
-        },
-        respelt,
-    }
+    record(line)?;
+    Ok(records_due(n.saturating_sub(1)))
 }
 
 // What follows from a line in front of the records. None is due there, so that this needs no record reader.
@@ -551,61 +447,43 @@ fn head_step(due: Due, line: &[u8], respelt: usize) -> Stepped
     requires { (early due ≡ true) × (respelt ≤ base.longest_log) }
     ensures { result ≡ step_of base respelt due line.now }
 {
-    match due {
-        Due::Identifier => Stepped {
-            next: whole_step(b"[REG1TEST;1]", line, Due::Keyword(0)),
-            respelt,
-        },
-        Due::Keyword(k) => keyword_step(k, line, respelt),
-        Due::Remarks => Stepped {
-            next: whole_step(b"[Remarks]", line, Due::Remark),
-            respelt,
-        },
-        Due::Remark => Stepped {
-            next: remark_step(line),
-            respelt,
-        },
-        Due::Record(_) => no_more(respelt),
-        Due::End => no_more(respelt),
-    }
+    let next = match due {
+        Due::Identifier => whole_step(b"[REG1TEST;1]", line, Due::Keyword(0)),
+        Due::Keyword(k) => {
+            return keyword_step(k, line, respelt);
+        }
+        Due::Remarks => whole_step(b"[Remarks]", line, Due::Remark),
+        Due::Remark => remark_step(line),
+        Due::Record(_) | Due::End => refused(6),
+    };
+    Stepped { next, respelt }
 }
 
 // What follows from a line where this is due: what is due next, or the refusal's number and field; and 1 where its keyword is respelt, else 0.
 pub fn step(due: Due, line: &[u8]) -> Stepped
     ensures { result ≡ step_of base 0 due line.now }
 {
-    match due {
-        Due::Record(n) => Stepped {
-            next: record_step(n, line),
-            respelt: 0,
-        },
-        Due::End => no_more(0),
-        Due::Identifier => head_step(due, line, 0),
-        Due::Keyword(_) => head_step(due, line, 0),
-        Due::Remarks => head_step(due, line, 0),
-        Due::Remark => head_step(due, line, 0),
-    }
+    let next = match due {
+        Due::Record(n) => record_step(n, line),
+        Due::End => refused(6),
+        _ => {
+            return head_step(due, line, 0);
+        }
+    };
+    Stepped { next, respelt: 0 }
 }
 
 // # A log as a whole
 
-// How many records are due behind the count line, or that it is not read yet.
-#[derive(Clone, Copy)]
-pub enum CountRead {
-    Counted(usize),
-    Further,
-}
-
-fn counted_by(next: Due) -> CountRead
+// How many records are due behind the count line; nothing where it is not read yet.
+#[tactic(auto, unfolding(crate::specs::Read::counted_by))]
+fn counted_by(next: Due) -> Option<usize>
     ensures { result ≡ counted_by next }
 {
     match next {
-        Due::Record(n) => CountRead::Counted(n),
-        Due::End => CountRead::Counted(0),
-        Due::Identifier => CountRead::Further,
-        Due::Keyword(_) => CountRead::Further,
-        Due::Remarks => CountRead::Further,
-        Due::Remark => CountRead::Further,
+        Due::Record(n) => Some(n),
+        Due::End => Some(0),
+        _ => None,
     }
 }
 
@@ -615,17 +493,8 @@ fn claims_by(due: Due, claims: usize, at: usize) -> usize
     ensures { result ≡ claims_by due claims at }
 {
     match due {
-        Due::Keyword(k) => {
-            if k == 25 {
-                return at;
-            }
-            claims
-        }
-        Due::Identifier => claims,
-        Due::Remarks => claims,
-        Due::Remark => claims,
-        Due::Record(_) => claims,
-        Due::End => claims,
+        Due::Keyword(25) => at,
+        _ => claims,
     }
 }
 
@@ -638,25 +507,18 @@ pub struct Heading {
 
 // What is told in front of the records: how many there are, where the first begins, what the header is like, and the first record's line.
 #[derive(Clone, Copy)]
-pub enum HeadRead {
-    Head {
-        records: usize,
-        first: usize,
-        heading: Heading,
-        line: u32,
-    },
-    Refused(Refusal),
+pub struct Head {
+    pub records: usize,
+    pub first: usize,
+    pub heading: Heading,
+    pub line: u32,
 }
 
-fn head(log: &[u8]) -> HeadRead
+fn read_head(log: &[u8]) -> Result<Head, Refusal>
     ensures { result ≡ head_of base log.now }
 {
     if rules::longest_log() < log.len() {
-        return HeadRead::Refused(Refusal {
-            number: 1,
-            line: 0,
-            field: 0,
-        });
+        return Err(rules::refused(1));
     }
     let mut due = Due::Identifier;
     let mut claims = 0;
@@ -664,34 +526,24 @@ fn head(log: &[u8]) -> HeadRead
     let mut at = 0;
     let mut line: u32 = 1;
     loop {
-        let LineRead::Line(end) = line_end(log, at) else {
-            return HeadRead::Refused(Refusal {
-                number: 2,
-                line,
-                field: 0,
-            });
+        let Some(end) = line_end(log, at) else {
+            return Err(rules::refused_at(2, line));
         };
         let stepped = head_step(due, &log[at..end], respelt);
-        let after = stepped.next;
-        match after {
-            Next::Stops { number, field } => {
-                return HeadRead::Refused(Refusal {
-                    number,
-                    line,
-                    field,
-                });
+        match stepped.next {
+            Err(fault) => {
+                return Err(fault.at(line));
             }
-            Next::Goes(next) => {
+            Ok(next) => {
                 at = end + 2;
                 line += 1;
-                let count = counted_by(next);
-                if let CountRead::Counted(records) = count {
-                    return HeadRead::Head {
+                if let Some(records) = counted_by(next) {
+                    return Ok(Head {
                         records,
                         first: at,
                         heading: Heading { claims, respelt },
                         line,
-                    };
+                    });
                 }
                 claims = claims_by(due, claims, at);
                 respelt = stepped.respelt;
@@ -701,15 +553,12 @@ fn head(log: &[u8]) -> HeadRead
     }
 }
 
-// What is answered of a log: how many records it has, where the first begins and what its header is like, or why it is refused.
+// What is told of an accepted log: how many records it has, where the first begins and what its header is like.
 #[derive(Clone, Copy)]
-pub enum ReadAnswer {
-    Accepted {
-        records: usize,
-        first: usize,
-        heading: Heading,
-    },
-    Refused(Refusal),
+pub struct Accepted {
+    pub records: usize,
+    pub first: usize,
+    pub heading: Heading,
 }
 
 // A place of the record of this number, from 0, where the list has room for it.
@@ -734,7 +583,7 @@ fn survey_records(
     points: &mut [u16],
     pointsends: &mut [u16],
     ends: &mut [u16],
-) -> ReadAnswer
+) -> Result<Accepted, Refusal>
     requires { (before ≤ first + 1) × (first ≤ length log.now) × (length log.now ≤ base.longest_log) }
     ensures answer { result ≡ records_told base log.now records first heading records before first }
     ensures calls { calls.new ≡ listed (λ c. c.call) (contacts_from base log.now records first) calls.old }
@@ -745,18 +594,12 @@ fn survey_records(
 {
     let mut at = first;
     let mut line = before;
-    let mut i = 0;
-    while i < records {
-        let told = record_at(log, at);
-        match told {
-            RecordRead::Stops { number, field } => {
-                return ReadAnswer::Refused(Refusal {
-                    number,
-                    line,
-                    field,
-                });
+    for i in 0..records {
+        match record_at(log, at) {
+            Err(fault) => {
+                return Err(fault.at(line));
             }
-            RecordRead::Kept(c) => {
+            Ok(c) => {
                 note(calls, i, c.call);
                 note(exchanges, i, c.exchange);
                 note(points, i, c.points);
@@ -764,22 +607,17 @@ fn survey_records(
                 note(ends, i, c.end);
                 at = c.end + 2;
                 line += 1;
-                i += 1;
             }
         }
     }
     if at < log.len() {
-        return ReadAnswer::Refused(Refusal {
-            number: 6,
-            line,
-            field: 0,
-        });
+        return Err(rules::refused_at(6, line));
     }
-    ReadAnswer::Accepted {
+    Ok(Accepted {
         records,
         first,
         heading,
-    }
+    })
 }
 
 // Reads a log in one pass, and notes in each list, as far as it goes, one place of each record that it comes to.
@@ -790,7 +628,7 @@ pub fn survey(
     points: &mut [u16],
     pointsends: &mut [u16],
     ends: &mut [u16],
-) -> ReadAnswer
+) -> Result<Accepted, Refusal>
     ensures answer { result ≡ read_of base log.now }
     ensures calls { calls.new ≡ listed (λ c. c.call) (contacts_read base log.now) calls.old }
     ensures exchanges { exchanges.new ≡ listed (λ c. c.exchange) (contacts_read base log.now) exchanges.old }
@@ -798,35 +636,24 @@ pub fn survey(
     ensures pointsends { pointsends.new ≡ listed (λ c. c.pointsend) (contacts_read base log.now) pointsends.old }
     ensures ends { ends.new ≡ listed (λ c. c.end) (contacts_read base log.now) ends.old }
 {
-    let told = head(log);
-    match told {
-        HeadRead::Refused(refusal) => ReadAnswer::Refused(refusal),
-        HeadRead::Head {
-            records,
-            first,
-            heading,
-            line,
-        } => survey_records(
-            log, records, first, heading, line, calls, exchanges, points, pointsends, ends,
-        ),
-    }
+    let told = read_head(log)?;
+    survey_records(
+        log,
+        told.records,
+        told.first,
+        told.heading,
+        told.line,
+        calls,
+        exchanges,
+        points,
+        pointsends,
+        ends,
+    )
 }
 
 // Reads a log, with nothing noted.
-pub fn read(log: &[u8]) -> ReadAnswer
+pub fn read(log: &[u8]) -> Result<Accepted, Refusal>
     ensures { result ≡ read_of base log.now }
 {
-    let mut calls = [0u16; 0];
-    let mut exchanges = [0u16; 0];
-    let mut points = [0u16; 0];
-    let mut pointsends = [0u16; 0];
-    let mut ends = [0u16; 0];
-    survey(
-        log,
-        &mut calls,
-        &mut exchanges,
-        &mut points,
-        &mut pointsends,
-        &mut ends,
-    )
+    survey(log, &mut [], &mut [], &mut [], &mut [], &mut [])
 }

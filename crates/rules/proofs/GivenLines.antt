@@ -9,9 +9,9 @@ use lib.ListN.{length, take, drop, get_or, length-append, length-drop, take-appe
 use lib.Seq.{drop-cons, length-take-le, take-add}
 use native.Mathlib.Omega.{arith}
 use borrow.Author.Tests.{leb-true, le-leb}
+use Rattle.std.specs.Prelude.{Ok}
 use Rattle.rules.specs.declared.Due.{Due}
 use Rattle.rules.specs.declared.Due.TheVariants.{Identifier, Keyword, Remarks, Remark, Record, End}
-use Rattle.rules.specs.declared.Next.TheVariants.{Goes}
 use Rattle.rules.specs.Text.{Text, same_but_case, begins, parts}
 use Rattle.rules.specs.Rules.{Rules}
 use Rattle.rules.specs.Fields.{Qso, qso_of, field_rules}
@@ -28,7 +28,7 @@ use Rattle.rules.proofs.WalkLaws.{step_record, step_record_goes, step_count, ste
 -- Lines that are taken one by one, from what is due before the first to what is due behind the last.
 pub data Steps (R : Rules) : Due → List Text → Due → Type 0 where
   none : {due : Due} → Steps R due [] due
-  more : {due next last : Due} {l : Text} {ls : List Text} → step R due l ≡ Goes next → Steps R next ls last → Steps R due (l ∷ ls) last
+  more : {due next last : Due} {l : Text} {ls : List Text} → step R due l ≡ Ok next → Steps R next ls last → Steps R due (l ∷ ls) last
 
 steps_append : {R : Rules} {due mid last : Due} {ls ms : List Text} → Steps R due ls mid → Steps R mid ms last → Steps R due (ls ++ ms) last
 steps_append none t = t
@@ -66,7 +66,7 @@ module _ (R : Rules) where
       (step_keyword R e (es ++ fs) j (keyword_start w ++ t) h ∙ keyword_goes R e w t (due_of (es ++ fs) (j + 1)) s m)
       (keywords_run es fs (j + 1) k ws ts (drop_next j entries h) (omega arith) (and_r (same_but_case e.keyword w) (keyword_rules es ws) c) (and_r (meets R e.rule t) (argument_rules R es ts) a))
 
-  identifier_step : step R Identifier identifier ≡ Goes (Keyword 0)
+  identifier_step : step R Identifier identifier ≡ Ok (Keyword 0)
   unfolding step
   identifier_step = whole_goes R identifier (Keyword 0)
 
@@ -89,7 +89,7 @@ module _ (R : Rules) where
   remarks_run [] e = none
   remarks_run (l ∷ ms) e = more (step_remark R l (and_l (remark_rule l) (every remark_rule ms) e)) (remarks_run ms (and_r (remark_rule l) (every remark_rule ms) e))
 
-  remarks_step : step R Remarks remarks_line ≡ Goes Remark
+  remarks_step : step R Remarks remarks_line ≡ Ok Remark
   unfolding step
   remarks_step = whole_goes R remarks_line Remark
 
@@ -159,7 +159,7 @@ module _ (R : Rules) where
   keywords_last (v ∷ ws) w [] t n = absurd (omega arith)
   keywords_last (v ∷ ws) w (u ∷ ts) t n = ap {B = List Text} (λ ls. (keyword_start v ++ u) ∷ ls) (keywords_last ws w ts t (omega arith))
 
-  first_taken : (l : Text) (next : Due) → step R Identifier l ≡ Goes next → Front R (l ∷ []) next
+  first_taken : (l : Text) (next : Due) → step R Identifier l ≡ Ok next → Front R (l ∷ []) next
   unfolding keyword_rules argument_rules keyword_lines
   first_taken l next e =
       let g = step_identifier_went R l next e in
@@ -175,7 +175,7 @@ module _ (R : Rules) where
       keywords_so_far k ws ts (omega arith) (holds c) (holds a)
 
   -- A keyword line, behind k of them: one more of them, or all.
-  keyword_taken : (k : ℕ) (ws ts : List Text) (l : Text) (next : Due) (e : Entry) (es : List Entry) → drop k entries ≡ e ∷ es → keyword_rules (take k entries) ws ≡ true → argument_rules R (take k entries) ts ≡ true → step R (Keyword k) l ≡ Goes next → Front R (identifier ∷ keyword_lines ws ts ++ l ∷ []) next
+  keyword_taken : (k : ℕ) (ws ts : List Text) (l : Text) (next : Due) (e : Entry) (es : List Entry) → drop k entries ≡ e ∷ es → keyword_rules (take k entries) ws ≡ true → argument_rules R (take k entries) ts ≡ true → step R (Keyword k) l ≡ Ok next → Front R (identifier ∷ keyword_lines ws ts ++ l ∷ []) next
   keyword_taken k ws ts l next e es h c a g =
       let i = keyword_went R e l (due_of es (k + 1)) next (sym (step_keyword R e es k l h) ∙ g) in
       let w = spelling_on e l in
@@ -190,14 +190,14 @@ module _ (R : Rules) where
       subst (λ (d : Due). Front R (identifier ∷ keyword_lines ws ts ++ l ∷ []) d) i.due
       (subst (λ (ls : List Text). Front R (identifier ∷ ls) (due_of es (k + 1))) lines front)
 
-  remarks_taken : (ws ts : List Text) (l : Text) (next : Due) → keyword_rules entries ws ≡ true → argument_rules R entries ts ≡ true → step R Remarks l ≡ Goes next → Front R (identifier ∷ keyword_lines ws ts ++ l ∷ []) next
+  remarks_taken : (ws ts : List Text) (l : Text) (next : Due) → keyword_rules entries ws ≡ true → argument_rules R entries ts ≡ true → step R Remarks l ≡ Ok next → Front R (identifier ∷ keyword_lines ws ts ++ l ∷ []) next
   unfolding every
   remarks_taken ws ts l next c a e =
       let g = step_remarks_went R l next e in
       rw (g.0, ← g.1) (remarks_so_far ws ts [] (holds c) (holds a) tt)
 
   -- A remark, or the count line.
-  remark_taken : (ws ts ms : List Text) (l : Text) (next : Due) → keyword_rules entries ws ≡ true → argument_rules R entries ts ≡ true → every remark_rule ms ≡ true → step R Remark l ≡ Goes next → Front R (head_lines ws ts ms ++ l ∷ []) next
+  remark_taken : (ws ts ms : List Text) (l : Text) (next : Due) → keyword_rules entries ws ≡ true → argument_rules R entries ts ≡ true → every remark_rule ms ≡ true → step R Remark l ≡ Ok next → Front R (head_lines ws ts ms ++ l ∷ []) next
   unfolding remark_rule
   remark_taken ws ts ms l next k a r e = by (begins count_start l) refl
     where
@@ -212,7 +212,7 @@ module _ (R : Rules) where
           let same : Remark ≡ next = cc (step_begun R l false b) in
           rw (← same, append_assoc (identifier ∷ keyword_lines ws ts) (remarks_line ∷ ms) (l ∷ [])) (remarks_so_far ws ts (ms ++ l ∷ []) (holds k) (holds a) (holds (every_last remark_rule ms l r (not_false b))))
 
-  record_taken : (ws ts ms : List Text) (qs : List Qso) (left : ℕ) (l : Text) (next : Due) → keyword_rules entries ws ≡ true → argument_rules R entries ts ≡ true → every remark_rule ms ≡ true → length qs + left ≤ R.most_records → record_rules R qs ≡ true → step R (records_due left) l ≡ Goes next → Front R ((head_lines ws ts ms ++ count_line (length qs + left) ∷ map record_line qs) ++ l ∷ []) next
+  record_taken : (ws ts ms : List Text) (qs : List Qso) (left : ℕ) (l : Text) (next : Due) → keyword_rules entries ws ≡ true → argument_rules R entries ts ≡ true → every remark_rule ms ≡ true → length qs + left ≤ R.most_records → record_rules R qs ≡ true → step R (records_due left) l ≡ Ok next → Front R ((head_lines ws ts ms ++ count_line (length qs + left) ∷ map record_line qs) ++ l ∷ []) next
   unfolding records_due
   record_taken ws ts ms qs zero l next c a r f k e = let z : ◌≡◌ {A = ℕ} 0 1 = unfold step in cc in absurd (omega arith)
   record_taken ws ts ms qs (suc left) l next c a r f k e =
@@ -226,7 +226,7 @@ module _ (R : Rules) where
       let front = records_so_far ws ts ms (qs ++ q ∷ []) left (holds c) (holds a) (holds r) (omega arith) (holds (records_last R qs q k i.rules)) in
       subst₂ (λ (ls : List Text) (d : Due). Front R ls d) lines g.1 front
 
-  front_taken : {ls : List Text} {due : Due} (l : Text) (next : Due) → Front R ls due → step R due l ≡ Goes next → Front R (ls ++ l ∷ []) next
+  front_taken : {ls : List Text} {due : Due} (l : Text) (next : Due) → Front R ls due → step R due l ≡ Ok next → Front R (ls ++ l ∷ []) next
   front_taken l next no_lines e = first_taken l next e
   front_taken l next (keywords_so_far k ws ts h c a) e =
       let (w, (es, left)) = keyword_after k h in

@@ -1,7 +1,7 @@
 -- The rows 2 to 6 of the table: what stops reading, a line or what is left where there is none, is what the row of its number says.
 -- Assumes nothing.
 use Prim.Native.Nat.{ℕ, zero, suc, ◌+◌, ◌-◌, ◌≤◌, ◌<◌}
-use mathlib.Core.Path.{◌≡◌, refl, sym, ap, ◌∙◌}
+use mathlib.Core.Path.{◌≡◌, refl, sym, ap, ap₂, ◌∙◌}
 use mathlib.Core.Logic.{◌⊎◌, inl, inr}
 use mathlib.Core.Bool.{Bool, true, false, cond, ◌&&◌}
 use mathlib.Core.List.{List, [], ◌∷◌, ◌++◌, append_assoc}
@@ -10,17 +10,17 @@ use lib.ListN.{length, take, drop, get_or, length-append}
 use lib.Seq.{drop-append_seam}
 use native.Mathlib.Omega.{arith}
 use borrow.Author.Tests.{leb-true, le-leb, eqb-true, eqb-false, eq-eqb, ne_eqb}
+use Rattle.std.specs.Prelude.{Result, Ok, Err}
+use Rattle.rules.specs.declared.Fault.{Fault}
 use Rattle.rules.specs.declared.Refusal.{Refusal}
 use Rattle.rules.specs.declared.Due.{Due}
 use Rattle.rules.specs.declared.Due.TheVariants.{Identifier, Keyword, Remarks, Remark, Record, End}
-use Rattle.rules.specs.declared.Next.{Next}
-use Rattle.rules.specs.declared.Next.TheVariants.{Goes, Stops}
 use Rattle.rules.specs.Text.{Text, bytes, digit, span, same, same_but_case, begins, parts, value, number_from, digits}
 use Rattle.rules.specs.Rules.{Rules}
 use Rattle.rules.specs.Fields.{qso_of, field_rules}
 use Rattle.rules.specs.Arguments.{Entry, entries, meets}
 use Rattle.rules.specs.Log.{identifier, remarks_line, count_start, count_line, crlf, line_rule}
-use Rattle.rules.specs.Reading.{FirstLine, a_line, no_line, first_line, RecordRule, keeps, breaks, first_broken, record_rule, records_due, whole, spelling_on, argument_on, has_keyword, keyword_line, count_rule, after_record, step, refused, refusal, at_rest}
+use Rattle.rules.specs.Reading.{FirstLine, a_line, no_line, first_line, RecordRule, keeps, breaks, first_broken, record_rule, records_due, whole, spelling_on, argument_on, has_keyword, keyword_line, count_rule, after_record, step, refused, refusal, at_rest, fault}
 use Rattle.rules.specs.Given.{OfTheLine, NoLine, EndsOrGoesOn, HasNoEnd, IsKeywordLine, IsNotTheLineDue, BreaksItsRule, FirstBadField, BreaksField}
 use Rattle.rules.proofs.Tests.{so, holds, fails, clash}
 use Rattle.rules.proofs.TextLaws.{same_eq, same_of_eq, begins_front, begins_split}
@@ -131,13 +131,18 @@ data LineRow (R : Rules) (due : Due) (l : Text) (number field : ℕ) : Type 0 wh
   bad_field : number ≡ 5 → BreaksField R field due l → LineRow R due l number field
   too_much : number ≡ 6 → field ≡ 0 → due ≡ End → LineRow R due l number field
 
-going_stops : {A : Type 0} {due : Due} {number field : ℕ} → Goes due ≡ Stops number field → A
+going_stops : {A : Type 0} {due : Due} {number field : ℕ} → Ok due ≡ Err (fault number field) → A
 going_stops e = let z : ◌≡◌ {A = ℕ} 0 1 = cc in absurd (omega arith)
 
+fault_is : {number field n f : ℕ} → ◌≡◌ {A = Result Due Fault} (Err (fault n f)) (Err (fault number field)) → (number ≡ n) × (field ≡ f)
+fault_is {number} {field} {n} {f} e =
+    let h : fault n f ≡ fault number field = cc in
+    (ap (λ (x : Fault). x.number) (sym h), ap (λ (x : Fault). x.field) (sym h))
+
 -- What a test stops with.
-stopped_by_lem : (b : Bool) (on : Due) (a number field : ℕ) → cond b (Goes on) (Stops a 0) ≡ Stops number field → (b ≡ false) × (number ≡ a) × (field ≡ 0)
+stopped_by_lem : (b : Bool) (on : Due) (a number field : ℕ) → cond b (Ok on) (Err (fault a 0)) ≡ Err (fault number field) → (b ≡ false) × (number ≡ a) × (field ≡ 0)
 stopped_by_lem true on a number field e = going_stops e
-stopped_by_lem false on a number field e = (refl, cc, cc)
+stopped_by_lem false on a number field e = let (n, f) = fault_is e in (refl, n, f)
 
 -- A line does not begin with the keyword and its `=`, or does and has an argument that breaks its rule.
 abbrev Unkeyed : Entry → Text → Type 0
@@ -154,35 +159,35 @@ keyword_line_has e l t i = let (w, s, q) = i in ap (has_keyword e) q ∙ keyword
 
 module _ (R : Rules) where
   -- The identifier and `[Remarks]`, compared whole.
-  whole_stopped : (due l : Text) (on : Due) (number field : ℕ) → whole due l on ≡ Stops number field → (l ≡ due → ⊥) × (number ≡ 3) × (field ≡ 0)
+  whole_stopped : (due l : Text) (on : Due) (number field : ℕ) → whole due l on ≡ Err (fault number field) → (l ≡ due → ⊥) × (number ≡ 3) × (field ≡ 0)
   unfolding whole
   whole_stopped due l on number field e =
       let (b, k, z) = stopped_by_lem (same l due) on 3 number field e in
       (λ h. clash (same_of_eq l due h) b, k, z)
 
-  whole_stops : (due l : Text) (on : Due) → (l ≡ due → ⊥) → whole due l on ≡ Stops 3 0
+  whole_stops : (due l : Text) (on : Due) → (l ≡ due → ⊥) → whole due l on ≡ Err (fault 3 0)
   unfolding whole
   whole_stops due l on h = rw (fails (same l due) (λ e. h (same_eq l due e)))
 
   -- A keyword, its `=` and its argument.
   module _ (e : Entry) (l : Text) (on : Due) where
-    keyword_stopped : (number field : ℕ) → keyword_line R e l on ≡ Stops number field →
+    keyword_stopped : (number field : ℕ) → keyword_line R e l on ≡ Err (fault number field) →
         (Unkeyed e l × (number ≡ 3) × (field ≡ 0)) ⊎ (Unruled R e l × (number ≡ 4) × (field ≡ 0))
     unfolding keyword_line
     keyword_stopped number field g = by (has_keyword e l) refl g
       where
-        by : (b : Bool) → has_keyword e l ≡ b → cond b (cond (meets R e.rule (argument_on e l)) (Goes on) (Stops 4 0)) (Stops 3 0) ≡ Stops number field →
+        by : (b : Bool) → has_keyword e l ≡ b → cond b (cond (meets R e.rule (argument_on e l)) (Ok on) (Err (fault 4 0))) (Err (fault 3 0)) ≡ Err (fault number field) →
             (Unkeyed e l × (number ≡ 3) × (field ≡ 0)) ⊎ (Unruled R e l × (number ≡ 4) × (field ≡ 0))
         by true b h =
             let (m, k, z) = stopped_by_lem (meets R e.rule (argument_on e l)) on 4 number field h in
             inr ((argument_on e l, is_keyword_line e l b, λ t. clash (so (meets R e.rule (argument_on e l)) t) m), k, z)
-        by false b h = inl (λ t i. clash (keyword_line_has e l t i) b, cc, cc)
+        by false b h = let (n, f) = fault_is h in inl (λ t i. clash (keyword_line_has e l t i) b, n, f)
 
-    unkeyed_stops : Unkeyed e l → keyword_line R e l on ≡ Stops 3 0
+    unkeyed_stops : Unkeyed e l → keyword_line R e l on ≡ Err (fault 3 0)
     unfolding keyword_line
     unkeyed_stops h = rw (fails (has_keyword e l) (λ b. h (argument_on e l) (is_keyword_line e l b)))
 
-    unruled_stops : Unruled R e l → keyword_line R e l on ≡ Stops 4 0
+    unruled_stops : Unruled R e l → keyword_line R e l on ≡ Err (fault 4 0)
     unfolding keyword_line
     unruled_stops p =
         let (t, (w, s, q), h) = p in
@@ -191,14 +196,14 @@ module _ (R : Rules) where
         rw (q, keyword_had e w t c, argument_on_lem e w t c, m)
 
   -- The count line.
-  count_stopped : (t : Text) (number field : ℕ) → count_rule R t ≡ Stops number field → (number ≡ 4) × (field ≡ 0)
+  count_stopped : (t : Text) (number field : ℕ) → count_rule R t ≡ Err (fault number field) → (number ≡ 4) × (field ≡ 0)
   unfolding count_rule
   count_stopped t number field e =
       let n = span digit t in
       let p = stopped_by_lem (number_from 0 R.most_records (take n t) && same (drop n t) (bytes "]")) (records_due (value (take n t))) 4 number field e in
       (p.1, p.2)
 
-  uncounted : (t : Text) (number field : ℕ) → count_rule R t ≡ Stops number field → (n : ℕ) → n ≤ R.most_records → t ≡ digits n ++ bytes "]" → ⊥
+  uncounted : (t : Text) (number field : ℕ) → count_rule R t ≡ Err (fault number field) → (n : ℕ) → n ≤ R.most_records → t ≡ digits n ++ bytes "]" → ⊥
   uncounted t number field e n h q = going_stops (sym (count_goes R n (le-leb n R.most_records h)) ∙ ap (count_rule R) (sym q) ∙ e)
 
   count_cut : (t : Text) (n : ℕ) → count_start ++ t ≡ count_line n → t ≡ digits n ++ bytes "]"
@@ -208,35 +213,36 @@ module _ (R : Rules) where
       ∙ ap (drop (length count_start)) (e ∙ append_assoc count_start (digits n) (bytes "]"))
       ∙ drop-append_seam count_start (digits n ++ bytes "]")
 
-  count_stops : (t : Text) → ((n : ℕ) → n ≤ R.most_records → t ≡ digits n ++ bytes "]" → ⊥) → count_rule R t ≡ Stops 4 0
+  count_stops : (t : Text) → ((n : ℕ) → n ≤ R.most_records → t ≡ digits n ++ bytes "]" → ⊥) → count_rule R t ≡ Err (fault 4 0)
   count_stops t h = by (count_rule R t) refl
     where
-      by : (m : Next) → count_rule R t ≡ m → m ≡ Stops 4 0
-      by (Goes next) e =
+      by : (m : Result Due Fault) → count_rule R t ≡ m → m ≡ Err (fault 4 0)
+      by (Ok next) e =
           let c = is_count R (count_start ++ t) next (begins_front count_start t) (ap (count_rule R) (drop-append_seam count_start t) ∙ e) in
           absurd (h c.count (leb-true c.count R.most_records c.fits) (count_cut t c.count c.line))
-      by (Stops number field) e = let (k, z) = count_stopped t number field e in cc
+      by (Err f) e = let (k, z) = count_stopped t f.number f.field e in ap₂ (λ (n i : ℕ). Err (fault n i)) k z
 
   -- What is due, and a line that stops.
-  record_stopped : (left : ℕ) (l : Text) (number field : ℕ) (r : RecordRule) → record_rule R l ≡ r → after_record left r ≡ Stops number field → LineRow R (Record left) l number field
+  record_stopped : (left : ℕ) (l : Text) (number field : ℕ) (r : RecordRule) → record_rule R l ≡ r → after_record left r ≡ Err (fault number field) → LineRow R (Record left) l number field
   unfolding after_record
   record_stopped left l number field keeps g e = going_stops e
   record_stopped left l number field (breaks f) g e =
-      let bad : record_rule R l ≡ breaks field = g ∙ cc in
-      bad_field (cc) (left, refl, bad_field_lem R l field bad)
+      let (five, at) = fault_is e in
+      let bad : record_rule R l ≡ breaks field = g ∙ ap breaks (sym at) in
+      bad_field five (left, refl, bad_field_lem R l field bad)
 
-  remark_stopped : (l : Text) (number field : ℕ) → step R Remark l ≡ Stops number field → LineRow R Remark l number field
+  remark_stopped : (l : Text) (number field : ℕ) → step R Remark l ≡ Err (fault number field) → LineRow R Remark l number field
   remark_stopped l number field e = by (begins count_start l) refl
     where
       by : (b : Bool) → begins count_start l ≡ b → LineRow R Remark l number field
       by true b =
           let t = drop (length count_start) l in
-          let stops : count_rule R t ≡ Stops number field = sym (step_begun R l true b) ∙ e in
+          let stops : count_rule R t ≡ Err (fault number field) = sym (step_begun R l true b) ∙ e in
           let (k, z) = count_stopped t number field stops in
           unruled k z (t, begins_split count_start l b, uncounted t number field stops)
       by false b = going_stops (sym (step_begun R l false b) ∙ e)
 
-  keyword_row : (k : ℕ) (l : Text) (number field : ℕ) → k < length entries → step R (Keyword k) l ≡ Stops number field → LineRow R (Keyword k) l number field
+  keyword_row : (k : ℕ) (l : Text) (number field : ℕ) → k < length entries → step R (Keyword k) l ≡ Err (fault number field) → LineRow R (Keyword k) l number field
   keyword_row k l number field h e =
       let (w, (ws, left)) = keyword_after k h in
       by w ws left (keyword_stopped w l (due_of ws (k + 1)) number field (sym (step_keyword R w ws k l left) ∙ e))
@@ -246,16 +252,16 @@ module _ (R : Rules) where
       by w ws left (inl (f, n, z)) = another n z (w, (ws, left), f)
       by w ws left (inr ((t, q, f), n, z)) = unruled n z (w, (ws, left), t, q, f)
 
-  line_row : (due : Due) (l : Text) (number field : ℕ) → Left due → step R due l ≡ Stops number field → LineRow R due l number field
+  line_row : (due : Due) (l : Text) (number field : ℕ) → Left due → step R due l ≡ Err (fault number field) → LineRow R due l number field
   unfolding step
   line_row Identifier l number field h e = let (f, k, z) = whole_stopped identifier l (Keyword 0) number field e in another k z f
   line_row (Keyword k) l number field h e = keyword_row k l number field h e
   line_row Remarks l number field h e = let (f, k, z) = whole_stopped remarks_line l Remark number field e in another k z f
   line_row Remark l number field h e = remark_stopped l number field e
   line_row (Record left) l number field h e = record_stopped left l number field (record_rule R l) refl e
-  line_row End l number field h e = too_much (cc) (cc) refl
+  line_row End l number field h e = let (six, none) = fault_is e in too_much six none refl
 
-  not_due_stops : (due : Due) (l : Text) → IsNotTheLineDue due l → step R due l ≡ Stops 3 0
+  not_due_stops : (due : Due) (l : Text) → IsNotTheLineDue due l → step R due l ≡ Err (fault 3 0)
   unfolding step
   not_due_stops Identifier l h = whole_stops identifier l (Keyword 0) h
   not_due_stops (Keyword k) l h =
@@ -266,7 +272,7 @@ module _ (R : Rules) where
   not_due_stops (Record left) l h = absurd h
   not_due_stops End l h = absurd h
 
-  breaks_stops : (due : Due) (l : Text) → BreaksItsRule R due l → step R due l ≡ Stops 4 0
+  breaks_stops : (due : Due) (l : Text) → BreaksItsRule R due l → step R due l ≡ Err (fault 4 0)
   breaks_stops Identifier l h = absurd h
   breaks_stops (Keyword k) l h =
       let (w, (ws, left), t, q, f) = h in
@@ -281,7 +287,7 @@ module _ (R : Rules) where
   breaks_stops (Record left) l h = absurd h
   breaks_stops End l h = absurd h
 
-  field_stops : (due : Due) (l : Text) (field : ℕ) → BreaksField R field due l → step R due l ≡ Stops 5 field
+  field_stops : (due : Due) (l : Text) (field : ℕ) → BreaksField R field due l → step R due l ≡ Err (fault 5 field)
   unfolding step after_record
   field_stops due l field h =
       let (left, d, bad) = h in
@@ -381,8 +387,8 @@ module _ (R : Rules) (n field : ℕ) (due : Due) (rest : Text) where
   stopped_row number left (by_the_rest none e) = rest_told_lem number none (rest_row n number field due rest e)
 
   -- Where no field is told, it is 0.
-  no_field_stops : (number : ℕ) → field ≡ 0 → Stops number 0 ≡ Stops number field
-  no_field_stops number z = cc
+  no_field_stops : (number : ℕ) → field ≡ 0 → ◌≡◌ {A = Result Due Fault} (Err (fault number 0)) (Err (fault number field))
+  no_field_stops number z = ap (λ (f : ℕ). Err (fault number f)) (sym z)
 
   no_field_refused : (number : ℕ) → field ≡ 0 → refused (refusal number n 0) ≡ refused (refusal number n field)
   no_field_refused number z = cc

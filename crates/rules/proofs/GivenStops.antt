@@ -9,16 +9,16 @@ use lib.Dec.{T}
 use lib.ListN.{length}
 use native.Mathlib.Omega.{arith}
 use borrow.Author.Tests.{le-ltb}
+use Rattle.std.specs.Prelude.{Result, Ok, Err}
+use Rattle.rules.specs.declared.Fault.{Fault}
 use Rattle.rules.specs.declared.Refusal.{Refusal}
 use Rattle.rules.specs.declared.Due.{Due}
 use Rattle.rules.specs.declared.Due.TheVariants.{Identifier, Keyword, Remarks, Remark, Record, End}
-use Rattle.rules.specs.declared.Next.{Next}
-use Rattle.rules.specs.declared.Next.TheVariants.{Goes, Stops}
 use Rattle.rules.specs.Text.{Text}
 use Rattle.rules.specs.Rules.{Rules}
 use Rattle.rules.specs.Arguments.{every}
 use Rattle.rules.specs.Log.{Log, crlf, ended, line_rule}
-use Rattle.rules.specs.Reading.{Lines, FirstLine, a_line, no_line, first_line, on_first_line, lines_within, lines, step, Reading, accepted, refused, refusal, at_rest, put, on_next, walk, read}
+use Rattle.rules.specs.Reading.{Lines, FirstLine, a_line, no_line, first_line, on_first_line, lines_within, lines, step, Reading, accepted, refused, refusal, at_rest, put, on_next, walk, read, fault}
 use Rattle.rules.specs.Given.{ComesTo, AtLine, NoLine}
 use Rattle.rules.proofs.Tests.{so, holds, and_l, and_r}
 use Rattle.rules.proofs.LineLaws.{first_of_none, first_front, first_is, first_shorter, lines_law, lines_are_lem}
@@ -83,7 +83,7 @@ ended_append (l ∷ a) b = ap (λ (t : Text). l ++ crlf ++ t) (ended_append a b)
 -- The walk stops here, at the line of this number: at the first of these lines, or with none of them left.
 abbrev HaltsAt : Rules → Due → ℕ → List Text → Text → Refusal → Type 0
 HaltsAt R due n [] rest r = at_rest due n rest ≡ refused r
-HaltsAt R due n (l ∷ ls) rest r = (number : ℕ) × (field : ℕ) × (step R due l ≡ Stops number field) × (refusal number n field ≡ r)
+HaltsAt R due n (l ∷ ls) rest r = (number : ℕ) × (field : ℕ) × (step R due l ≡ Err (fault number field)) × (refusal number n field ≡ r)
 
 record Halts (R : Rules) (due : Due) (n : ℕ) (ls : List Text) (rest : Text) (r : Refusal) : Type 0 where
   before : List Text
@@ -102,7 +102,7 @@ pub same_refusal : {r q : Refusal} → refused r ≡ refused q → r ≡ q
 same_refusal e = cc
 
 module _ (R : Rules) where
-  one_further : {due next : Due} {n : ℕ} {l : Text} {ls : List Text} {rest : Text} {r : Refusal} → step R due l ≡ Goes next → Halts R next (n + 1) ls rest r → Halts R due n (l ∷ ls) rest r
+  one_further : {due next : Due} {n : ℕ} {l : Text} {ls : List Text} {rest : Text} {r : Refusal} → step R due l ≡ Ok next → Halts R next (n + 1) ls rest r → Halts R due n (l ∷ ls) rest r
   one_further {l = l} e h =
       record {
         before = l ∷ h.before;
@@ -134,9 +134,9 @@ module _ (R : Rules) where
       went (accepted log) g = no_refusal_lem g
       went (refused x) g = g
 
-      on : ((next : Due) → walk R next (n + 1) ls rest ≡ refused r → Halts R next (n + 1) ls rest r) → (m : Next) → step R due l ≡ m → on_next (λ next. walk R next (n + 1) ls rest) n due l m ≡ refused r → Halts R due n (l ∷ ls) rest r
-      on deeper (Goes next) s g = one_further s (deeper next (went (walk R next (n + 1) ls rest) g))
-      on deeper (Stops number field) s g =
+      on : ((next : Due) → walk R next (n + 1) ls rest ≡ refused r → Halts R next (n + 1) ls rest r) → (m : Result Due Fault) → step R due l ≡ m → on_next (λ next. walk R next (n + 1) ls rest) n due l m ≡ refused r → Halts R due n (l ∷ ls) rest r
+      on deeper (Ok next) s g = one_further s (deeper next (went (walk R next (n + 1) ls rest) g))
+      on deeper (Err f) s g =
           record {
             before = [];
             behind = l ∷ ls;
@@ -145,7 +145,7 @@ module _ (R : Rules) where
             the_lines = refl;
             steps = none;
             number = omega arith;
-            halts = (number, field, s, cc);
+            halts = (f.number, f.field, s, cc);
           }
 
   -- Lines that are taken lead to what the lines behind them are refused with.
@@ -153,14 +153,14 @@ module _ (R : Rules) where
   unfolding walk on_next put
   steps_refused {due} n k ms rest r none h e = let same : n ≡ k = omega arith in rw same e
   steps_refused n k ms rest r (more {due = due} {l = l} {ls = ls} g s) h e =
-      ap (λ (m : Next). on_next (λ next. walk R next (n + 1) (ls ++ ms) rest) n due l m) g
+      ap (λ (m : Result Due Fault). on_next (λ next. walk R next (n + 1) (ls ++ ms) rest) n due l m) g
       ∙ ap (put due l) (steps_refused (n + 1) k ms rest r s (omega arith) e)
 
 -- # Where reading stops
 
 -- What is left of a text stops reading, with this number and field: a line that is there, or no line.
 pub data Stopped (R : Rules) (n number field : ℕ) (due : Due) (rest : Text) : Type 0 where
-  by_aLine : (l after : Text) → rest ≡ l ++ crlf ++ after → T (line_rule R l) → step R due l ≡ Stops number field → Stopped R n number field due rest
+  by_aLine : (l after : Text) → rest ≡ l ++ crlf ++ after → T (line_rule R l) → step R due l ≡ Err (fault number field) → Stopped R n number field due rest
   by_the_rest : NoLine R rest → at_rest due n rest ≡ refused (refusal number n field) → Stopped R n number field due rest
 
 -- What is told of the rest is told with the number of its line.
@@ -217,7 +217,7 @@ module _ (R : Rules) (s : Text) (number n field : ℕ) where
       by (l ∷ ls) e g =
           let (number', field', stops, same) = g in
           let k : h.line ≡ n = ap (λ (r : Refusal). r.line) same in
-          let told_so : Stops number' field' ≡ Stops number field = ap (λ (r : Refusal). Stops r.number r.field) same in
+          let told_so : Err (fault number' field') ≡ Err (fault number field) = ap (λ (r : Refusal). Err (fault r.number r.field)) same in
           let after = ended ls ++ left in
           let t : ended (l ∷ ls) ++ left ≡ l ++ crlf ++ after = unfold ended in append_assoc (l ++ crlf) (ended ls) left in
           let rule = every_first (line_rule R) l ls (every_back (line_rule R) h.before (l ∷ ls) (rules (l ∷ ls) e)) in
@@ -234,7 +234,7 @@ module _ (R : Rules) (s : Text) (number n field : ℕ) where
   unfolding walk on_next
   rest_refused due rest (by_aLine l after t rule stops) =
       ap (λ (x : Lines). walk R due n x.whole x.rest) (ap (lines R) t ∙ line_behind_lem R l after (so (line_rule R l) rule))
-      ∙ ap (λ (m : Next). on_next (λ next. walk R next (n + 1) (lines R after).whole (lines R after).rest) n due l m) stops
+      ∙ ap (λ (m : Result Due Fault). on_next (λ next. walk R next (n + 1) (lines R after).whole (lines R after).rest) n due l m) stops
   rest_refused due rest (by_the_rest h e) = ap (λ (x : Lines). walk R due n x.whole x.rest) (none_behind R rest h) ∙ e
 
   pub at_refused : AtLine R s n (Stopped R n number field) → read R s ≡ refused told

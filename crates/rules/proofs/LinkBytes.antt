@@ -8,15 +8,15 @@ use mathlib.Core.List.{List, [], ◌∷◌, ◌++◌}
 use lib.Dec.{leb, ltb, eqb}
 use lib.ListN.{length, length-append}
 use borrow.Author.Tests.{le-leb, lt-ltb, le-ltb, ltb-true, ltb-false, eqb-true, eqb-false, ne_eqb}
+use Rattle.std.specs.Prelude.{Result, Ok, Err}
+use Rattle.rules.specs.declared.Fault.{Fault}
 use Rattle.rules.specs.declared.Refusal.{Refusal}
 use Rattle.rules.specs.declared.Due.{Due}
 use Rattle.rules.specs.declared.Due.TheVariants.{Identifier, Keyword, Remarks, Remark, Record, End}
-use Rattle.rules.specs.declared.Next.{Next}
-use Rattle.rules.specs.declared.Next.TheVariants.{Goes, Stops}
 use Rattle.rules.specs.Text.{Text, allowed, all}
 use Rattle.rules.specs.Rules.{Rules}
 use Rattle.rules.specs.Log.{line_rule}
-use Rattle.rules.specs.Reading.{a_line, no_line, first_line, lines, RecordRule, keeps, breaks, record_rule, records_due, after_record, step, Reading, refused, refusal, at_rest}
+use Rattle.rules.specs.Reading.{a_line, no_line, first_line, lines, RecordRule, keeps, breaks, record_rule, records_due, after_record, step, Reading, refused, refusal, at_rest, fault}
 use Rattle.rules.specs.Answers.{refusal_of_reading}
 use Rattle.rules.specs.Link.{Finished, Link, is_open, line_of, rest_of, stopped, Lent, is_short, records_in, announced_by, goes_on, if_long, after_line, finishes, holding, no_line_here, behind_return, in_line, of_line, placed, counted, taken, byte_in, bytes_in}
 use Rattle.rules.specs.LinkDemands.{announced_with}
@@ -61,9 +61,9 @@ announces_first zero = refl
 announces_first (suc m) = (omega arith, omega arith)
 
 -- Behind a line in front of the records.
-abbrev Begins : Next → Type 0
-Begins (Goes next) = Announces next 0 (records_in next)
-Begins (Stops number field) = Unit {0}
+abbrev Begins : Result Due Fault → Type 0
+Begins (Ok next) = Announces next 0 (records_in next)
+Begins (Err e) = Unit {0}
 
 module _ (R : Rules) where
   begins_next : (due : Due) (l : Text) → Begins (step R due l)
@@ -82,21 +82,21 @@ module _ (R : Rules) where
       })
       due l
 
-  begun_next : (due : Due) (l : Text) (next : Due) (t : ℕ) → t ≡ 0 → step R due l ≡ Goes next → Announces next (0 + t) (records_in next)
+  begun_next : (due : Due) (l : Text) (next : Due) (t : ℕ) → t ≡ 0 → step R due l ≡ Ok next → Announces next (0 + t) (records_in next)
   begun_next due l next t z e =
       let none : 0 ≡ 0 + t = omega (arith, z) in
       subst (λ (m : ℕ). Announces next m (records_in next)) none (subst Begins e (begins_next due l))
 
   -- Behind a record.
-  record_goes : (m : ℕ) (l : Text) (next : Due) → step R (Record m) l ≡ Goes next → records_due (m - 1) ≡ next
+  record_goes : (m : ℕ) (l : Text) (next : Due) → step R (Record m) l ≡ Ok next → records_due (m - 1) ≡ next
   unfolding step
   record_goes m l next e = by (record_rule R l) e
     where
-      by : (r : RecordRule) → after_record m r ≡ Goes next → records_due (m - 1) ≡ next
+      by : (r : RecordRule) → after_record m r ≡ Ok next → records_due (m - 1) ≡ next
       by keeps g = unfold after_record in cc
       by (breaks field) g = let z : ◌≡◌ {A = ℕ} 0 1 = unfold after_record in cc in absurd (omega arith)
 
-  announces_next : (due : Due) (l : Text) (next : Due) (t n : ℕ) → step R due l ≡ Goes next → Announces due t n → Announces next (record_lines due + t) (announced_by due next n)
+  announces_next : (due : Due) (l : Text) (next : Due) (t n : ℕ) → step R due l ≡ Ok next → Announces due t n → Announces next (record_lines due + t) (announced_by due next n)
   unfolding record_lines announced_by
   announces_next Identifier l next t n e a = begun_next Identifier l next t a.0 e
   announces_next (Keyword k) l next t n e a = begun_next (Keyword k) l next t a.0 e
@@ -108,9 +108,9 @@ module _ (R : Rules) where
   announces_next End l next t n e a = let z : ◌≡◌ {A = ℕ} 0 1 = unfold step in cc in absurd (omega arith)
 
 -- A line is not refused with number 0.
-abbrev pub Refuses : Next → Type 0
-Refuses (Goes next) = Unit {0}
-Refuses (Stops number field) = eqb number 0 ≡ false
+abbrev pub Refuses : Result Due Fault → Type 0
+Refuses (Ok next) = Unit {0}
+Refuses (Err e) = eqb e.number 0 ≡ false
 
 pub refuses_with : (R : Rules) (due : Due) (l : Text) → Refuses (step R due l)
 refuses_with R due l =
@@ -196,14 +196,14 @@ module _ (R : Rules) (lent : Lent) (k : Link) (b : ℕ) where
       found : (t : Text) → first_line R (rest_of k ++ 10 ∷ t) ≡ a_line k.begun t
       found t = found_line R k sound.front t returned
 
-      refused_here : (number field : ℕ) → step R k.due k.begun ≡ Stops number field → Outcome (stopped k (refusal number (line_of k) field))
+      refused_here : (number field : ℕ) → step R k.due k.begun ≡ Err (fault number field) → Outcome (stopped k (refusal number (line_of k) field))
       unfolding stopped
       refused_here number field e =
           settles (subst Refuses e (refuses_with R k.due k.begun))
           (at_ten (read_from R k) (λ t. refused (refusal number (line_of k) field)) (λ t. from_refused R k t (found t) number field e))
           (at_ten (announced_from R k) (λ t. k.announced) (λ t. announced_refused R k t (found t) number field e))
 
-      module _ (next : Due) (e : step R k.due k.begun ≡ Goes next) where
+      module _ (next : Due) (e : step R k.due k.begun ≡ Ok next) where
         abbrev behind : Link
         behind = goes_on k k.begun next
 
@@ -240,9 +240,9 @@ module _ (R : Rules) (lent : Lent) (k : Link) (b : ℕ) where
       unfolding finishes after_line
       finished_here = by (step R k.due k.begun) refl
         where
-          by : (m : Next) → step R k.due k.begun ≡ m → Outcome (after_line lent k k.begun m)
-          by (Goes next) e = taken_here next e
-          by (Stops number field) e = refused_here number field e
+          by : (m : Result Due Fault) → step R k.due k.begun ≡ m → Outcome (after_line lent k k.begun m)
+          by (Ok next) e = taken_here next e
+          by (Err f) e = refused_here f.number f.field e
 
     -- # A byte of a line
 

@@ -9,11 +9,11 @@ use mathlib.Core.List.{List, [], ◌∷◌, ◌++◌, append-nil}
 use lib.Dec.{ltb, eqb}
 use lib.ListN.{length, take, drop, length-take, take-append-drop, length-drop}
 use borrow.Author.Tests.{le-ltb, le-leb, eqb-false}
+use Rattle.std.specs.Prelude.{Result, Ok, Err}
+use Rattle.rules.specs.declared.Fault.{Fault}
 use Rattle.rules.specs.declared.Refusal.{Refusal}
 use Rattle.rules.specs.declared.Due.{Due}
 use Rattle.rules.specs.declared.Due.TheVariants.{Identifier, Keyword, Remarks, Remark, Record, End}
-use Rattle.rules.specs.declared.Next.{Next}
-use Rattle.rules.specs.declared.Next.TheVariants.{Goes, Stops}
 use Rattle.rules.specs.Text.{Text, allowed, all}
 use Rattle.rules.specs.Rules.{Rules}
 use Rattle.rules.specs.Log.{Log, line_rule}
@@ -82,9 +82,9 @@ module _ (R : Rules) (lent : Lent) where
     unfolding finishes after_line
     ready_finished = by (step R k.due k.begun)
       where
-        by : (m : Next) → Ready lent (after_line lent k k.begun m)
-        by (Goes next) = ready_if_long lent (goes_on k k.begun next)
-        by (Stops number field) = ready_stopped (refusal number (line_of k) field)
+        by : (m : Result Due Fault) → Ready lent (after_line lent k k.begun m)
+        by (Ok next) = ready_if_long lent (goes_on k k.begun next)
+        by (Err e) = ready_stopped (refusal e.number (line_of k) e.field)
 
     ready_line : (b : ℕ) → Ready lent (of_line R lent k b)
     unfolding of_line behind_return in_line
@@ -365,9 +365,9 @@ unfolding refusal_of_reading
 told_once e = ap refusal_of_reading e
 
 -- No line is refused with 2.
-abbrev NotTwo : Next → Type 0
-NotTwo (Goes next) = Unit {0}
-NotTwo (Stops number field) = number ≡ 2 → ⊥
+abbrev NotTwo : Result Due Fault → Type 0
+NotTwo (Ok next) = Unit {0}
+NotTwo (Err e) = e.number ≡ 2 → ⊥
 
 data DueIs (due : Due) : Type 0 where
   is_end : due ≡ End → DueIs due
@@ -421,24 +421,24 @@ module _ (R : Rules) where
       two : r ≡ refusal 2 (line_of k) 0
       two = told_once (sym (told (1 ∷ [])) ∙ two_here k front line)
 
-      later : (next : Due) → step R k.due k.begun ≡ Goes next → (t : Text) → read_from R (goes_on k k.begun next) t ≡ refused r
+      later : (next : Due) → step R k.due k.begun ≡ Ok next → (t : Text) → read_from R (goes_on k k.begun next) t ≡ refused r
       later next g t = sym (from_taken R k t (found_line R k front t e) next g) ∙ told (10 ∷ t)
 
       fresh : (next : Due) → IsFront R (goes_on k k.begun next)
       fresh next = and_i (le-leb 0 R.longest_line (omega arith)) refl
 
-      after_line_lem : (next : Due) → step R k.due k.begun ≡ Goes next → DueIs next → ⊥
+      after_line_lem : (next : Due) → step R k.due k.begun ≡ Ok next → DueIs next → ⊥
       after_line_lem next g (is_end d) = accepted_here (goes_on k k.begun next) r (fresh next) d refl (later next g [])
       after_line_lem next g (is_line d) =
           let other = told_once (sym (later next g (1 ∷ [])) ∙ two_here (goes_on k k.begun next) (fresh next) d) in
           let lines : line_of k ≡ suc (length k.finished) + 1 = ap (λ (q : Refusal). q.line) (sym two ∙ other) in
           omega arith
 
-      by : (m : Next) → step R k.due k.begun ≡ m → ⊥
-      by (Goes next) g = after_line_lem next g (due_is next)
-      by (Stops number field) g =
-          let here = told_once (sym (told (10 ∷ [])) ∙ from_refused R k [] (found_line R k front [] e) number field g) in
-          let same : number ≡ 2 = ap (λ (q : Refusal). q.number) (sym here ∙ two) in
+      by : (m : Result Due Fault) → step R k.due k.begun ≡ m → ⊥
+      by (Ok next) g = after_line_lem next g (due_is next)
+      by (Err f) g =
+          let here = told_once (sym (told (10 ∷ [])) ∙ from_refused R k [] (found_line R k front [] e) f.number f.field g) in
+          let same : f.number ≡ 2 = ap (λ (q : Refusal). q.number) (sym here ∙ two) in
           (subst NotTwo g (not_two k.due k.begun)) same
 
   unsettled : (k : Link) (r : Refusal) → Sound R k → ((t : Text) → read_from R k t ≡ refused r) → ⊥

@@ -9,15 +9,15 @@ use lib.Dec.{leb, eqb}
 use lib.ListN.{length, drop}
 use lib.Seq.{drop-append-add}
 use borrow.Author.Tests.{lt-leb}
+use Rattle.std.specs.Prelude.{Result, Ok, Err}
+use Rattle.rules.specs.declared.Fault.{Fault}
 use Rattle.rules.specs.declared.Refusal.{Refusal}
 use Rattle.rules.specs.declared.Due.{Due}
 use Rattle.rules.specs.declared.Due.TheVariants.{Record, End}
-use Rattle.rules.specs.declared.Next.{Next}
-use Rattle.rules.specs.declared.Next.TheVariants.{Goes, Stops}
 use Rattle.rules.specs.Text.{Text, allowed, all, span, begins}
 use Rattle.rules.specs.Rules.{Rules}
 use Rattle.rules.specs.Log.{crlf, line_rule}
-use Rattle.rules.specs.Reading.{Lines, FirstLine, a_line, no_line, first_line, on_first_line, lines, RecordRule, keeps, breaks, record_rule, records_due, after_record, step, Reading, refused, refusal, at_rest, put, on_next, walk}
+use Rattle.rules.specs.Reading.{Lines, FirstLine, a_line, no_line, first_line, on_first_line, lines, RecordRule, keeps, breaks, record_rule, records_due, after_record, step, Reading, refused, refusal, at_rest, put, on_next, walk, fault}
 use Rattle.rules.specs.Link.{Finished, Link, line_of, rest_of, announced_by, goes_on, holding}
 use Rattle.rules.specs.LinkDemands.{announced_on, announced_with}
 use Rattle.rules.proofs.Tests.{and_l, and_r}
@@ -155,39 +155,39 @@ module _ (R : Rules) (k : Link) where
   -- # The LF
 
   module _ (t : Text) (found : first_line R (rest_of k ++ 10 ∷ t) ≡ a_line k.begun t) where
-    finished_by : (m : Next) → step R k.due k.begun ≡ m → read_from R k (10 ∷ t) ≡ put_all k.finished (on_next (λ next. read_on R next (line_of k + 1) t) (line_of k) k.due k.begun m)
+    finished_by : (m : Result Due Fault) → step R k.due k.begun ≡ m → read_from R k (10 ∷ t) ≡ put_all k.finished (on_next (λ next. read_on R next (line_of k + 1) t) (line_of k) k.due k.begun m)
     unfolding read_from
     finished_by m g =
         ap (put_all k.finished) (on_line R k.due (line_of k) (rest_of k ++ 10 ∷ t) k.begun t found
         ∙ ap (on_next (λ next. read_on R next (line_of k + 1) t) (line_of k) k.due k.begun) g)
 
-    announced_by_lem : (m : Next) → step R k.due k.begun ≡ m → announced_from R k (10 ∷ t) ≡ announced_on (λ next. announced_with R next (announced_by k.due next k.announced) (lines R t).whole) k.announced m
+    announced_by_lem : (m : Result Due Fault) → step R k.due k.begun ≡ m → announced_from R k (10 ∷ t) ≡ announced_on (λ next. announced_with R next (announced_by k.due next k.announced) (lines R t).whole) k.announced m
     unfolding announced_from announced_with on_first_line
     announced_by_lem m g =
         ap (λ (ls : Lines). announced_with R k.due k.announced ls.whole) (lines_law R (rest_of k ++ 10 ∷ t) ∙ ap (on_first_line (lines R) (rest_of k ++ 10 ∷ t)) found)
         ∙ ap (announced_on (λ next. announced_with R next (announced_by k.due next k.announced) (lines R t).whole) k.announced) g
 
     -- The line is taken.
-    pub from_taken : (next : Due) → step R k.due k.begun ≡ Goes next → read_from R k (10 ∷ t) ≡ read_from R (goes_on k k.begun next) t
+    pub from_taken : (next : Due) → step R k.due k.begun ≡ Ok next → read_from R k (10 ∷ t) ≡ read_from R (goes_on k k.begun next) t
     unfolding on_next read_from put_all goes_on
     from_taken next g =
         let count : line_of k + 1 ≡ suc (length k.finished) + 1 = omega arith in
-        finished_by (Goes next) g
+        finished_by (Ok next) g
         ∙ ap (λ (n : ℕ). put_all k.finished (put k.due k.begun (read_on R next n t))) count
 
-    pub announced_taken : (next : Due) → step R k.due k.begun ≡ Goes next → announced_from R k (10 ∷ t) ≡ announced_from R (goes_on k k.begun next) t
+    pub announced_taken : (next : Due) → step R k.due k.begun ≡ Ok next → announced_from R k (10 ∷ t) ≡ announced_from R (goes_on k k.begun next) t
     unfolding announced_on announced_from goes_on
-    announced_taken next g = announced_by_lem (Goes next) g
+    announced_taken next g = announced_by_lem (Ok next) g
 
     -- It is refused.
-    pub from_refused : (number field : ℕ) → step R k.due k.begun ≡ Stops number field → read_from R k (10 ∷ t) ≡ refused (refusal number (line_of k) field)
+    pub from_refused : (number field : ℕ) → step R k.due k.begun ≡ Err (fault number field) → read_from R k (10 ∷ t) ≡ refused (refusal number (line_of k) field)
     unfolding on_next
     from_refused number field g =
-        finished_by (Stops number field) g ∙ put_refused k.finished (refusal number (line_of k) field)
+        finished_by (Err (fault number field)) g ∙ put_refused k.finished (refusal number (line_of k) field)
 
-    pub announced_refused : (number field : ℕ) → step R k.due k.begun ≡ Stops number field → announced_from R k (10 ∷ t) ≡ k.announced
+    pub announced_refused : (number field : ℕ) → step R k.due k.begun ≡ Err (fault number field) → announced_from R k (10 ∷ t) ≡ k.announced
     unfolding announced_on
-    announced_refused number field g = announced_by_lem (Stops number field) g
+    announced_refused number field g = announced_by_lem (Err (fault number field)) g
 
   -- # Byte by byte
 

@@ -8,11 +8,11 @@ use mathlib.Core.Bool.{◌&&◌}
 use mathlib.Core.List.{[], ◌∷◌}
 use lib.Dec.{ltb, eqb}
 use lib.ListN.{length}
+use Rattle.std.specs.Prelude.{Result, Ok, Err}
+use Rattle.rules.specs.declared.Fault.{Fault}
 use Rattle.rules.specs.declared.Refusal.{Refusal}
 use Rattle.rules.specs.declared.Due.{Due}
 use Rattle.rules.specs.declared.Due.TheVariants.{Identifier, Keyword, Remarks, Remark, Record, End}
-use Rattle.rules.specs.declared.Next.{Next}
-use Rattle.rules.specs.declared.Next.TheVariants.{Goes, Stops}
 use Rattle.rules.specs.Text.{Text, allowed}
 use Rattle.rules.specs.Rules.{Rules}
 use Rattle.rules.specs.Reading.{refusal, step, Reading, accepted, refused, at_rest}
@@ -65,10 +65,10 @@ module _ (R : Rules) (lent : Lent) where
   unfolding if_long stopped
   told_long k p = on_test Told (is_short lent k.announced) seven_told p
 
-  told_after_lem : (k : Link) (l : Text) (m : Next) → StopsNumbered m → Told k → Told (after_line lent k l m)
+  told_after_lem : (k : Link) (l : Text) (m : Result Due Fault) → StopsNumbered m → Told k → Told (after_line lent k l m)
   unfolding after_line goes_on
-  told_after_lem k l (Goes next) h p = told_long (goes_on k l next) p
-  told_after_lem k l (Stops number field) h p = told_here k number field h
+  told_after_lem k l (Ok next) h p = told_long (goes_on k l next) p
+  told_after_lem k l (Err e) h p = told_here k e.number e.field h
 
   told_finished : (k : Link) → Told k → Told (finishes R lent k)
   unfolding finishes

@@ -9,17 +9,17 @@ use lib.Dec.{ltb, eqb}
 use lib.ListN.{length, take, drop}
 use native.Mathlib.Omega.{arith}
 use native.Mathlib.Nat.{le_refl}
+use Rattle.std.specs.Prelude.{Result, Ok, Err}
+use Rattle.rules.specs.declared.Fault.{Fault}
 use Rattle.rules.specs.declared.Refusal.{Refusal}
 use Rattle.rules.specs.declared.Due.{Due}
 use Rattle.rules.specs.declared.Due.TheVariants.{Identifier, Keyword, Remarks, Remark, Record, End}
-use Rattle.rules.specs.declared.Next.{Next}
-use Rattle.rules.specs.declared.Next.TheVariants.{Goes, Stops}
 use Rattle.rules.specs.Text.{Text, bytes, digit, span, same, begins, parts, value, number_from}
 use Rattle.rules.specs.Rules.{Rules}
 use Rattle.rules.specs.Fields.{field_rules, qso_of}
 use Rattle.rules.specs.Arguments.{Entry, entries, meets}
 use Rattle.rules.specs.Log.{Log, identifier, remarks_line, count_start}
-use Rattle.rules.specs.Reading.{RecordRule, keeps, breaks, first_broken, record_rule, records_due, whole, argument_on, has_keyword, keyword_line, keyword_due, count_rule, after_record, step, Reading, accepted, refused, refusal, at_rest, put, on_next, lines, walk, read}
+use Rattle.rules.specs.Reading.{RecordRule, keeps, breaks, first_broken, record_rule, records_due, whole, argument_on, has_keyword, keyword_line, keyword_due, count_rule, after_record, step, Reading, accepted, refused, refusal, at_rest, put, on_next, lines, walk, read, fault}
 use Rattle.rules.specs.Answers.{records_of_reading, respelt_of_reading, totals_of_judgement, numbers_of_judgement, bytes_of_writing, start_of_view, viewed, listed_of_view, over}
 use Rattle.rules.specs.Demands.{EveryInputGetsAnAnswer, OfALine, RefusedWithNumberLineField, RefusedJudgingChangesNothing, RefusedWritingChangesNothing, RefusedViewIsEmpty, RefusedReadingHasNoRecords}
 
@@ -47,15 +47,15 @@ broken_field n (false ∷ bs) h = omega arith
 -- # What a step can be
 
 -- What holds of every step: of each thing that can be due next, and of each refusal.
-pub record OfStep (P : Next → Type 0) : Type 0 where
-  pub keyword : (k : ℕ) → P (Goes (Keyword k))
-  pub remarks : P (Goes Remarks)
-  pub remark : P (Goes Remark)
-  pub records : (n : ℕ) → P (Goes (records_due n))
-  pub three : P (Stops 3 0)
-  pub four : P (Stops 4 0)
-  pub five : (field : ℕ) → field ≤ 15 → P (Stops 5 field)
-  pub six : P (Stops 6 0)
+pub record OfStep (P : Result Due Fault → Type 0) : Type 0 where
+  pub keyword : (k : ℕ) → P (Ok (Keyword k))
+  pub remarks : P (Ok Remarks)
+  pub remark : P (Ok Remark)
+  pub records : (n : ℕ) → P (Ok (records_due n))
+  pub three : P (Err (fault 3 0))
+  pub four : P (Err (fault 4 0))
+  pub five : (field : ℕ) → field ≤ 15 → P (Err (fault 5 field))
+  pub six : P (Err (fault 6 0))
 
 pub on_test : {A : Type 0} (P : A → Type 0) (b : Bool) {x y : A} → P x → P y → P (cond b x y)
 on_test P true p q = p
@@ -70,13 +70,13 @@ module _ (R : Rules) where
       by true = broken_field 1 (field_rules R (qso_of (parts l))) (omega arith)
       by false = omega arith
 
-  module _ (P : Next → Type 0) (o : OfStep P) where
+  module _ (P : Result Due Fault → Type 0) (o : OfStep P) where
     of_record : (n : ℕ) (r : RecordRule) → FieldIsOne r → P (after_record n r)
     unfolding after_record
     of_record n keeps h = o.records (n - 1)
     of_record n (breaks field) h = o.five field h
 
-    of_keyword : (e : Entry) (l : Text) (next : Due) → P (Goes next) → P (keyword_line R e l next)
+    of_keyword : (e : Entry) (l : Text) (next : Due) → P (Ok next) → P (keyword_line R e l next)
     unfolding keyword_line
     of_keyword e l next p =
         on_test P (has_keyword e l) (on_test P (meets R e.rule (argument_on e l)) p o.four) o.three
@@ -87,7 +87,7 @@ module _ (R : Rules) where
     of_keywords (e ∷ []) k l = of_keyword e l Remarks o.remarks
     of_keywords (e ∷ f ∷ es) k l = of_keyword e l (Keyword (k + 1)) (o.keyword (k + 1))
 
-    of_whole : (due l : Text) (next : Due) → P (Goes next) → P (whole due l next)
+    of_whole : (due l : Text) (next : Due) → P (Ok next) → P (whole due l next)
     unfolding whole
     of_whole due l next p = on_test P (same l due) p o.three
 
@@ -108,9 +108,9 @@ module _ (R : Rules) where
 
 -- # The numbers
 
-abbrev pub StopsNumbered : Next → Type 0
-StopsNumbered (Goes due) = Unit {0}
-StopsNumbered (Stops number field) = Numbered number field
+abbrev pub StopsNumbered : Result Due Fault → Type 0
+StopsNumbered (Ok due) = Unit {0}
+StopsNumbered (Err e) = Numbered e.number e.field
 
 -- Any number but 5 comes with no field.
 no_field : (number : ℕ) → 2 ≤ number → number ≤ 6 → Numbered number 0
@@ -174,11 +174,11 @@ module _ (R : Rules) where
   walk_placed due n [] rest h = later_placed n (n + 0) (at_rest due n rest) (omega arith) (rest_placed due n rest h)
   walk_placed due n (l ∷ ls) rest h = on (λ next. walk_placed next (n + 1) ls rest (omega arith)) (step R due l) (step_numbered R due l)
     where
-      on : ((next : Due) → Placed (n + 1 + length ls) (walk R next (n + 1) ls rest)) → (m : Next) → StopsNumbered m → Placed (n + suc (length ls)) (on_next (λ next. walk R next (n + 1) ls rest) n due l m)
-      on more (Goes next) p =
+      on : ((next : Due) → Placed (n + 1 + length ls) (walk R next (n + 1) ls rest)) → (m : Result Due Fault) → StopsNumbered m → Placed (n + suc (length ls)) (on_next (λ next. walk R next (n + 1) ls rest) n due l m)
+      on more (Ok next) p =
           let a = walk R next (n + 1) ls rest in
           put_placed (n + suc (length ls)) due l a (later_placed (n + 1 + length ls) (n + suc (length ls)) a (omega arith) (more next))
-      on more (Stops number field) p = (h, omega arith, p)
+      on more (Err e) p = (h, omega arith, p)
 
   abbrev Told : Text → Reading → Type 0
   Told s (accepted log) = Unit {0}

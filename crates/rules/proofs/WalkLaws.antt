@@ -10,17 +10,17 @@ use lib.ListN.{length, take, drop, take-append-drop}
 use lib.Seq.{drop-drop, take-append_seam, drop-append_seam}
 use native.Mathlib.Omega.{arith}
 use borrow.Author.Tests.{not-true, leb-true, le-leb}
+use Rattle.std.specs.Prelude.{Result, Ok, Err}
+use Rattle.rules.specs.declared.Fault.{Fault}
 use Rattle.rules.specs.declared.Refusal.{Refusal}
 use Rattle.rules.specs.declared.Due.{Due}
 use Rattle.rules.specs.declared.Due.TheVariants.{Identifier, Keyword, Remarks, Remark, Record, End}
-use Rattle.rules.specs.declared.Next.{Next}
-use Rattle.rules.specs.declared.Next.TheVariants.{Goes, Stops}
 use Rattle.rules.specs.Text.{Text, bytes, digit, span, same, same_but_case, begins, value, number, number_from, digits}
 use Rattle.rules.specs.Rules.{Rules}
 use Rattle.rules.specs.Fields.{Qso, qso_of, field_rules}
 use Rattle.rules.specs.Arguments.{Entry, entries, meets, every}
 use Rattle.rules.specs.Log.{Log, identifier, remarks_line, count_start, count_line, keyword_start, keyword_lines, record_line, lines_of, keyword_rules, argument_rules, remark_rule, conjunction, record_rules}
-use Rattle.rules.specs.Reading.{RecordRule, keeps, breaks, record_rule, records_due, whole, spelling_on, argument_on, has_keyword, keyword_line, keyword_due, count_rule, after_record, step, Reading, accepted, refused, at_rest, spelling_due, argument_due, with_line, put, on_next, walk}
+use Rattle.rules.specs.Reading.{RecordRule, keeps, breaks, record_rule, records_due, whole, spelling_on, argument_on, has_keyword, keyword_line, keyword_due, count_rule, after_record, step, Reading, accepted, refused, at_rest, spelling_due, argument_due, with_line, put, on_next, walk, fault}
 use Rattle.rules.proofs.Tests.{never, and_l, and_r, and_i, not_false}
 use Rattle.rules.proofs.TextLaws.{span_run, same_eq, same_refl, begins_split}
 use Rattle.rules.proofs.LogLaws.{lines_opened}
@@ -33,7 +33,7 @@ pub no_log_lem : {A : Type 0} {r : Refusal} {log : Log} → refused r ≡ accept
 no_log_lem e = let z : ◌≡◌ {A = ℕ} 0 1 = cc in absurd (omega arith)
 
 -- What a test, or two tests, let go on.
-pub one_test : (b : Bool) (on next : Due) (number field : ℕ) → cond b (Goes on) (Stops number field) ≡ Goes next → (b ≡ true) × (on ≡ next)
+pub one_test : (b : Bool) (on next : Due) (number field : ℕ) → cond b (Ok on) (Err (fault number field)) ≡ Ok next → (b ≡ true) × (on ≡ next)
 one_test true on next number field e = (refl, cc)
 one_test false on next number field e = let z : ◌≡◌ {A = ℕ} 0 1 = cc in absurd (omega arith)
 
@@ -42,26 +42,26 @@ module _ (R : Rules) where
   pub record Taken (due : Due) (n : ℕ) (l : Text) (ls : List Text) (rest : Text) (log : Log) : Type 0 where
     pub next : Due
     pub after : Log
-    pub leads : step R due l ≡ Goes next
+    pub leads : step R due l ≡ Ok next
     pub reads : walk R next (n + 1) ls rest ≡ accepted after
     pub makes : with_line due l after ≡ log
 
-  pub walk_goes : (due next : Due) (n : ℕ) (l : Text) (ls : List Text) (rest : Text) (after : Log) → step R due l ≡ Goes next → walk R next (n + 1) ls rest ≡ accepted after → walk R due n (l ∷ ls) rest ≡ accepted (with_line due l after)
+  pub walk_goes : (due next : Due) (n : ℕ) (l : Text) (ls : List Text) (rest : Text) (after : Log) → step R due l ≡ Ok next → walk R next (n + 1) ls rest ≡ accepted after → walk R due n (l ∷ ls) rest ≡ accepted (with_line due l after)
   unfolding walk on_next put
   walk_goes due next n l ls rest after e g =
-      ap (λ (m : Next). on_next (λ next. walk R next (n + 1) ls rest) n due l m) e ∙ ap (λ (r : Reading). put due l r) g
+      ap (λ (m : Result Due Fault). on_next (λ next. walk R next (n + 1) ls rest) n due l m) e ∙ ap (λ (r : Reading). put due l r) g
 
   pub walk_took : (due : Due) (n : ℕ) (l : Text) (ls : List Text) (rest : Text) (log : Log) → walk R due n (l ∷ ls) rest ≡ accepted log → Taken due n l ls rest log
   unfolding walk on_next put
   walk_took due n l ls rest log e = on (step R due l) refl e
     where
-      accept : (next : Due) → step R due l ≡ Goes next → (r : Reading) → walk R next (n + 1) ls rest ≡ r → put due l r ≡ accepted log → Taken due n l ls rest log
+      accept : (next : Due) → step R due l ≡ Ok next → (r : Reading) → walk R next (n + 1) ls rest ≡ r → put due l r ≡ accepted log → Taken due n l ls rest log
       accept next s (accepted after) g h = record { next = next; after = after; leads = s; reads = g; makes = cc }
       accept next s (refused r) g h = no_log_lem h
 
-      on : (m : Next) → step R due l ≡ m → on_next (λ next. walk R next (n + 1) ls rest) n due l m ≡ accepted log → Taken due n l ls rest log
-      on (Goes next) s h = accept next s (walk R next (n + 1) ls rest) refl h
-      on (Stops number field) s h = no_log_lem h
+      on : (m : Result Due Fault) → step R due l ≡ m → on_next (λ next. walk R next (n + 1) ls rest) n due l m ≡ accepted log → Taken due n l ls rest log
+      on (Ok next) s h = accept next s (walk R next (n + 1) ls rest) refl h
+      on (Err e) s h = no_log_lem h
 
 -- # Records
 
@@ -72,17 +72,17 @@ record_lines qs = map record_line qs
 abbrev records_alone : List Qso → Log
 records_alone qs = record { keywords = []; arguments = []; remarks = []; records = qs }
 
-keeps_goes : (m : ℕ) (r : RecordRule) (next : Due) → after_record (suc m) r ≡ Goes next → (r ≡ keeps) × (records_due m ≡ next)
+keeps_goes : (m : ℕ) (r : RecordRule) (next : Due) → after_record (suc m) r ≡ Ok next → (r ≡ keeps) × (records_due m ≡ next)
 unfolding after_record
 keeps_goes m keeps next e = let n : suc m - 1 ≡ m = omega arith in (refl, cc)
 keeps_goes m (breaks field) next e = let z : ◌≡◌ {A = ℕ} 0 1 = cc in absurd (omega arith)
 
 module _ (R : Rules) where
-  pub step_record : (m : ℕ) (l : Text) → record_rule R l ≡ keeps → step R (Record (suc m)) l ≡ Goes (records_due m)
+  pub step_record : (m : ℕ) (l : Text) → record_rule R l ≡ keeps → step R (Record (suc m)) l ≡ Ok (records_due m)
   unfolding step after_record
   step_record m l e = let n : suc m - 1 ≡ m = omega arith in ap (after_record (suc m)) e ∙ rw n
 
-  pub step_record_goes : (m : ℕ) (l : Text) (next : Due) → step R (Record (suc m)) l ≡ Goes next → (record_rule R l ≡ keeps) × (records_due m ≡ next)
+  pub step_record_goes : (m : ℕ) (l : Text) (next : Due) → step R (Record (suc m)) l ≡ Ok next → (record_rule R l ≡ keeps) × (records_due m ≡ next)
   unfolding step
   step_record_goes m l next e = keeps_goes m (record_rule R l) next e
 
@@ -151,11 +151,11 @@ module _ (R : Rules) where
 -- # Remarks and the count line
 
 module _ (R : Rules) where
-  count_at_lem : (t : Text) (n : ℕ) → span digit t ≡ n → count_rule R t ≡ cond (number_from 0 R.most_records (take n t) && same (drop n t) (bytes "]")) (Goes (records_due (value (take n t)))) (Stops 4 0)
+  count_at_lem : (t : Text) (n : ℕ) → span digit t ≡ n → count_rule R t ≡ cond (number_from 0 R.most_records (take n t) && same (drop n t) (bytes "]")) (Ok (records_due (value (take n t)))) (Err (fault 4 0))
   unfolding count_rule
-  count_at_lem t n e = ap (λ (k : ℕ). cond (number_from 0 R.most_records (take k t) && same (drop k t) (bytes "]")) (Goes (records_due (value (take k t)))) (Stops 4 0)) e
+  count_at_lem t n e = ap (λ (k : ℕ). cond (number_from 0 R.most_records (take k t) && same (drop k t) (bytes "]")) (Ok (records_due (value (take k t)))) (Err (fault 4 0))) e
 
-  pub count_goes : (m : ℕ) → leb m R.most_records ≡ true → count_rule R (digits m ++ bytes "]") ≡ Goes (records_due m)
+  pub count_goes : (m : ℕ) → leb m R.most_records ≡ true → count_rule R (digits m ++ bytes "]") ≡ Ok (records_due m)
   count_goes m e =
       let t = digits m ++ bytes "]" in
       let n : span digit t ≡ length (digits m) = span_run digit (digits m) 93 [] (digits_all m) refl in
@@ -163,13 +163,13 @@ module _ (R : Rules) where
       let last : drop (length (digits m)) t ≡ bytes "]" = drop-append_seam (digits m) (bytes "]") in
       count_at_lem t (length (digits m)) n ∙ rw (first, last, digits_from_lem 0 R.most_records m (omega arith) (leb-true m R.most_records e), same_refl (bytes "]"), value_digits m)
 
-  pub step_count : (m : ℕ) → leb m R.most_records ≡ true → step R Remark (count_line m) ≡ Goes (records_due m)
+  pub step_count : (m : ℕ) → leb m R.most_records ≡ true → step R Remark (count_line m) ≡ Ok (records_due m)
   unfolding step count_line count_start begins
   step_count m e = count_goes m e
 
-  pub step_remark : (l : Text) → remark_rule l ≡ true → step R Remark l ≡ Goes Remark
+  pub step_remark : (l : Text) → remark_rule l ≡ true → step R Remark l ≡ Ok Remark
   unfolding step remark_rule
-  step_remark l e = ap (λ (b : Bool). cond b (count_rule R (drop (length count_start) l)) (Goes Remark)) (not-true (begins count_start l) e)
+  step_remark l e = ap (λ (b : Bool). cond b (count_rule R (drop (length count_start) l)) (Ok Remark)) (not-true (begins count_start l) e)
 
   -- A line that is taken where a remark or the count line is due is the one or the other.
   pub record IsCount (l : Text) (next : Due) : Type 0 where
@@ -178,7 +178,7 @@ module _ (R : Rules) where
     pub fits : leb count R.most_records ≡ true
     pub due : records_due count ≡ next
 
-  pub is_count : (l : Text) (next : Due) → begins count_start l ≡ true → count_rule R (drop (length count_start) l) ≡ Goes next → IsCount l next
+  pub is_count : (l : Text) (next : Due) → begins count_start l ≡ true → count_rule R (drop (length count_start) l) ≡ Ok next → IsCount l next
   unfolding count_rule count_line
   is_count l next b e =
       let t = drop (length count_start) l in
@@ -267,9 +267,9 @@ module _ (R : Rules) where
         none = k.none;
       })
 
-  pub step_begun : (l : Text) (b : Bool) → begins count_start l ≡ b → step R Remark l ≡ cond b (count_rule R (drop (length count_start) l)) (Goes Remark)
+  pub step_begun : (l : Text) (b : Bool) → begins count_start l ≡ b → step R Remark l ≡ cond b (count_rule R (drop (length count_start) l)) (Ok Remark)
   unfolding step
-  step_begun l b e = ap (λ (c : Bool). cond c (count_rule R (drop (length count_start) l)) (Goes Remark)) e
+  step_begun l b e = ap (λ (c : Bool). cond c (count_rule R (drop (length count_start) l)) (Ok Remark)) e
 
   no_remarks_lem : (n : ℕ) (rest : Text) (log : Log) {A : Type 0} → walk R Remark n [] rest ≡ accepted log → A
   unfolding walk
@@ -282,7 +282,7 @@ module _ (R : Rules) where
       subst (λ (x : Log). RemarksAre (l ∷ ls) rest x) t.makes
       (by t.next t.after t.leads t.reads (λ g. remarks_are (n + 1) ls rest t.after g) (begins count_start l) refl)
     where
-      by : (next : Due) (after : Log) → step R Remark l ≡ Goes next → walk R next (n + 1) ls rest ≡ accepted after → (walk R Remark (n + 1) ls rest ≡ accepted after → RemarksAre ls rest after) → (b : Bool) → begins count_start l ≡ b → RemarksAre (l ∷ ls) rest (with_line Remark l after)
+      by : (next : Due) (after : Log) → step R Remark l ≡ Ok next → walk R next (n + 1) ls rest ≡ accepted after → (walk R Remark (n + 1) ls rest ≡ accepted after → RemarksAre ls rest after) → (b : Bool) → begins count_start l ≡ b → RemarksAre (l ∷ ls) rest (with_line Remark l after)
       by next after s g more true b =
           let c = is_count l next b (sym (step_begun l true b) ∙ s) in
           counted_are l ls rest next after c (records_are R c.count (n + 1) ls rest after (rw c.due g))
@@ -301,15 +301,15 @@ pub drop_next : {A : Type 0} {a : A} {l : List A} (k : ℕ) (all : List A) → d
 drop_next k all e = sym (drop-drop 1 k all) ∙ ap (drop 1) e
 
 module _ (R : Rules) where
-  pub whole_goes : (due : Text) (next : Due) → whole due due next ≡ Goes next
+  pub whole_goes : (due : Text) (next : Due) → whole due due next ≡ Ok next
   unfolding whole
   whole_goes due next = rw (same_refl due)
 
-  whole_went : (due l : Text) (on next : Due) → whole due l on ≡ Goes next → (l ≡ due) × (on ≡ next)
+  whole_went : (due l : Text) (on next : Due) → whole due l on ≡ Ok next → (l ≡ due) × (on ≡ next)
   unfolding whole
   whole_went due l on next e = let p = one_test (same l due) on next 3 0 e in (same_eq l due p.0, p.1)
 
-  pub keyword_goes : (e : Entry) (w t : Text) (next : Due) → same_but_case e.keyword w ≡ true → meets R e.rule t ≡ true → keyword_line R e (keyword_start w ++ t) next ≡ Goes next
+  pub keyword_goes : (e : Entry) (w t : Text) (next : Due) → same_but_case e.keyword w ≡ true → meets R e.rule t ≡ true → keyword_line R e (keyword_start w ++ t) next ≡ Ok next
   unfolding keyword_line
   keyword_goes e w t next c m = rw (keyword_had e w t c, argument_on_lem e w t c, m)
 
@@ -318,11 +318,11 @@ module _ (R : Rules) where
     pub rule : meets R e.rule (argument_on e l) ≡ true
     pub due : on ≡ next
 
-  two_tests : (b m : Bool) (on next : Due) → cond b (cond m (Goes on) (Stops 4 0)) (Stops 3 0) ≡ Goes next → (b ≡ true) × (m ≡ true) × (on ≡ next)
+  two_tests : (b m : Bool) (on next : Due) → cond b (cond m (Ok on) (Err (fault 4 0))) (Err (fault 3 0)) ≡ Ok next → (b ≡ true) × (m ≡ true) × (on ≡ next)
   two_tests true m on next e = let p = one_test m on next 4 0 e in (refl, p.0, p.1)
   two_tests false m on next e = let z : ◌≡◌ {A = ℕ} 0 1 = cc in absurd (omega arith)
 
-  pub keyword_went : (e : Entry) (l : Text) (on next : Due) → keyword_line R e l on ≡ Goes next → IsKeyword e l on next
+  pub keyword_went : (e : Entry) (l : Text) (on next : Due) → keyword_line R e l on ≡ Ok next → IsKeyword e l on next
   unfolding keyword_line
   keyword_went e l on next g =
       let p = two_tests (has_keyword e l) (meets R e.rule (argument_on e l)) on next g in
@@ -407,7 +407,7 @@ module _ (R : Rules) where
         rules = r.rules;
       })
 
-  pub step_remarks_went : (l : Text) (next : Due) → step R Remarks l ≡ Goes next → (l ≡ remarks_line) × (Remark ≡ next)
+  pub step_remarks_went : (l : Text) (next : Due) → step R Remarks l ≡ Ok next → (l ≡ remarks_line) × (Remark ≡ next)
   unfolding step
   step_remarks_went l next e = whole_went remarks_line l Remark next e
 
@@ -447,7 +447,7 @@ module _ (R : Rules) where
     pub fits : leb (length log.records) R.most_records ≡ true
     pub rules : record_rules R log.records ≡ true
 
-  pub step_identifier_went : (l : Text) (next : Due) → step R Identifier l ≡ Goes next → (l ≡ identifier) × (Keyword 0 ≡ next)
+  pub step_identifier_went : (l : Text) (next : Due) → step R Identifier l ≡ Ok next → (l ≡ identifier) × (Keyword 0 ≡ next)
   unfolding step
   step_identifier_went l next e = whole_went identifier l (Keyword 0) next e
 

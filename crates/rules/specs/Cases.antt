@@ -1,13 +1,12 @@
 -- What the table of cases asks, and how an answer is put in numbers.
 -- Assumes nothing.
-use Rattle.std.specs.Prelude.{ℕ, ◌+◌, Bool, true, false, length, set, replicate}
+use Rattle.std.specs.Prelude.{ℕ, ◌+◌, Bool, true, false, length, set, replicate, Result, Ok, Err}
 use Prim.Native.String.{String}
 use mathlib.Core.List.{List, [], ◌∷◌, ◌++◌, map, flat_map}
+use Rattle.rules.specs.declared.Fault.{Fault}
 use Rattle.rules.specs.declared.Refusal.{Refusal}
 use Rattle.rules.specs.declared.Totals.{Totals}
 use Rattle.rules.specs.declared.Due.{Due}
-use Rattle.rules.specs.declared.Next.{Next}
-use Rattle.rules.specs.declared.Next.TheVariants.{Goes, Stops}
 use Rattle.rules.specs.Text.{Text, bytes, same_but_case}
 use Rattle.rules.specs.Rules.{base}
 use Rattle.rules.specs.Fields.{day_exists, full_year, qso_of}
@@ -122,9 +121,9 @@ abbrev line_in : FirstLine → List ℕ
 line_in (a_line l rest) = 1 ∷ length l ∷ []
 line_in no_line = 0 ∷ []
 
-abbrev next_in : Next → List ℕ
-next_in (Goes due) = 0 ∷ []
-next_in (Stops number field) = number ∷ field ∷ []
+abbrev next_in : Result Due Fault → List ℕ
+next_in (Ok due) = 0 ∷ []
+next_in (Err e) = e.number ∷ e.field ∷ []
 
 abbrev record_in : RecordRule → List ℕ
 record_in keeps = 0 ∷ []

@@ -2,13 +2,12 @@
 -- worked calls, squares and exchanges in another of 24 bytes a record, both lent unaltered to each call." The state is a value here, and a call
 -- gives the state behind it.
 -- Assumes nothing.
-use Rattle.std.specs.Prelude.{ℕ, ◌+◌, ◌*◌, Bool, true, false, cond, ◌&&◌, ◌||◌, List, [], ◌∷◌, ◌++◌, map, ltb, eqb, length}
+use Rattle.std.specs.Prelude.{ℕ, ◌+◌, ◌*◌, Bool, true, false, cond, ◌&&◌, ◌||◌, List, [], ◌∷◌, ◌++◌, map, ltb, eqb, length, Result, Ok, Err}
+use Rattle.rules.specs.declared.Fault.{Fault}
 use Rattle.rules.specs.declared.Refusal.{Refusal}
 use Rattle.rules.specs.declared.Totals.{Totals}
 use Rattle.rules.specs.declared.Due.{Due}
 use Rattle.rules.specs.declared.Due.TheVariants.{Identifier, Keyword, Remarks, Remark, Record, End}
-use Rattle.rules.specs.declared.Next.{Next}
-use Rattle.rules.specs.declared.Next.TheVariants.{Goes, Stops}
 use Rattle.rules.specs.Text.{Text, allowed}
 use Rattle.rules.specs.Rules.{Rules}
 use Rattle.rules.specs.Log.{Log}
@@ -129,10 +128,10 @@ unfolding is_short stopped
 if_long lent k = cond (is_short lent k.announced) (stopped k (refusal 7 0 0)) k
 
 -- What follows from a finished line: 3, 4 and 5 as document 01 says.
-unfoldable pub after_line : Lent → Link → Text → Next → Link
+unfoldable pub after_line : Lent → Link → Text → Result Due Fault → Link
 unfolding goes_on if_long stopped
-after_line lent k l (Goes next) = if_long lent (goes_on k l next)
-after_line lent k l (Stops number field) = stopped k (refusal number (line_of k) field)
+after_line lent k l (Ok next) = if_long lent (goes_on k l next)
+after_line lent k l (Err e) = stopped k (refusal e.number (line_of k) e.field)
 
 unfoldable pub finishes : Rules → Lent → Link → Link
 unfolding after_line step

@@ -1,11 +1,10 @@
 -- What W7 asks of the link, sentence by sentence, as statements over the definitions. They are proved elsewhere; here one reads what is claimed.
 -- Assumes nothing.
-use Rattle.std.specs.Prelude.{ℕ, ◌≤◌, ◌<◌, ◌≡◌, ◌↔◌, true, false, List, [], ◌∷◌, ◌++◌, length, take}
+use Rattle.std.specs.Prelude.{ℕ, ◌≤◌, ◌<◌, ◌≡◌, ◌↔◌, true, false, List, [], ◌∷◌, ◌++◌, length, take, Result, Ok, Err}
+use Rattle.rules.specs.declared.Fault.{Fault}
 use Rattle.rules.specs.declared.Refusal.{Refusal}
 use Rattle.rules.specs.declared.Due.{Due}
 use Rattle.rules.specs.declared.Due.TheVariants.{Identifier}
-use Rattle.rules.specs.declared.Next.{Next}
-use Rattle.rules.specs.declared.Next.TheVariants.{Goes, Stops}
 use Rattle.rules.specs.Text.{Text}
 use Rattle.rules.specs.Rules.{Rules}
 use Rattle.rules.specs.Judging.{zero_totals}
@@ -39,9 +38,9 @@ Settled R s r = (t : Text) → by_line R (s ++ t) ≡ refused r
 -- # The count line
 
 -- N, if these lines reach the count line, the first of which is due as said; else what it was.
-unfoldable pub announced_on : (Due → ℕ) → ℕ → Next → ℕ
-announced_on more n (Goes next) = more next
-announced_on more n (Stops number field) = n
+unfoldable pub announced_on : (Due → ℕ) → ℕ → Result Due Fault → ℕ
+announced_on more n (Ok next) = more next
+announced_on more n (Err e) = n
 
 unfoldable pub announced_with : Rules → Due → ℕ → List Text → ℕ
 unfolding announced_on announced_by step

@@ -1,11 +1,10 @@
 -- "When the desk says no": the refusals 1 to 6, line by line, and the log that an accepted text is.
 -- Assumes nothing.
-use Rattle.std.specs.Prelude.{ℕ, zero, suc, ◌+◌, ◌-◌, Bool, cond, ◌&&◌, List, [], ◌∷◌, leb, ltb, eqb, length, take, drop}
+use Rattle.std.specs.Prelude.{ℕ, zero, suc, ◌+◌, ◌-◌, Bool, cond, ◌&&◌, List, [], ◌∷◌, leb, ltb, eqb, length, take, drop, Result, Ok, Err}
 use Rattle.rules.specs.declared.Refusal.{Refusal}
+use Rattle.rules.specs.declared.Fault.{Fault}
 use Rattle.rules.specs.declared.Due.{Due}
 use Rattle.rules.specs.declared.Due.TheVariants.{Identifier, Keyword, Remarks, Remark, Record, End}
-use Rattle.rules.specs.declared.Next.{Next}
-use Rattle.rules.specs.declared.Next.TheVariants.{Goes, Stops}
 use Rattle.rules.specs.Text.{Text, bytes, allowed, digit, span, same, same_but_case, begins, parts, value, number_from}
 use Rattle.rules.specs.Rules.{Rules}
 use Rattle.rules.specs.Fields.{qso_of, field_rules}
@@ -15,6 +14,10 @@ use Rattle.rules.specs.Log.{Log, identifier, remarks_line, count_start, keyword_
 -- A refusal in numbers.
 abbrev pub refusal : ℕ → ℕ → ℕ → Refusal
 refusal number line field = record { number = number; line = line; field = field }
+
+-- Why a line is refused, in numbers.
+abbrev pub fault : ℕ → ℕ → Fault
+fault number field = record { number = number; field = field }
 
 -- The lines at the front of a text, and what is left behind the last of them: its front is no line.
 pub record Lines : Type 0 where
@@ -72,9 +75,9 @@ records_due zero = End
 records_due (suc n) = Record (suc n)
 
 -- 3: "the line is not the identifier, does not begin with the keyword and its `=`, or is not the `[Remarks]`, whichever is due there"
-unfoldable pub whole : Text → Text → Due → Next
+unfoldable pub whole : Text → Text → Due → Result Due Fault
 unfolding same
-whole due line next = cond (same line due) (Goes next) (Stops 3 0)
+whole due line next = cond (same line due) (Ok next) (Err (fault 3 0))
 
 -- The keyword as a line spells it, and what stands behind it and its `=`.
 unfoldable pub spelling_on : Entry → Text → Text
@@ -91,41 +94,41 @@ has_keyword e line =
     same_but_case e.keyword (spelling_on e line) && begins (bytes "=") (drop (length e.keyword) line)
 
 -- 3 as above; 4: "a forced argument .. breaks its rule"
-unfoldable pub keyword_line : Rules → Entry → Text → Due → Next
+unfoldable pub keyword_line : Rules → Entry → Text → Due → Result Due Fault
 unfolding has_keyword meets argument_on
 keyword_line R e line next =
-    let ruled = cond (meets R e.rule (argument_on e line)) (Goes next) (Stops 4 0) in
-    cond (has_keyword e line) ruled (Stops 3 0)
+    let ruled = cond (meets R e.rule (argument_on e line)) (Ok next) (Err (fault 4 0)) in
+    cond (has_keyword e line) ruled (Err (fault 3 0))
 
 -- The first of the keywords that are left is due, after k of them; behind the last of them comes `[Remarks]`.
-unfoldable pub keyword_due : Rules → List Entry → ℕ → Text → Next
+unfoldable pub keyword_due : Rules → List Entry → ℕ → Text → Result Due Fault
 unfolding keyword_line
-keyword_due R [] k line = Stops 3 0
+keyword_due R [] k line = Err (fault 3 0)
 keyword_due R (e ∷ []) k line = keyword_line R e line Remarks
 keyword_due R (e ∷ f ∷ es) k line = keyword_line R e line (Keyword (k + 1))
 
 -- 4: "the number and `]` of the count line, breaks its rule; N is 0 to 999"
-unfoldable pub count_rule : Rules → Text → Next
+unfoldable pub count_rule : Rules → Text → Result Due Fault
 unfolding span number_from value records_due same
 count_rule R t =
     let n = span digit t in
-    cond (number_from 0 R.most_records (take n t) && same (drop n t) (bytes "]")) (Goes (records_due (value (take n t)))) (Stops 4 0)
+    cond (number_from 0 R.most_records (take n t) && same (drop n t) (bytes "]")) (Ok (records_due (value (take n t)))) (Err (fault 4 0))
 
 -- 5: "a record breaks a rule"
-unfoldable pub after_record : ℕ → RecordRule → Next
+unfoldable pub after_record : ℕ → RecordRule → Result Due Fault
 unfolding records_due
-after_record n keeps = Goes (records_due (n - 1))
-after_record n (breaks field) = Stops 5 field
+after_record n keeps = Ok (records_due (n - 1))
+after_record n (breaks field) = Err (fault 5 field)
 
 -- What follows from a line where this is due.
-unfoldable pub step : Rules → Due → Text → Next
+unfoldable pub step : Rules → Due → Text → Result Due Fault
 unfolding whole identifier remarks_line keyword_due entries begins count_start count_rule after_record record_rule
 step R Identifier l = whole identifier l (Keyword 0)
 step R (Keyword k) l = keyword_due R (drop k entries) k l
 step R Remarks l = whole remarks_line l Remark
-step R Remark l = cond (begins count_start l) (count_rule R (drop (length count_start) l)) (Goes Remark)
+step R Remark l = cond (begins count_start l) (count_rule R (drop (length count_start) l)) (Ok Remark)
 step R (Record n) l = after_record n (record_rule R l)
-step R End l = Stops 6 0
+step R End l = Err (fault 6 0)
 
 -- What reading a text gives.
 pub data Reading : Type 0 where
@@ -187,10 +190,10 @@ unfolding with_line
 put due l (accepted log) = accepted (with_line due l log)
 put due l (refused r) = refused r
 
-unfoldable pub on_next : (Due → Reading) → ℕ → Due → Text → Next → Reading
+unfoldable pub on_next : (Due → Reading) → ℕ → Due → Text → Result Due Fault → Reading
 unfolding put
-on_next more n due l (Goes next) = put due l (more next)
-on_next more n due l (Stops number field) = refused (refusal number n field)
+on_next more n due l (Ok next) = put due l (more next)
+on_next more n due l (Err e) = refused (refusal e.number n e.field)
 
 -- "line by line": from the line of this number on, where this is due.
 unfoldable pub walk : Rules → Due → ℕ → List Text → Text → Reading

@@ -1,8 +1,9 @@
 // The vocabulary that the crates share: what is answered, and in which words. What each word means stands in specs/.
 
-#![tactic(auto)]
+#![tactic(auto, unfolding(crate::specs::Rules::base))]
 
 ghost use Rattle.std.specs.Prelude.{◌≡◌};
+ghost use Rattle.rules.specs.Reading.{refusal};
 ghost use Rattle.rules.specs.Rules.{base};
 
 // Why a log is refused, where, and in which field; number 0 says that nothing is refused.
@@ -14,9 +15,43 @@ pub struct Refusal {
     pub field: u32,
 }
 
+// Why a line is refused: a number, and the field; 0 is no field.
+#[derive(Clone, Copy)]
+pub struct Fault {
+    pub number: u32,
+    pub field: u32,
+}
+
+impl Fault {
+    // The refusal of a log whose line of this number has the fault.
+    pub fn at(self, line: u32) -> Refusal
+        ensures { result ≡ refusal self.number line self.field }
+    {
+        Refusal {
+            number: self.number,
+            line,
+            field: self.field,
+        }
+    }
+}
+
+// A refusal that tells of a line and of no field.
+pub fn refused_at(number: u32, line: u32) -> Refusal
+    ensures { result ≡ refusal number line 0 }
+{
+    Fault { number, field: 0 }.at(line)
+}
+
+// A refusal that tells of no line and of no field.
+pub fn refused(number: u32) -> Refusal
+    ensures { result ≡ refusal number 0 0 }
+{
+    refused_at(number, 0)
+}
+
 // How many credited records there are by each mode: by its code, and with none.
 #[repr(C)]
-#[derive(Clone, Copy)]
+#[derive(Clone, Copy, Default)]
 pub struct Modes {
     pub code0: u64,
     pub code1: u64,
@@ -32,7 +67,7 @@ pub struct Modes {
 }
 
 // What a judged log comes to.
-#[derive(Clone, Copy)]
+#[derive(Clone, Copy, Default)]
 pub struct Totals {
     pub credited: u64,
     pub voids: u64,
@@ -50,7 +85,7 @@ pub struct Totals {
 }
 
 // What a record is worth.
-#[derive(Clone, Copy)]
+#[derive(Clone, Copy, PartialEq, Eq)]
 pub enum Class {
     Credited,
     Void,
@@ -82,13 +117,6 @@ pub enum Due {
     End,
 }
 
-// What follows from a line: what is due after it, or why it is refused.
-#[derive(Clone, Copy)]
-pub enum Next {
-    Goes(Due),
-    Stops { number: u32, field: u32 },
-}
-
 // Where a line of a chewed log lies, as far as one can tell from the lines in front of it.
 #[derive(Clone, Copy)]
 pub enum Region {
@@ -103,106 +131,88 @@ pub enum Region {
 // # The limits
 
 // Each limit stands here once, and once in the base rules; its function says that the two are one, and whoever asks it knows the limit by the
-// name that it has there. The names alone serve as the lengths of lists.
+// name that it has there. The three that are lengths of lists have a name of their own besides.
 
-// The most bytes of a log.
 pub const LONGEST_LOG: usize = 65535;
 
-// The most characters of a line.
 pub const LONGEST_LINE: usize = 75;
 
-// The largest N.
 pub const MOST_RECORDS: usize = 999;
 
-// The largest count, bonus and multiplier.
-pub const MOST_COUNT: u64 = 9999;
-
-pub const MOST_BONUS: u64 = 9999;
-
-pub const MOST_MULTIPLIER: u64 = 99;
-
-// The most characters of an exchange.
-pub const LONGEST_EXCHANGE: usize = 6;
-
-// The most digits: of a record's points, of a distance, and of the claims.
-pub const POINTS_DIGITS: usize = 6;
-
-pub const DISTANCE_DIGITS: usize = 6;
-
-pub const CLAIMED_POINTS_DIGITS: usize = 9;
-
-pub const CLAIMED_BONUS_DIGITS: usize = 7;
-
-pub const CLAIMED_TOTAL_DIGITS: usize = 15;
-
+// The most bytes of a log.
 pub fn longest_log() -> usize
     ensures { result ≡ base.longest_log }
 {
     LONGEST_LOG
 }
 
+// The most characters of a line.
 pub fn longest_line() -> usize
     ensures { result ≡ base.longest_line }
 {
     LONGEST_LINE
 }
 
+// The largest N.
 pub fn most_records() -> usize
     ensures { result ≡ base.most_records }
 {
     MOST_RECORDS
 }
 
+// The largest count, bonus and multiplier.
 pub fn most_count() -> u64
     ensures { result ≡ base.most_count }
 {
-    MOST_COUNT
+    9999
 }
 
 pub fn most_bonus() -> u64
     ensures { result ≡ base.most_bonus }
 {
-    MOST_BONUS
+    9999
 }
 
 pub fn most_multiplier() -> u64
     ensures { result ≡ base.most_multiplier }
 {
-    MOST_MULTIPLIER
+    99
 }
 
+// The most characters of an exchange.
 pub fn longest_exchange() -> usize
     ensures { result ≡ base.longest_exchange }
 {
-    LONGEST_EXCHANGE
+    6
 }
 
+// The most digits: of a record's points, of a distance, and of the claims.
 pub fn points_digits() -> usize
     ensures { result ≡ base.points_digits }
 {
-    POINTS_DIGITS
+    6
 }
 
 pub fn distance_digits() -> usize
     ensures { result ≡ base.distance_digits }
 {
-    DISTANCE_DIGITS
+    6
 }
 
 pub fn claimed_points_digits() -> usize
     ensures { result ≡ base.claimed_points_digits }
 {
-    CLAIMED_POINTS_DIGITS
+    9
 }
 
 pub fn claimed_bonus_digits() -> usize
     ensures { result ≡ base.claimed_bonus_digits }
 {
-    CLAIMED_BONUS_DIGITS
+    7
 }
 
 pub fn claimed_total_digits() -> usize
     ensures { result ≡ base.claimed_total_digits }
 {
-    CLAIMED_TOTAL_DIGITS
+    15
 }

@@ -30,7 +30,7 @@ use Rattle.judge.specs.Sums.{no_sums, sums_of}
 use Rattle.session.specs.declared.Session.{Session}
 use Rattle.session.specs.declared.Replied.{Replied}
 use Rattle.session.specs.Entry.{said_of, bytes_of, with_bytes, FitsBytes, keeps_rules}
-use Rattle.session.specs.Session.{present, totals_now, refused_by, accepted, fresh_session, started, is_taken, with_line, not_taken_by, taken, verdicts_taken, kept_taken, last_brought, last_mode, slices_reach, holds_record, less_record, taken_off, given_back}
+use Rattle.session.specs.Session.{present, totals_now, refused_by, accepted, fresh_session, started, is_taken, with_taken, not_taken_by, taken, verdicts_taken, kept_taken, last_brought, last_mode, slices_reach, holds_record, less_record, taken_off, given_back}
 use Rattle.session.specs.Keeping.{Holding, room_of, Calling, starting, taking, giving_back, call_of, replied_to, verdicts_after, kept_after, holding_after, holding_after_all, refusals_of, Agrees, numbers_for, ToldFor, KeptAsJudged, RefusedLeaves, RefusedByNumber, StartingForgets, KeptModesAddUp, TheSessionKeeps}
 use Rattle.session.proofs.FilledLaws.{base_fits_bytes}
 use Rattle.session.proofs.ComeLaws.{came_to}
@@ -54,7 +54,7 @@ module _ (R : Rules) where
     unfolding taken
     taken_not e = rw e
 
-    pub taken_so : is_taken R s l told kept ≡ true → taken R s l told kept ≡ accepted (with_line R s l told kept)
+    pub taken_so : is_taken R s l told kept ≡ true → taken R s l told kept ≡ accepted (with_taken R s l kept)
     unfolding taken
     taken_so e = rw e
 
@@ -310,7 +310,7 @@ module _ (R : Rules) where
       s = h.numbers
 
       by : (b : Bool) → is_taken R s l h.verdicts h.kept ≡ b → ToldFor (taking l) (taken R s l h.verdicts h.kept).refusal
-      by true e = rw (taken_so R s l h.verdicts h.kept e) (told_none (taking l) (with_line R s l h.verdicts h.kept))
+      by true e = rw (taken_so R s l h.verdicts h.kept e) (told_none (taking l) (with_taken R s l h.kept))
       by false e = rw (taken_not R s l h.verdicts h.kept e) (told_record l s (record_rule R l) (rule_field R l))
   refused_by_number_lem h giving_back = by (slices_reach R s (length h.verdicts) (length h.kept)) refl
     where

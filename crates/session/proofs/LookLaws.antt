@@ -10,10 +10,10 @@ use lib.Dec.{eqb, ltb}
 use lib.ListN.{length, take, drop, get_or}
 use lib.Seq.{get_or-take, get_or-drop}
 use borrow.Author.Tests.{eqb-false, eq-eqb, ne_eqb, lt-ltb, le-ltb}
-use Rattle.rules.specs.Text.{Text}
+use Rattle.rules.specs.Text.{Text, same}
 use Rattle.rules.proofs.Tests.{fails}
 use Rattle.rules.proofs.TextLaws.{same_eq}
-use Rattle.session.specs.Entry.{first_from, stands_at, four_at}
+use Rattle.session.specs.Entry.{first_from, stands_at, held_in, four_at}
 
 -- Some number from one on, of so many, passes a test.
 unfoldable pub any_from : (ℕ → Bool) → ℕ → ℕ → Bool
@@ -174,3 +174,45 @@ module _ (kept : List ℕ) (width at from n four : ℕ) {k : ℕ} (few : k < n) 
   pub past_found : {r : ℕ} → Past kept width at from n four k → r ≡ four_at kept (k * width + at) → r ≡ four → k ≡ first_from (like kept width at four) (n - from) from
   past_found {r} past e same =
       sym (past ∙ first_found (like kept width at four) n k few (ap (λ (x : ℕ). eqb x four) (sym e) ∙ eq-eqb r four same))
+
+-- # The search for a part
+
+-- None of the records in front of this one has the part, so the search goes on with it.
+module _ (kept : List ℕ) (part : Text) (width n at : ℕ) where
+  abbrev pub Onward : ℕ → Type 0
+  Onward k = first_from (stands_at kept width at part) n 0 ≡ first_from (stands_at kept width at part) (n - k) k
+
+  pub onward_first : Onward 0
+  onward_first = let all : n ≡ n - 0 = omega arith in ap (λ (m : ℕ). first_from (stands_at kept width at part) m 0) all
+
+  -- What the code compares.
+  pub part_compared : (k : ℕ) → same (take (k * width + at + length part - (k * width + at)) (drop (k * width + at) kept)) part ≡ stands_at kept width at part k
+  part_compared k =
+      let here : k * width + at + length part - (k * width + at) ≡ length part = omega arith in
+      ap (λ (m : ℕ). same (take m (drop (k * width + at) kept)) part) here
+
+  pub held_told : (found : ℕ) → found ≡ first_from (stands_at kept width at part) n 0 → ltb found n ≡ held_in kept width n at part
+  unfolding held_in
+  held_told found e = ap (λ (x : ℕ). ltb x n) e
+
+  -- The next record that has four bytes of it lies no further back, and not behind the records, and the search goes on with it.
+  module _ (mark : ℕ) {four k r : ℕ} (four_is : four ≡ four_at part mark) (few : k ≤ n) (found : r ≡ first_from (like kept width (at + mark) four) (n - k) k) where
+    pub next_forward : k ≤ r
+    next_forward = omega (arith, found, first_from_lem (like kept width (at + mark) four) (n - k) k)
+
+    pub next_within : r ≤ n
+    next_within = omega (arith, found, first_within (like kept width (at + mark) four) n k few)
+
+    pub next_onward : mark + 3 < length part → Onward k → Onward r
+    next_onward high onward =
+        let stands = stands_at kept width at part in
+        let here : four_at part (at + mark - at) ≡ four =
+        let z : at + mark - at ≡ mark = omega arith in
+        ap (λ (m : ℕ). four_at part m) z ∙ sym four_is in
+        let differs : (i : ℕ) → like kept width (at + mark) four i ≡ false → stands i ≡ false =
+        λ i d.
+        four_differs kept width at (at + mark) part i (omega arith) (omega arith)
+        (ap (λ (x : ℕ). eqb (four_at kept (i * width + (at + mark))) x) here ∙ d) in
+        onward
+        ∙ first_skips stands (like kept width (at + mark) four) differs n k few
+        ∙ ap (λ (x : ℕ). first_from stands (n - x) x) (sym found)

@@ -9,8 +9,10 @@ use lib.Dec.{leb}
 use lib.ListN.{length, drop, get_or, set}
 use lib.Seq.{get_or-drop}
 use borrow.Author.Tests.{le-leb, lt-leb, ltb-true, lt-ltb, le-ltb}
+use Rattle.std.specs.Prelude.{Result, Ok, Err}
 use Rattle.rules.specs.declared.Class.{Class}
 use Rattle.rules.specs.declared.Class.TheVariants.{Credited, Void, Duplicate, Error}
+use Rattle.rules.specs.declared.Fault.{Fault}
 use Rattle.rules.specs.declared.Verdict.{Verdict}
 use Rattle.rules.specs.Text.{Text}
 use Rattle.rules.specs.Rules.{Rules}
@@ -18,7 +20,6 @@ use Rattle.rules.specs.Log.{conjunction}
 use Rattle.rules.specs.declared.Modes.{Modes}
 use Rattle.rules.specs.Judging.{class_number, is, mode_numbers}
 use Rattle.rules.specs.Reading.{RecordRule, keeps, breaks, record_rule}
-use Rattle.rules.specs.Answers.{no_refusal}
 use Rattle.rules.specs.Session.{declared_rule}
 use Rattle.rules.proofs.Tests.{fails, and_l, and_r}
 use Rattle.rules.proofs.ValidLogs.{test_at, at_most}
@@ -28,9 +29,10 @@ use Rattle.judge.specs.Count.{worth_if, mode_place, modes_in, no_tally, as_decla
 use Rattle.judge.specs.Sums.{sound_sums, verdict_in}
 use Rattle.judge.proofs.SumLaws.{last_test, untrue, sound_facts}
 use Rattle.session.specs.declared.Session.{Session}
-use Rattle.session.specs.declared.LineKept.{LineKept}
-use Rattle.session.specs.Entry.{points_in, keeps_rules, place_tests, has_place_for, is_kept, told_line, refused_line, not_taken, line_kept, verdicts_kept, bytes_kept}
-use Rattle.session.specs.Session.{reachable, present, refused_by, accepted, fresh_session, started, kept_bytes, is_ready, is_taken, with_record, with_line, not_taken_by, taken, next_place, verdicts_taken, kept_taken, brought_by, holds_tests, holds_tally, less_tally, last_worth, last_verdict, last_brought, last_mode, mode_count, reach_tests, slices_reach, holds_record, less_record, taken_off, given_back}
+use Rattle.session.specs.declared.KeptLine.{KeptLine}
+use Rattle.session.specs.declared.Replied.{Replied}
+use Rattle.session.specs.Entry.{points_in, keeps_rules, place_tests, has_place_for, is_kept, told_line, not_taken, line_kept, verdicts_kept, bytes_kept}
+use Rattle.session.specs.Session.{reachable, present, refused_by, accepted, fresh_session, started, kept_bytes, is_ready, is_taken, with_record, with_taken, not_taken_by, taken, next_place, verdicts_taken, kept_taken, brought_by, holds_tests, holds_tally, less_tally, last_worth, last_verdict, last_brought, last_mode, mode_count, reach_tests, slices_reach, holds_record, less_record, taken_off, given_back}
 
 -- # The numbers
 
@@ -82,7 +84,7 @@ module _ (R : Rules) (s : Session) where
 -- # Taking a line
 
 module _ (R : Rules) (s : Session) (l : Text) (verdicts kept : List ℕ) where
-  abbrev line : LineKept
+  abbrev line : Result KeptLine Fault
   line = line_kept R l (next_place R s (length verdicts)) kept_bytes verdicts kept
 
   -- Behind all that the slice holds there is no place.
@@ -120,74 +122,61 @@ module _ (R : Rules) (s : Session) (l : Text) (verdicts kept : List ℕ) where
   kept_is_taken =
       at_place (λ (n : ℕ). is_kept R l n kept_bytes verdicts kept) (λ (b : Bool). b && is_kept R l (present s) kept_bytes verdicts kept) refl none_behind
 
-  -- What is refused is told by the rule of the record.
-  refusal_told : (r : RecordRule) → refused_by s (not_taken r).refusal.number (not_taken r).refusal.field ≡ not_taken_by s r
-  unfolding not_taken not_taken_by refused_line
-  refusal_told (breaks field) = refl
-  refusal_told keeps = refl
+  -- What the session answers to what is told of the line.
+  answered : Result KeptLine Fault → Replied
+  answered (Ok k) = accepted (with_record R s k.worth k.mode k.number)
+  answered (Err e) = refused_by s e.number e.field
 
-  number_told : (r : RecordRule) → (not_taken r).refusal.number ≡ 0 → ⊥
-  unfolding not_taken refused_line
-  number_told (breaks field) e = absurd (omega arith)
-  number_told keeps e = absurd (omega arith)
-
-  line_told : is_taken R s l verdicts kept ≡ true → line ≡ told_line R l (next_place R s (length verdicts)) kept_bytes kept
+  line_told : is_taken R s l verdicts kept ≡ true → line ≡ Ok (told_line R l (next_place R s (length verdicts)) kept_bytes kept)
   unfolding line_kept
   line_told e = rw (kept_is_taken ∙ e)
 
-  line_not : is_taken R s l verdicts kept ≡ false → line ≡ not_taken (record_rule R l)
+  line_not : is_taken R s l verdicts kept ≡ false → line ≡ Err (not_taken (record_rule R l))
   unfolding line_kept
   line_not e = rw (kept_is_taken ∙ e)
 
-  told_zero : (told_line R l (next_place R s (length verdicts)) kept_bytes kept).refusal.number ≡ 0
-  unfolding told_line no_refusal
-  told_zero = refl
+  -- What is refused is told by the rule of the record.
+  refusal_told : (r : RecordRule) → answered (Err (not_taken r)) ≡ not_taken_by s r
+  unfolding answered not_taken not_taken_by
+  refusal_told (breaks field) = refl
+  refusal_told keeps = refl
 
   not_taken_lem : is_taken R s l verdicts kept ≡ false → not_taken_by s (record_rule R l) ≡ taken R s l verdicts kept
   unfolding taken
   not_taken_lem e = rw e
 
-  is_taken_lem : is_taken R s l verdicts kept ≡ true → accepted (with_line R s l verdicts kept) ≡ taken R s l verdicts kept
-  unfolding taken
-  is_taken_lem e = rw e
-
   ready : is_taken R s l verdicts kept ≡ true → is_ready R s ≡ true
   unfolding is_taken
   ready e = and_l (is_ready R s) (is_kept R l (present s) kept_bytes verdicts kept) e
 
-  with_line_lem : is_taken R s l verdicts kept ≡ true → with_record R s line.worth line.mode line.number ≡ with_line R s l verdicts kept
-  unfolding with_line
-  with_line_lem e =
-      ap (λ (n : ℕ). let k = line_kept R l n kept_bytes verdicts kept in with_record R s k.worth k.mode k.number) (ready_place R s (length verdicts) (ready e))
+  with_taken_lem : is_taken R s l verdicts kept ≡ true → answered (Ok (told_line R l (next_place R s (length verdicts)) kept_bytes kept)) ≡ accepted (with_taken R s l kept)
+  unfolding answered with_taken
+  with_taken_lem e =
+      ap (λ (n : ℕ). let k = told_line R l n kept_bytes kept in accepted (with_record R s k.worth k.mode k.number)) (ready_place R s (length verdicts) (ready e))
 
-  take_refused : (line.refusal.number ≡ 0 → ⊥) → refused_by s line.refusal.number line.refusal.field ≡ taken R s l verdicts kept
-  take_refused f = by (is_taken R s l verdicts kept) refl
-    where
-      by : (b : Bool) → is_taken R s l verdicts kept ≡ b → refused_by s line.refusal.number line.refusal.field ≡ taken R s l verdicts kept
-      by true e = absurd (f (ap (λ (k : LineKept). k.refusal.number) (line_told e) ∙ told_zero))
-      by false e = ap (λ (k : LineKept). refused_by s k.refusal.number k.refusal.field) (line_not e) ∙ refusal_told (record_rule R l) ∙ not_taken_lem e
+  is_taken_lem : is_taken R s l verdicts kept ≡ true → accepted (with_taken R s l kept) ≡ taken R s l verdicts kept
+  unfolding taken
+  is_taken_lem e = rw e
 
-  take_accepted : line.refusal.number ≡ 0 → refused_by (with_record R s line.worth line.mode line.number) 0 0 ≡ taken R s l verdicts kept
-  take_accepted z = by (is_taken R s l verdicts kept) refl
+  line_answered : answered line ≡ taken R s l verdicts kept
+  line_answered = by (is_taken R s l verdicts kept) refl
     where
-      by : (b : Bool) → is_taken R s l verdicts kept ≡ b → refused_by (with_record R s line.worth line.mode line.number) 0 0 ≡ taken R s l verdicts kept
-      by true e = ap (λ (x : Session). refused_by x 0 0) (with_line_lem e) ∙ is_taken_lem e
-      by false e = absurd (number_told (record_rule R l) (ap (λ (k : LineKept). k.refusal.number) (sym (line_not e)) ∙ z))
+      by : (b : Bool) → is_taken R s l verdicts kept ≡ b → answered line ≡ taken R s l verdicts kept
+      by true e = ap answered (line_told e) ∙ with_taken_lem e ∙ is_taken_lem e
+      by false e = ap answered (line_not e) ∙ refusal_told (record_rule R l) ∙ not_taken_lem e
 
   -- The same of what was told of the line, at a place.
-  module _ {n : ℕ} {k : LineKept} (place : n ≡ next_place R s (length verdicts)) (told : k ≡ line_kept R l n kept_bytes verdicts kept) where
-    told_line_lem : k ≡ line
-    told_line_lem = told ∙ ap (λ (m : ℕ). line_kept R l m kept_bytes verdicts kept) place
+  module _ {n : ℕ} (place : n ≡ next_place R s (length verdicts)) where
+    told_answered : {told : Result KeptLine Fault} → told ≡ line_kept R l n kept_bytes verdicts kept → answered told ≡ taken R s l verdicts kept
+    told_answered e = ap answered (e ∙ ap (λ (m : ℕ). line_kept R l m kept_bytes verdicts kept) place) ∙ line_answered
 
-    pub refused_told : (k.refusal.number ≡ 0 → ⊥) → refused_by s k.refusal.number k.refusal.field ≡ taken R s l verdicts kept
-    refused_told f =
-        ap (λ (x : LineKept). refused_by s x.refusal.number x.refusal.field) told_line_lem
-        ∙ take_refused (λ z. f (ap (λ (x : LineKept). x.refusal.number) told_line_lem ∙ z))
+    pub refused_told : {told : Result KeptLine Fault} {e : Fault} → told ≡ line_kept R l n kept_bytes verdicts kept → told ≡ Err e → refused_by s e.number e.field ≡ taken R s l verdicts kept
+    unfolding answered
+    refused_told told same = told_answered (sym same ∙ told)
 
-    pub accepted_told : k.refusal.number ≡ 0 → refused_by (with_record R s k.worth k.mode k.number) 0 0 ≡ taken R s l verdicts kept
-    accepted_told z =
-        ap (λ (x : LineKept). refused_by (with_record R s x.worth x.mode x.number) 0 0) told_line_lem
-        ∙ take_accepted (ap (λ (x : LineKept). x.refusal.number) (sym told_line_lem) ∙ z)
+    pub accepted_told : {told : Result KeptLine Fault} {k : KeptLine} → told ≡ line_kept R l n kept_bytes verdicts kept → told ≡ Ok k → accepted (with_record R s k.worth k.mode k.number) ≡ taken R s l verdicts kept
+    unfolding answered
+    accepted_told told same = told_answered (sym same ∙ told)
 
     pub verdicts_told : {out : List ℕ} → out ≡ verdicts_kept R l n kept_bytes verdicts kept → out ≡ verdicts_taken R s l verdicts kept
     verdicts_told e = e ∙ ap (λ (m : ℕ). verdicts_kept R l m kept_bytes verdicts kept) place ∙ verdicts_taken_lem

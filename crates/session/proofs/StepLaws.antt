@@ -3,81 +3,36 @@
 use Prim.Native.Nat.{ℕ, suc, ◌+◌, ◌-◌, ◌*◌, ◌/◌, ◌%◌, ◌≤◌, ◌<◌, min}
 use native.Mathlib.Omega.{arith}
 use native.Mathlib.Nat.{mul-le-mul_right, add-mul, div-mul-le_self, zero-add}
-use mathlib.Core.Path.{◌≡◌, refl, sym, ap, ◌∙◌}
+use mathlib.Core.Path.{◌≡◌, refl, sym, ap, ap₂, ◌∙◌}
 use mathlib.Core.Bool.{Bool, true, false, cond, not, ◌&&◌, and-true}
 use mathlib.Core.List.{List, [], ◌∷◌, ◌++◌, append_assoc}
 use lib.Dec.{eqb, leb, ltb}
 use lib.ListN.{length, take, drop, get_or, set, replicate, length-take, length-drop, length-append, length-replicate, replicate-append-replicate}
-use lib.Seq.{get_or-take, get_or-drop, take_all, take_at, take-take, drop_at, drop-drop}
-use borrow.Author.Tests.{leb-true, leb-false, ltb-true, le-leb, lt-leb, le-ltb, lt-ltb, eq-eqb, ne_eqb, not-true, not-false}
+use lib.Seq.{take_all, take_at, take-take, drop_at, drop-drop}
+use borrow.Author.Tests.{leb-true, leb-false, ltb-true, ltb-false, le-leb, lt-leb, le-ltb, lt-ltb, eq-eqb, ne_eqb, not-true}
+use Rattle.std.specs.Prelude.{Result, Ok, Err}
 use Rattle.rules.specs.declared.Class.{Class}
 use Rattle.rules.specs.declared.Class.TheVariants.{Credited, Void, Duplicate, Error}
+use Rattle.rules.specs.declared.Fault.{Fault}
 use Rattle.rules.specs.declared.Verdict.{Verdict}
-use Rattle.rules.specs.Text.{Text, allowed, semicolon, all, same, empty, value}
+use Rattle.rules.specs.Text.{Text, allowed, semicolon, all, empty, value}
 use Rattle.rules.specs.Rules.{Rules, base}
 use Rattle.rules.specs.Fields.{Qso, is_error, field_rules, fields_of}
 use Rattle.rules.specs.Log.{conjunction}
 use Rattle.rules.specs.Judging.{class_number, is, claims_points, claims_duplicate, may_repeat, square, exchange_of, claims_country, verdict_number}
-use Rattle.rules.specs.Reading.{RecordRule, keeps, breaks, record_rule}
-use Rattle.rules.specs.Answers.{no_refusal}
+use Rattle.rules.specs.Reading.{fault, RecordRule, keeps, breaks, record_rule}
 use Rattle.rules.proofs.Tests.{and_l, and_r, clash}
 use Rattle.rules.proofs.FieldLaws.{field_character, Fits, fields_fit}
 use Rattle.reader.specs.declared.Contact.{Contact}
 use Rattle.reader.specs.Contact.{between, Describes}
-use Rattle.reader.specs.Record.{Alone}
+use Rattle.reader.specs.Record.{Alone, record_on}
+use Rattle.reader.proofs.LineHeld.{stops_number, stops_rule}
 use Rattle.judge.specs.Said.{class_by, verdict_by}
-use Rattle.session.specs.declared.LineKept.{LineKept}
+use Rattle.session.specs.declared.KeptLine.{KeptLine}
 use Rattle.writer.specs.Written.{written, has_room}
-use Rattle.session.specs.Entry.{four_at, filled, worked_part, points_part, entry_of, kept_of, mode_byte, first_from, stands_at, held_in, class_kept, new_in, verdict_kept, record_of, keeps_rules, has_place_for, is_kept, said_of, told_line, refused_line, not_taken, line_kept, verdicts_kept, with_bytes, bytes_kept, Stepping}
-use Rattle.session.proofs.LookLaws.{four_differs, first_skips, like}
+use Rattle.session.specs.Entry.{filled, worked_part, points_part, entry_of, kept_of, mode_byte, held_in, class_kept, new_in, verdict_kept, record_of, keeps_rules, has_place_for, is_kept, said_of, told_line, not_taken, line_kept, verdicts_kept, with_bytes, bytes_kept, Stepping}
 use Rattle.session.proofs.FilledLaws.{length_filled, base_fits_bytes}
 use Rattle.session.proofs.EntryLaws.{home_part, home_there_lem, home_lies, square_part, square_lies, exchange_part, exchange_lies, length_entry}
-
--- # The look-back
-
-module _ (kept entry : List ℕ) (width n at size : ℕ) (room : at + size ≤ length entry) where
-  -- What is looked for.
-  abbrev sought : Text
-  sought = take size (drop at entry)
-
-  sought_long : length sought ≡ size
-  sought_long = omega (arith, length-take size (drop at entry), length-drop at entry)
-
-  -- The search goes on from the next record that has four bytes of it.
-  pub held_onward : (mark k r : ℕ) → at ≤ mark → mark + 3 < at + size → k ≤ n → r ≡ first_from (like kept width mark (four_at entry mark)) (n - k) k → first_from (stands_at kept width at sought) (n - k) k ≡ first_from (stands_at kept width at sought) (n - r) r
-  unfolding four_at
-  held_onward mark k r low high few found =
-      let stands = stands_at kept width at sought in
-      let byte : (j : ℕ) → j ≤ 3 → get_or sought (mark - at + j) 0 ≡ get_or entry (mark + j) 0 =
-      λ j l.
-      let there : at + (mark - at + j) ≡ mark + j = omega arith in
-      get_or-take size (drop at entry) (mark - at + j) 0 (omega arith)
-      ∙ get_or-drop at entry (mark - at + j) 0
-      ∙ ap (λ (x : ℕ). get_or entry x 0) there in
-      let there : at + (mark - at) ≡ mark = omega arith in
-      let zeroth : get_or sought (mark - at) 0 ≡ get_or entry mark 0 =
-      get_or-take size (drop at entry) (mark - at) 0 (omega arith)
-      ∙ get_or-drop at entry (mark - at) 0
-      ∙ ap (λ (x : ℕ). get_or entry x 0) there in
-      let four : four_at sought (mark - at) ≡ four_at entry mark =
-      λ x. zeroth x + byte 1 (omega arith) x * 256 + byte 2 (omega arith) x * 65536 + byte 3 (omega arith) x * 16777216 in
-      let differs : (i : ℕ) → like kept width mark (four_at entry mark) i ≡ false → stands i ≡ false =
-      λ i d.
-      four_differs kept width at mark sought i low (omega (arith, sought_long))
-      (ap (λ (x : ℕ). eqb (four_at kept (i * width + mark)) x) four ∙ d) in
-      first_skips stands (like kept width mark (four_at entry mark)) differs n k few
-      ∙ ap (λ (x : ℕ). first_from stands (n - x) x) (sym found)
-
-  -- What the code compares.
-  pub part_compared : (k : ℕ) → same (take (k * width + at + size - (k * width + at)) (drop (k * width + at) kept)) (take (at + size - at) (drop at entry)) ≡ stands_at kept width at sought k
-  part_compared k =
-      let here : k * width + at + size - (k * width + at) ≡ length sought = omega (arith, sought_long) in
-      let long : at + size - at ≡ size = omega arith in
-      λ i. same (take (here i) (drop (k * width + at) kept)) (take (long i) (drop at entry))
-
-  pub held_told : (found : ℕ) → found ≡ first_from (stands_at kept width at sought) n 0 → ltb found n ≡ held_in kept width n at sought
-  unfolding held_in
-  held_told found e = ap (λ (x : ℕ). ltb x n) e
 
 -- # A place for one record more
 
@@ -199,22 +154,27 @@ module _ (l : Text) (c : Contact) (entry kept : List ℕ) (width n : ℕ) (s : S
     no_error : is_error q ≡ false
     no_error = sym described.error_is ∙ plain
 
-    pub class_points : {r : Class} {held : Bool} → 0 < c.worth → held ≡ held_in kept width n 0 (take 14 (drop 0 entry)) → r ≡ class_by false held true → r ≡ class_kept base kept width n q
-    unfolding class_kept may_repeat
-    class_points {held = held} w found h =
-        h ∙ rw (no_error, points_claimed w) (ap (λ (b : Bool). class_by false b true) (found ∙ call_sought))
+    -- The call is looked for where there are points, or a claimed D.
+    pub asked_points : 0 < c.worth → ltb 0 c.worth ≡ may_repeat q
+    unfolding may_repeat
+    asked_points w = rw (points_claimed w) (lt-ltb 0 c.worth w)
 
-    pub class_void : {r : Class} {d : Bool} → c.worth ≤ 0 → d ≡ eqb (get_or l (length l - 1) 0) 68 → not d ≡ true → r ≡ class_by false false false → r ≡ class_kept base kept width n q
-    unfolding class_kept may_repeat
-    class_void {d = d} w e f h =
-        let marked : claims_duplicate q ≡ false = sym (e ∙ duplicate_claimed) ∙ not-true d f in
-        h ∙ rw (no_error, points_none w, marked)
+    pub asked_marked : {d : Bool} → c.worth ≤ 0 → d ≡ eqb (get_or l (length l - 1) 0) 68 → d ≡ may_repeat q
+    unfolding may_repeat
+    asked_marked w e = rw (points_none w) (e ∙ duplicate_claimed)
 
-    pub class_marked : {r : Class} {d held : Bool} → c.worth ≤ 0 → d ≡ eqb (get_or l (length l - 1) 0) 68 → not d ≡ false → held ≡ held_in kept width n 0 (take 14 (drop 0 entry)) → r ≡ class_by false held false → r ≡ class_kept base kept width n q
-    unfolding class_kept may_repeat
-    class_marked {d = d} {held = held} w e f found h =
-        let marked : claims_duplicate q ≡ true = sym (e ∙ duplicate_claimed) ∙ not-false d f in
-        h ∙ rw (no_error, points_none w, marked) (ap (λ (b : Bool). class_by false b false) (found ∙ call_sought))
+    points_told : ltb 0 c.worth ≡ claims_points q
+    points_told = by (ltb 0 c.worth) refl
+      where
+        by : (b : Bool) → ltb 0 c.worth ≡ b → b ≡ claims_points q
+        by true e = sym (points_claimed (ltb-true 0 c.worth e))
+        by false e = sym (points_none (ltb-false 0 c.worth e))
+
+    pub class_told : {r : Class} {repeats : Bool} → repeats ≡ (may_repeat q && held_in kept width n 0 (take 14 (drop 0 entry))) → r ≡ class_by false repeats (ltb 0 c.worth) → r ≡ class_kept base kept width n q
+    unfolding class_kept
+    class_told e h =
+        h
+        ∙ rw no_error (ap₂ (λ (b d : Bool). class_by false b d) (e ∙ ap (λ (b : Bool). may_repeat q && b) call_sought) points_told)
 
   -- # The verdict
 
@@ -267,7 +227,7 @@ module _ (l : Text) (c : Contact) (entry kept : List ℕ) (width n : ℕ) (s : S
 
 module _ (R : Rules) (l : Text) (n width : ℕ) (verdicts kept : List ℕ) where
   -- This is told, and the slices are then these, as the definition says.
-  abbrev Keeps : LineKept → List ℕ → List ℕ → Type 0
+  abbrev Keeps : Result KeptLine Fault → List ℕ → List ℕ → Type 0
   Keeps r vs ks =
       (r ≡ line_kept R l n width verdicts kept)
       × ((vs ≡ verdicts_kept R l n width verdicts kept) × (ks ≡ bytes_kept R l n width verdicts kept))
@@ -279,26 +239,29 @@ module _ (R : Rules) (l : Text) (n width : ℕ) (verdicts kept : List ℕ) where
   unfolding is_kept
   kept_by e = ap (λ (r : RecordRule). keeps_rules r && placed) e
 
-  not_kept : {rule : RecordRule} {r : LineKept} → record_rule R l ≡ rule → (keeps_rules rule && placed) ≡ false → r ≡ not_taken rule → Keeps r verdicts kept
+  not_kept : {rule : RecordRule} {r : Result KeptLine Fault} → record_rule R l ≡ rule → (keeps_rules rule && placed) ≡ false → r ≡ Err (not_taken rule) → Keeps r verdicts kept
   unfolding line_kept verdicts_kept bytes_kept
   not_kept {rule} e f h =
       let none : is_kept R l n width verdicts kept ≡ false = kept_by e ∙ f in
       (h ∙ rw (none, e), (rw none, rw none))
 
   -- A line that is no record; a record for which there is no place; and one for which there is.
-  pub keeps_broken : {field : ℕ} {r : LineKept} → record_rule R l ≡ breaks field → r ≡ refused_line 5 field → Keeps r verdicts kept
+  pub keeps_broken : {field : ℕ} {r : Result KeptLine Fault} → record_rule R l ≡ breaks field → r ≡ Err (fault 5 field) → Keeps r verdicts kept
   unfolding not_taken
   keeps_broken e h = not_kept e refl h
 
-  pub keeps_full : {r : LineKept} → record_rule R l ≡ keeps → placed ≡ false → r ≡ refused_line 11 0 → Keeps r verdicts kept
+  pub keeps_stopped : {e : Fault} {r : Result KeptLine Fault} → record_on R l ≡ Err e → r ≡ Err e → Keeps r verdicts kept
+  keeps_stopped {e} stops h = keeps_broken (stops_rule R l stops) (h ∙ ap (λ (k : ℕ). Err (fault k e.field)) (stops_number R l stops))
+
+  pub keeps_full : {r : Result KeptLine Fault} → record_rule R l ≡ keeps → placed ≡ false → r ≡ Err (fault 11 0) → Keeps r verdicts kept
   unfolding not_taken
   keeps_full e f h = not_kept e f h
 
-  pub keeps_one : {r : LineKept} {vs ks : List ℕ} → record_rule R l ≡ keeps → placed ≡ true → (r ≡ told_line R l n width kept) × ((vs ≡ set verdicts n (verdict_number (said_of R l n width kept))) × (ks ≡ with_bytes R l n width kept)) → Keeps r vs ks
+  pub keeps_one : {r : KeptLine} {vs ks : List ℕ} → record_rule R l ≡ keeps → placed ≡ true → (r ≡ told_line R l n width kept) × ((vs ≡ set verdicts n (verdict_number (said_of R l n width kept))) × (ks ≡ with_bytes R l n width kept)) → Keeps (Ok r) vs ks
   unfolding line_kept verdicts_kept bytes_kept
   keeps_one e t h =
       let one : is_kept R l n width verdicts kept ≡ true = kept_by e ∙ t in
-      (h.0 ∙ rw one, (h.1.0 ∙ rw one, h.1.1 ∙ rw one))
+      (ap (λ (x : KeptLine). Ok x) h.0 ∙ rw one, (h.1.0 ∙ rw one, h.1.1 ∙ rw one))
 
 -- # The bytes of a record
 
@@ -486,8 +449,8 @@ module _ (l : Text) (c : Contact) (on : Alone base l c) (n width : ℕ) (verdict
         }
 
     module _ {v : Verdict} {number : ℕ} {bytes : List ℕ} (said : v ≡ verdict_kept base kept width n (record_of l)) (numbered : number ≡ verdict_number v) (are : bytes ≡ cond (eqb (number % 16) 0) entry (replicate 28 0)) where
-      abbrev told_by_lem : ℕ → LineKept
-      told_by_lem m = record { refusal = record { number = 0; line = 0; field = 0 }; worth = c.worth; mode = m; number = number }
+      abbrev told_by_lem : ℕ → KeptLine
+      told_by_lem m = record { worth = c.worth; mode = m; number = number }
 
       bytes_told : bytes ≡ kept_of base (said_of base l n width kept).class (record_of l)
       unfolding kept_of said_of
@@ -511,8 +474,8 @@ module _ (l : Text) (c : Contact) (on : Alone base l c) (n width : ℕ) (verdict
       number_said = numbered ∙ ap verdict_number said
 
       line_told : {m : ℕ} → m ≡ mode_byte (get_or l (c.callend + 1) 0) → told_by_lem m ≡ told_line base l n width kept
-      unfolding told_line no_refusal
-      line_told e = λ i. record { refusal = no_refusal; worth = (tells l c on).worth_is i; mode = mode_told_lem l c on e i; number = number_said i }
+      unfolding told_line
+      line_told e = λ i. record { worth = (tells l c on).worth_is i; mode = mode_told_lem l c on e i; number = number_said i }
 
       -- What is told, and what is written.
       pub record_kept : {m : ℕ} {x : List ℕ} → m ≡ mode_byte (get_or l (c.callend + 1) 0) → x ≡ laid kept (n * width) (take width bytes) → (told_by_lem m ≡ told_line base l n width kept) × ((set verdicts n number ≡ set verdicts n (verdict_number (said_of base l n width kept))) × (x ≡ with_bytes base l n width kept))

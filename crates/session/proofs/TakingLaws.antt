@@ -23,10 +23,9 @@ use Rattle.places.specs.declared.Declared.{Declared}
 use Rattle.judge.specs.declared.Sums.{Sums}
 use Rattle.judge.specs.Count.{mode_of, add_record, as_declared}
 use Rattle.judge.specs.Sums.{sums_of, verdict_in, more_sums}
-use Rattle.session.specs.declared.LineKept.{LineKept}
 use Rattle.session.specs.declared.Session.{Session}
-use Rattle.session.specs.Entry.{credited_from, FitsBytes, record_of, keeps_rules, is_kept, said_of, told_line, line_kept, verdicts_kept, with_bytes, bytes_kept}
-use Rattle.session.specs.Session.{present, is_ready, is_taken, with_record, with_line, verdicts_taken, kept_taken}
+use Rattle.session.specs.Entry.{credited_from, FitsBytes, record_of, keeps_rules, is_kept, said_of, told_line, verdicts_kept, with_bytes, bytes_kept}
+use Rattle.session.specs.Session.{present, is_ready, is_taken, with_record, with_taken, verdicts_taken, kept_taken}
 use Rattle.session.proofs.ComeLaws.{came_to, worth_within}
 use Rattle.session.proofs.BackLaws.{said_back, mode_told_lem, more_came}
 use Rattle.session.proofs.LineLaws.{Stores, line_said, line_verdicts, line_bytes_lem, line_keeps_length}
@@ -49,13 +48,9 @@ module _ (R : Rules) (s : Session) (l : Text) (told kept : List ℕ) where
   kept_by = one_test (is_ready R s) (is_kept R l (present s) 28 told kept) (with_bytes R l (present s) 28 kept) kept
 
   -- And then what is told of it is counted.
-  line_with : is_taken R s l told kept ≡ true → with_line R s l told kept ≡ with_record R s (value (record_of l).points) (get_or (record_of l).mode 0 0) (verdict_number (said_of R l (present s) 28 kept))
-  unfolding with_line line_kept told_line is_taken
-  line_with e =
-      let k = line_kept R l (present s) 28 told kept in
-      let t = told_line R l (present s) 28 kept in
-      let same : k ≡ t = rw (and_r (is_ready R s) (is_kept R l (present s) 28 told kept) e) in
-      ap (λ (k : LineKept). with_record R s k.worth k.mode k.number) same
+  line_with : with_taken R s l kept ≡ with_record R s (value (record_of l).points) (get_or (record_of l).mode 0 0) (verdict_number (said_of R l (present s) 28 kept))
+  unfolding with_taken told_line
+  line_with = refl
 
 -- # Of one that holds what judging gives
 
@@ -104,7 +99,7 @@ module _ {R : Rules} (B : FitsBytes R) {room : ℕ} (d : Declared) (qs : List Qs
   below_room = ltb-true n room (and_r (ltb n R.most_records) (ltb n room) place)
 
   -- The numbers.
-  pub numbers_more : with_line R s l told kept ≡ numbers_of R d with
+  pub numbers_more : with_taken R s l kept ≡ numbers_of R d with
   unfolding with_record record_of
   numbers_more =
       let worth = value q.points in
@@ -115,7 +110,7 @@ module _ {R : Rules} (B : FitsBytes R) {room : ℕ} (d : Declared) (qs : List Qs
       ∙ (λ i. sums_of (add_record (came_to R qs) worth (mode_told_lem q i) (verdict_in (verdict_number (said i)))))
       ∙ ap (λ (w : Verdict). sums_of (add_record (came_to R qs) worth (mode_of q) w)) (said_back R (credited_from R [] qs) q)
       ∙ ap sums_of (sym (came_more R qs q)) in
-      line_with R s l told kept is_taken_lem ∙ ap {B = Session} (λ (c : Sums). record { declared = d; sums = c }) counts
+      line_with R s l told kept ∙ ap {B = Session} (λ (c : Sums). record { declared = d; sums = c }) counts
 
   -- The slices.
   pub told_more_lem : verdicts_taken R s l told kept ≡ told_more

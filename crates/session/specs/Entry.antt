@@ -1,22 +1,22 @@
 -- What is kept of a record in lent bytes, and the look-back over them.
 -- Assumes nothing.
-use Rattle.std.specs.Prelude.{ℕ, zero, suc, ◌+◌, ◌-◌, ◌*◌, ◌/◌, ◌%◌, ◌≤◌, ◌<◌, Bool, true, false, cond, not, ◌&&◌, List, [], ◌∷◌, ◌++◌, ◌≡◌, eqb, leb, ltb, length, take, drop, get_or, set, replicate}
+use Rattle.std.specs.Prelude.{ℕ, zero, suc, ◌+◌, ◌-◌, ◌*◌, ◌/◌, ◌%◌, ◌≤◌, ◌<◌, Bool, true, false, cond, not, ◌&&◌, List, [], ◌∷◌, ◌++◌, ◌≡◌, eqb, leb, ltb, length, take, drop, get_or, set, replicate, Result, Ok, Err}
 use Rattle.rules.specs.declared.Class.{Class}
 use Rattle.rules.specs.declared.Class.TheVariants.{Credited}
+use Rattle.rules.specs.declared.Fault.{Fault}
 use Rattle.rules.specs.declared.Verdict.{Verdict}
 use Rattle.rules.specs.Text.{Text, semicolon, all, same, empty, parts, value}
 use Rattle.rules.specs.Rules.{Rules}
 use Rattle.rules.specs.Fields.{Qso, call, is_error, qso_of}
 use Rattle.rules.specs.Log.{conjunction}
 use Rattle.rules.specs.Judging.{is, claims_points, may_repeat, square, exchange_of, claims_country, verdict_of, credited_after, verdict_number}
-use Rattle.rules.specs.Reading.{refusal, RecordRule, keeps, breaks, record_rule}
-use Rattle.rules.specs.Answers.{no_refusal}
+use Rattle.rules.specs.Reading.{fault, RecordRule, keeps, breaks, record_rule}
 use Rattle.reader.specs.declared.Contact.{Contact}
 use Rattle.reader.specs.Record.{Alone}
 use Rattle.judge.specs.Bounds.{most_worth}
 use Rattle.judge.specs.Said.{class_by, verdict_by}
 use Rattle.writer.specs.Written.{written}
-use Rattle.session.specs.declared.LineKept.{LineKept}
+use Rattle.session.specs.declared.KeptLine.{KeptLine}
 
 -- # The bytes
 
@@ -139,29 +139,24 @@ unfolding verdict_kept record_of
 said_of R l n width kept = verdict_kept R kept width n (record_of l)
 
 -- What is told of it: its worth, its mode and the number of its verdict.
-unfoldable pub told_line : Rules → Text → ℕ → ℕ → List ℕ → LineKept
-unfolding no_refusal value record_of said_of verdict_number
+unfoldable pub told_line : Rules → Text → ℕ → ℕ → List ℕ → KeptLine
+unfolding value record_of said_of verdict_number
 told_line R l n width kept =
     record {
-      refusal = no_refusal;
       worth = value (record_of l).points;
       mode = get_or (record_of l).mode 0 0;
       number = verdict_number (said_of R l n width kept);
     }
 
 -- Or why it is refused: "5 bad record; then 11 session full".
-unfoldable pub refused_line : ℕ → ℕ → LineKept
-refused_line number field = record { refusal = refusal number 0 field; worth = 0; mode = 0; number = 0 }
+unfoldable pub not_taken : RecordRule → Fault
+not_taken (breaks field) = fault 5 field
+not_taken keeps = fault 11 0
 
-unfoldable pub not_taken : RecordRule → LineKept
-unfolding refused_line
-not_taken (breaks field) = refused_line 5 field
-not_taken keeps = refused_line 11 0
-
-unfoldable pub line_kept : Rules → Text → ℕ → ℕ → List ℕ → List ℕ → LineKept
+unfoldable pub line_kept : Rules → Text → ℕ → ℕ → List ℕ → List ℕ → Result KeptLine Fault
 unfolding is_kept told_line not_taken record_rule
 line_kept R l n width verdicts kept =
-    cond (is_kept R l n width verdicts kept) (told_line R l n width kept) (not_taken (record_rule R l))
+    cond (is_kept R l n width verdicts kept) (Ok (told_line R l n width kept)) (Err (not_taken (record_rule R l)))
 
 -- One verdict and one record's bytes are written, and no other byte is changed.
 unfoldable pub verdicts_kept : Rules → Text → ℕ → ℕ → List ℕ → List ℕ → List ℕ

@@ -16,7 +16,7 @@ use Rattle.judge.specs.Count.{worth_if, mode_place, modes_in, as_declared}
 use Rattle.judge.specs.Sums.{records_counted, no_sums, sound_sums, verdict_in, more_sums, totals_kept}
 use Rattle.session.specs.declared.Session.{Session}
 use Rattle.session.specs.declared.Replied.{Replied}
-use Rattle.session.specs.Entry.{points_in, is_kept, line_kept, verdicts_kept, bytes_kept}
+use Rattle.session.specs.Entry.{points_in, is_kept, told_line, verdicts_kept, bytes_kept}
 
 -- # The numbers
 
@@ -74,10 +74,10 @@ with_record R s worth mode number =
     record { declared = s.declared; sums = more_sums R s.sums worth mode number }
 
 -- The session with the record on the line, after those that are kept.
-unfoldable pub with_line : Rules → Session → Text → List ℕ → List ℕ → Session
-unfolding with_record line_kept
-with_line R s l verdicts kept =
-    let k = line_kept R l (present s) kept_bytes verdicts kept in
+unfoldable pub with_taken : Rules → Session → Text → List ℕ → Session
+unfolding with_record told_line
+with_taken R s l kept =
+    let k = told_line R l (present s) kept_bytes kept in
     with_record R s k.worth k.mode k.number
 
 -- "5 bad record; then 11 session full"
@@ -87,9 +87,9 @@ not_taken_by s (breaks field) = refused_by s 5 field
 not_taken_by s keeps = refused_by s 11 0
 
 unfoldable pub taken : Rules → Session → Text → List ℕ → List ℕ → Replied
-unfolding is_taken with_line not_taken_by record_rule refused_by
+unfolding is_taken with_taken not_taken_by record_rule refused_by
 taken R s l verdicts kept =
-    cond (is_taken R s l verdicts kept) (accepted (with_line R s l verdicts kept)) (not_taken_by s (record_rule R l))
+    cond (is_taken R s l verdicts kept) (accepted (with_taken R s l kept)) (not_taken_by s (record_rule R l))
 
 -- Where the next record is kept; where the session has no place for one, behind all that the slice holds.
 unfoldable pub next_place : Rules → Session → ℕ → ℕ

@@ -7,15 +7,14 @@ ghost use Rattle.std.specs.Prelude.{◌+◌, ◌-◌, ◌*◌, ◌/◌, ◌<◌,
 ghost use Rattle.rules.specs.Judging.{verdict_number};
 ghost use Rattle.rules.specs.Rules.{base};
 ghost use Rattle.reader.specs.Record.{Alone};
-ghost use Rattle.judge.specs.Count.{worth_if};
 ghost use Rattle.judge.specs.Sums.{records_counted};
-ghost use Rattle.session.specs.Entry.{Stepping, bytes_kept, class_kept, entry_of, first_from, four_at, has_place_for, held_in, line_kept, mode_byte, points_in, record_of, refused_line, said_of, told_line, verdict_kept, verdicts_kept, with_bytes};
+ghost use Rattle.session.specs.Entry.{Stepping, bytes_kept, class_kept, entry_of, first_from, four_at, has_place_for, held_in, line_kept, mode_byte, points_in, record_of, said_of, told_line, verdict_kept, verdicts_kept, with_bytes};
 ghost use Rattle.session.specs.Session.{brought_by, given_back, holds_tally, kept_taken, less_tally, next_place, reachable, refused_by, slices_reach, started, taken, taken_off, totals_now, verdicts_taken, with_record};
 
 use judge::{Sums, Tally};
 use places::Declared;
-use reader::{Contact, RecordRead};
-use rules::{Class, Refusal, Totals, Verdict};
+use reader::Contact;
+use rules::{Class, Fault, Refusal, Totals, Verdict};
 
 // # What is kept of a record
 
@@ -41,20 +40,14 @@ fn square_length(locator: usize, end: usize) -> usize
     requires { locator ≤ end }
     ensures { result ≡ min 4 (end - locator) }
 {
-    if end - locator < 4 {
-        return end - locator;
-    }
-    4
+    (end - locator).min(4)
 }
 
 // The byte that stands for a mode, by the character at which its field begins: its digit, or zero for the semicolon behind a blank one.
 fn mode_byte(first: u8) -> u8
     ensures { result ≡ mode_byte first }
 {
-    if first == 59 {
-        return 0;
-    }
-    first
+    if first == b';' { 0 } else { first }
 }
 
 // The bytes that are kept of a credited record.
@@ -63,19 +56,14 @@ fn entry_of(line: &[u8], c: Contact) -> [u8; KEPT_BYTES]
     ensures { result ≡ entry_of base (record_of line.now) }
 {
     let mut entry = [0u8; KEPT_BYTES];
-    let call = c.call;
-    let callend = c.callend;
-    let locator = c.locator;
-    let square = locator + square_length(locator, c.locatorend);
-    let exchange = c.exchange;
-    let exchangeend = c.exchangeend;
-    writer::put_text(&mut entry, CALL, &line[call..callend]);
-    writer::put_text(&mut entry, SQUARE, &line[locator..square]);
-    writer::put_text(&mut entry, EXCHANGE, &line[exchange..exchangeend]);
+    let square = c.locator + square_length(c.locator, c.locatorend);
+    writer::put_text(&mut entry, CALL, &line[c.call..c.callend]);
+    writer::put_text(&mut entry, SQUARE, &line[c.locator..square]);
+    writer::put_text(&mut entry, EXCHANGE, &line[c.exchange..c.exchangeend]);
     entry[POINTS] = (c.worth % 256) as u8;
     entry[POINTS + 1] = (c.worth / 256 % 256) as u8;
     entry[POINTS + 2] = (c.worth / 65536 % 256) as u8;
-    entry[MODE] = mode_byte(line[callend + 1]);
+    entry[MODE] = mode_byte(line[c.callend + 1]);
     entry
 }
 
@@ -83,10 +71,7 @@ fn entry_of(line: &[u8], c: Contact) -> [u8; KEPT_BYTES]
 fn kept_of(credited: bool, entry: [u8; KEPT_BYTES]) -> [u8; KEPT_BYTES]
     ensures { result ≡ cond credited entry (replicate 28 0) }
 {
-    if credited {
-        return entry;
-    }
-    [0u8; KEPT_BYTES]
+    if credited { entry } else { [0u8; KEPT_BYTES] }
 }
 
 // # The look-back
@@ -114,132 +99,114 @@ fn four_of(kept: &[u8], width: usize, at: usize, k: usize) -> u32
     four_at(kept, k * width + at)
 }
 
-// The first of the n records, from one on, whose four bytes at this place are those; n where there is none. Each record has so many bytes. They are
-// looked at one by one.
-fn next_like_tail(kept: &[u8], width: usize, at: usize, from: usize, n: usize, four: u32) -> usize
-    requires { (n * width ≤ length kept.now) × (at + 3 < width) × (from ≤ n) }
-    ensures { result ≡ first_from (λ i. eqb (four_at kept.now (i * width + at)) four) (n - from) from }
-{
-    let mut k = from;
-    while k < n {
-        if four_of(kept, width, at, k) == four {
-            return k;
-        }
-        k += 1;
-    }
-    k
+// What is kept of the records so far: of each of the n so many bytes, one behind the other.
+#[derive(Clone, Copy)]
+struct Kept<'a> {
+    bytes: &'a [u8],
+    width: usize,
+    n: usize,
+    ghost there: { n * width ≤ length bytes.now },
 }
 
-// The same, eight by eight, as long as there are so many: a turn costs the less.
-fn next_like(kept: &[u8], width: usize, at: usize, from: usize, n: usize, four: u32) -> usize
-    requires { (n * width ≤ length kept.now) × (at + 3 < width) × (from ≤ n) }
-    ensures { result ≡ first_from (λ i. eqb (four_at kept.now (i * width + at)) four) (n - from) from }
-{
-    let mut k = from;
-    while k + 7 < n {
-        if four_of(kept, width, at, k) == four {
-            return k;
+impl Kept<'_> {
+    // The first record, from one on, whose four bytes at this place are those; n where there is none. They are looked at one by one.
+    fn next_like_tail(self, at: usize, from: usize, four: u32) -> usize
+        requires { (at + 3 < self.width) × (from ≤ self.n) }
+        ensures { result ≡ first_from (λ i. eqb (four_at self.entry.bytes.now (i * self.entry.width + at)) four) (self.entry.n - from) from }
+    {
+        for k in from..self.n {
+            if four_of(self.bytes, self.width, at, k) == four {
+                return k;
+            }
         }
-        if four_of(kept, width, at, k + 1) == four {
-            return k + 1;
-        }
-        if four_of(kept, width, at, k + 2) == four {
-            return k + 2;
-        }
-        if four_of(kept, width, at, k + 3) == four {
-            return k + 3;
-        }
-        if four_of(kept, width, at, k + 4) == four {
-            return k + 4;
-        }
-        if four_of(kept, width, at, k + 5) == four {
-            return k + 5;
-        }
-        if four_of(kept, width, at, k + 6) == four {
-            return k + 6;
-        }
-        if four_of(kept, width, at, k + 7) == four {
-            return k + 7;
-        }
-        k += 8;
+        self.n
     }
-    next_like_tail(kept, width, at, k, n, four)
-}
 
-// The same, by a search of its own for each of the two widths, so that the compiler knows there how far it is from one record to the next.
-fn next_at(kept: &[u8], width: usize, at: usize, from: usize, n: usize, four: u32) -> usize
-    requires { (n * width ≤ length kept.now) × (at + 3 < width) × (from ≤ n) }
-    ensures { result ≡ first_from (λ i. eqb (four_at kept.now (i * width + at)) four) (n - from) from }
-{
-    if width == KEPT_BYTES {
-        return next_like(kept, KEPT_BYTES, at, from, n, four);
+    // The same, eight by eight, as long as there are so many: a turn costs the less.
+    fn next_like<const WIDTH: usize>(self, at: usize, from: usize, four: u32) -> usize
+        requires { (self.width ≡ WIDTH) × (at + 3 < WIDTH) × (from ≤ self.n) }
+        ensures { result ≡ first_from (λ i. eqb (four_at self.entry.bytes.now (i * WIDTH + at)) four) (self.entry.n - from) from }
+    {
+        let bytes = self.bytes;
+        let n = self.n;
+        let mut k = from;
+        while k + 7 < n {
+            if four_of(bytes, WIDTH, at, k) == four {
+                return k;
+            }
+            if four_of(bytes, WIDTH, at, k + 1) == four {
+                return k + 1;
+            }
+            if four_of(bytes, WIDTH, at, k + 2) == four {
+                return k + 2;
+            }
+            if four_of(bytes, WIDTH, at, k + 3) == four {
+                return k + 3;
+            }
+            if four_of(bytes, WIDTH, at, k + 4) == four {
+                return k + 4;
+            }
+            if four_of(bytes, WIDTH, at, k + 5) == four {
+                return k + 5;
+            }
+            if four_of(bytes, WIDTH, at, k + 6) == four {
+                return k + 6;
+            }
+            if four_of(bytes, WIDTH, at, k + 7) == four {
+                return k + 7;
+            }
+            k += 8;
+        }
+        self.next_like_tail(at, k, four)
     }
-    if width == WORKED_BYTES {
-        return next_like(kept, WORKED_BYTES, at, from, n, four);
+
+    // The same, by a search of its own for each of the two widths, so that the compiler knows there how far it is from one record to the next.
+    fn next_at(self, at: usize, from: usize, four: u32) -> usize
+        requires { (at + 3 < self.width) × (from ≤ self.n) }
+        ensures { result ≡ first_from (λ i. eqb (four_at self.entry.bytes.now (i * self.entry.width + at)) four) (self.entry.n - from) from }
+    {
+        match self.width {
+            KEPT_BYTES => self.next_like::<KEPT_BYTES>(at, from, four),
+            WORKED_BYTES => self.next_like::<WORKED_BYTES>(at, from, four),
+            _ => self.next_like_tail(at, from, four),
+        }
     }
-    next_like_tail(kept, width, at, from, n, four)
+
+    // One of the records has this part at this place. Four bytes of it, where most others differ, are looked for first.
+    fn is_held(self, at: usize, part: &[u8], mark: usize) -> bool
+        requires { (at + length part.now ≤ self.width) × (mark + 3 < length part.now) }
+        ensures { result ≡ held_in self.entry.bytes.now self.entry.width self.entry.n at part.now }
+    {
+        let four = four_at(part, mark);
+        let mut k = 0;
+        let found = 'look: loop {
+            k = self.next_at(at + mark, k, four);
+            if self.n <= k {
+                break 'look self.n;
+            }
+            let a = k * self.width + at;
+            if header::same_text(&self.bytes[a..a + part.len()], part) {
+                break 'look k;
+            }
+            k += 1;
+        };
+        found < self.n
+    }
+
+    // The part is there, and none of the records has it at this place. Its text is so long.
+    fn is_new(self, at: usize, part: &[u8], long: usize) -> bool
+        requires { (at + length part.now ≤ self.width) × (long ≤ length part.now) × (4 ≤ length part.now) }
+        ensures { result ≡ not (eqb long 0) && not (held_in self.entry.bytes.now self.entry.width self.entry.n at part.now) }
+    {
+        long != 0 && !self.is_held(at, part, last_four(long))
+    }
 }
 
 // Where the last four of so many bytes begin; of fewer, all of them.
 fn last_four(long: usize) -> usize
     ensures { result ≡ long - 4 }
 {
-    if long < 4 {
-        return 0;
-    }
-    long - 4
-}
-
-// One of the n records has the part of the entry at this place, of so many bytes. Four bytes of it, at a place where most others differ, are looked for first.
-fn is_held(
-    kept: &[u8],
-    width: usize,
-    n: usize,
-    entry: &[u8; KEPT_BYTES],
-    at: usize,
-    size: usize,
-    mark: usize,
-) -> bool
-    requires width_in_bounds { (n * width ≤ length kept.now) × (at + size ≤ width) × (at + size ≤ 28) × (at ≤ mark) × (mark + 3 < at + size) }
-    requires len { length entry.now ≡ 28 }
-    ensures { result ≡ held_in kept.now width n at (take size (drop at entry.now)) }
-{
-    let whole = &entry[..];
-    let part = &whole[at..at + size];
-    let four = four_at(whole, mark);
-    let mut k = 0;
-    let found = 'look: loop {
-        k = next_at(kept, width, mark, k, n, four);
-        if n <= k {
-            break 'look n;
-        }
-        let a = k * width + at;
-        if header::same_text(&kept[a..a + size], part) {
-            break 'look k;
-        }
-        k += 1;
-    };
-    found < n
-}
-
-// The part of the entry at this place, of so many bytes, is there, and none of the n records has it. Its text is so long.
-fn is_new(
-    kept: &[u8],
-    width: usize,
-    n: usize,
-    entry: &[u8; KEPT_BYTES],
-    at: usize,
-    size: usize,
-    long: usize,
-) -> bool
-    requires width_in_bounds { (n * width ≤ length kept.now) × (at + size ≤ width) × (at + size ≤ 28) × (long ≤ size) × (4 ≤ size) }
-    requires len { length entry.now ≡ 28 }
-    ensures { result ≡ not (eqb long 0) && not (held_in kept.now width n at (take size (drop at entry.now))) }
-{
-    if long == 0 {
-        return false;
-    }
-    !is_held(kept, width, n, entry, at, size, at + last_four(long))
+    long.saturating_sub(4)
 }
 
 // # The judging step
@@ -254,110 +221,54 @@ fn claims_duplicate(line: &[u8]) -> bool
 }
 
 // The class of a record, by what is kept of those before it. A duplicate needs points or a claimed D: with neither the call is not looked for.
-fn class_of(
-    line: &[u8],
-    c: Contact,
-    entry: &[u8; KEPT_BYTES],
-    kept: &[u8],
-    width: usize,
-    n: usize,
-) -> Class
-    requires { Stepping base line.now c entry.now kept.now width n }
-    ensures { result ≡ class_kept base kept.now width n (record_of line.now) }
+fn class_of(line: &[u8], c: Contact, entry: &[u8; KEPT_BYTES], kept: Kept<'_>) -> Class
+    requires { Stepping base line.now c entry.now kept.bytes.now kept.width kept.n }
+    ensures { result ≡ class_kept base kept.entry.bytes.now kept.entry.width kept.entry.n (record_of line.now) }
 {
     if c.error {
         return judge::class_by(true, false, false);
     }
+    let has_points = 0 < c.worth;
     let last = last_four(c.callend - c.call);
-    if 0 < c.worth {
-        return judge::class_by(false, is_held(kept, width, n, entry, CALL, 14, last), true);
-    }
-    if !claims_duplicate(line) {
-        return judge::class_by(false, false, false);
-    }
-    judge::class_by(false, is_held(kept, width, n, entry, CALL, 14, last), false)
+    let repeats = (has_points || claims_duplicate(line))
+        && kept.is_held(CALL, &entry[CALL..SQUARE], last);
+    judge::class_by(false, repeats, has_points)
 }
 
 // What is said of a record by what is kept of those before it. Only a credited one is asked for what is new with it.
-fn verdict_of(
-    line: &[u8],
-    c: Contact,
-    entry: &[u8; KEPT_BYTES],
-    kept: &[u8],
-    width: usize,
-    n: usize,
-) -> Verdict
-    requires { Stepping base line.now c entry.now kept.now width n }
-    ensures { result ≡ verdict_kept base kept.now width n (record_of line.now) }
+fn verdict_of(line: &[u8], c: Contact, entry: &[u8; KEPT_BYTES], kept: Kept<'_>) -> Verdict
+    requires { Stepping base line.now c entry.now kept.bytes.now kept.width kept.n }
+    ensures { result ≡ verdict_kept base kept.entry.bytes.now kept.entry.width kept.entry.n (record_of line.now) }
 {
-    let class = class_of(line, c, entry, kept, width, n);
-    match class {
+    match class_of(line, c, entry, kept) {
         Class::Credited => {
-            let exchange = is_new(
-                kept,
-                width,
-                n,
-                entry,
+            let exchange = kept.is_new(
                 EXCHANGE,
-                6,
+                &entry[EXCHANGE..POINTS],
                 c.exchangeend - c.exchange,
             );
-            let square = is_new(
-                kept,
-                width,
-                n,
-                entry,
-                SQUARE,
-                4,
-                square_length(c.locator, c.locatorend),
-            );
+            let long = square_length(c.locator, c.locatorend);
+            let square = kept.is_new(SQUARE, &entry[SQUARE..EXCHANGE], long);
             judge::verdict_by(Class::Credited, exchange, square, c.country)
         }
-        Class::Void => judge::verdict_by(Class::Void, false, false, false),
-        Class::Duplicate => judge::verdict_by(Class::Duplicate, false, false, false),
-        Class::Error => judge::verdict_by(Class::Error, false, false, false),
+        other => judge::verdict_by(other, false, false, false),
     }
 }
 
-// What is told of a line that was taken, what it is worth, the byte of its mode and the number of its verdict; or why it was not.
+// What is told of a line that was taken: what it is worth, the byte of its mode and the number of its verdict.
 #[derive(Clone, Copy)]
-pub struct LineKept {
-    pub refusal: Refusal,
+pub struct KeptLine {
     pub worth: u64,
     pub mode: u8,
     pub number: u8,
 }
 
-// A line is not taken.
-fn line_refused(number: u32, field: u32) -> LineKept
-    ensures { result ≡ refused_line number field }
-{
-    LineKept {
-        refusal: Refusal {
-            number,
-            line: 0,
-            field,
-        },
-        worth: 0,
-        mode: 0,
-        number: 0,
-    }
-}
-
 // There is a place behind the n records in both slices.
+#[tactic(auto, unfolding(crate::specs::Entry::has_place_for, rules::specs::Log::conjunction))]
 fn has_place(n: usize, width: usize, verdicts: usize, kept: usize) -> bool
     ensures { result ≡ has_place_for n width verdicts kept }
 {
-    if width < WORKED_BYTES {
-        return false;
-    }
-    if KEPT_BYTES < width {
-        return false;
-    }
-    if verdicts <= n {
-        return false;
-    }
-    n < kept / width
+    WORKED_BYTES <= width && width <= KEPT_BYTES && n < verdicts && n < kept / width
 }
 
 // A record for which there is a place is judged by what is kept of the n before it, and its verdict and its bytes are written behind theirs.
@@ -368,24 +279,24 @@ fn keep_record(
     width: usize,
     verdicts: &mut [u8],
     kept: &mut [u8],
-) -> LineKept
+) -> KeptLine
     requires { Alone base line.now c × (has_place_for n width (length verdicts.old) (length kept.old) ≡ true) }
     ensures answer { result ≡ told_line base line.now n width kept.old }
     ensures verdicts { verdicts.new ≡ set verdicts.old n (verdict_number (said_of base line.now n width kept.old)) }
     ensures kept { kept.new ≡ with_bytes base line.now n width kept.old }
 {
     let entry = entry_of(line, c);
-    let v = verdict_of(line, c, &entry, kept, width, n);
+    let before = Kept {
+        bytes: &kept[..],
+        width,
+        n,
+    };
+    let v = verdict_of(line, c, &entry, before);
     let number = judge::verdict_number(v);
     verdicts[n] = number;
     let bytes = kept_of(number % 16 == 0, entry);
     writer::put_text(kept, n * width, &bytes[..width]);
-    LineKept {
-        refusal: Refusal {
-            number: 0,
-            line: 0,
-            field: 0,
-        },
+    KeptLine {
         worth: c.worth,
         mode: mode_byte(line[c.callend + 1]),
         number,
@@ -393,27 +304,26 @@ fn keep_record(
 }
 
 // A record line is judged by what is kept of the n records before it, where each has so many bytes: its verdict is written behind theirs, and what is
-// kept of it. On a refusal no byte of the slices is changed.
+// kept of it. Or it is told why it is not taken: 5 and the field where it is no record, 11 where there is no place. Then no byte of the slices is changed.
 pub fn keep_line(
     line: &[u8],
     n: usize,
     width: usize,
     verdicts: &mut [u8],
     kept: &mut [u8],
-) -> LineKept
+) -> Result<KeptLine, Fault>
     ensures answer { result ≡ line_kept base line.now n width verdicts.old kept.old }
     ensures verdicts { verdicts.new ≡ verdicts_kept base line.now n width verdicts.old kept.old }
     ensures kept { kept.new ≡ bytes_kept base line.now n width verdicts.old kept.old }
 {
-    match reader::record(line) {
-        RecordRead::Stops { number: _, field } => line_refused(5, field),
-        RecordRead::Kept(c) => {
-            if !has_place(n, width, verdicts.len(), kept.len()) {
-                return line_refused(11, 0);
-            }
-            keep_record(line, c, n, width, verdicts, kept)
-        }
+    let c = reader::record(line)?;
+    if !has_place(n, width, verdicts.len(), kept.len()) {
+        return Err(Fault {
+            number: 11,
+            field: 0,
+        });
     }
+    Ok(keep_record(line, c, n, width, verdicts, kept))
 }
 
 // # The session
@@ -434,16 +344,13 @@ pub struct Replied {
 }
 
 // The session stays as it is.
+#[tactic(auto, unfolding(crate::specs::Session::refused_by))]
 fn refused(s: Session, number: u32, field: u32) -> Replied
     ensures { result ≡ refused_by s number field }
 {
     Replied {
         session: s,
-        refusal: Refusal {
-            number,
-            line: 0,
-            field,
-        },
+        refusal: Fault { number, field }.at(0),
     }
 }
 
@@ -454,13 +361,11 @@ fn accepted(s: Session) -> Replied
 }
 
 // A run of calls can come to these numbers.
+#[tactic(auto, unfolding(crate::specs::Session::reachable))]
 fn is_reachable(s: Session) -> bool
     ensures { result ≡ reachable base s }
 {
-    if !judge::are_sums(s.sums) {
-        return false;
-    }
-    judge::is_declared(s.declared)
+    judge::are_sums(s.sums) && judge::is_declared(s.declared)
 }
 
 // How many records are present.
@@ -500,12 +405,14 @@ fn next_place(s: Session, verdicts: usize) -> usize
 }
 
 // The session with one record more.
-fn with_record(s: Session, worth: u64, mode: u8, number: u8) -> Session
-    ensures { result ≡ with_record base s worth mode number }
+#[tactic(auto, unfolding(crate::specs::Session::with_record))]
+fn with_record(s: Session, k: KeptLine) -> Session
+    ensures { result ≡ with_record base s k.worth k.mode k.number }
 {
-    let declared = s.declared;
-    let sums = judge::one_more(s.sums, worth, mode, number);
-    Session { declared, sums }
+    Session {
+        sums: judge::one_more(s.sums, k.worth, k.mode, k.number),
+        ..s
+    }
 }
 
 // A record line is taken.
@@ -513,77 +420,54 @@ pub fn taken(s: Session, line: &[u8], verdicts: &mut [u8], kept: &mut [u8]) -> R
     ensures { (result ≡ taken base s line.now verdicts.old kept.old) × (verdicts.new ≡ verdicts_taken base s line.now verdicts.old kept.old) × (kept.new ≡ kept_taken base s line.now verdicts.old kept.old) }
 {
     let n = next_place(s, verdicts.len());
-    let k = keep_line(line, n, KEPT_BYTES, verdicts, kept);
-    let refusal = k.refusal;
-    if refusal.number != 0 {
-        return refused(s, refusal.number, refusal.field);
+    match keep_line(line, n, KEPT_BYTES, verdicts, kept) {
+        Ok(k) => accepted(with_record(s, k)),
+        Err(fault) => refused(s, fault.number, fault.field),
     }
-    accepted(with_record(s, k.worth, k.mode, k.number))
 }
 
 // What a record brought to the sums.
+#[tactic(auto, unfolding(crate::specs::Session::brought_by, judge::specs::Count::no_tally, judge::specs::Count::worth_if, rules::specs::Judging::is))]
 fn brought_by(worth: u64, v: Verdict) -> Tally
     ensures { result ≡ brought_by worth v }
 {
-    let mut b = judge::no_tally();
-    b.squares = one_if(v.square);
-    b.exchanges = one_if(v.exchange);
-    b.countries = one_if(v.country);
-    let class = v.class;
-    match class {
-        Class::Credited => {
-            b.credited = 1;
-            b.points = worth;
-        }
-        Class::Void => {
-            b.voids = 1;
-        }
-        Class::Duplicate => {
-            b.duplicates = 1;
-        }
-        Class::Error => {
-            b.errors = 1;
-        }
+    let marked = Tally {
+        squares: u64::from(v.square),
+        exchanges: u64::from(v.exchange),
+        countries: u64::from(v.country),
+        ..judge::no_tally()
+    };
+    match v.class {
+        Class::Credited => Tally {
+            credited: 1,
+            points: worth,
+            ..marked
+        },
+        Class::Void => Tally { voids: 1, ..marked },
+        Class::Duplicate => Tally {
+            duplicates: 1,
+            ..marked
+        },
+        Class::Error => Tally {
+            errors: 1,
+            ..marked
+        },
     }
-    b
-}
-
-// What a test adds to a count, where it holds.
-fn one_if(yes: bool) -> u64
-    ensures { result ≡ worth_if yes 1 }
-{
-    if yes {
-        return 1;
-    }
-    0
 }
 
 // The sums hold as much as that.
+#[tactic(auto, unfolding(crate::specs::Session::holds_tally, rules::specs::Log::conjunction))]
 fn holds(b: Tally, t: Tally) -> bool
     ensures { result ≡ holds_tally b t }
 {
-    if t.credited < b.credited {
-        return false;
-    }
-    if t.voids < b.voids {
-        return false;
-    }
-    if t.duplicates < b.duplicates {
-        return false;
-    }
-    if t.errors < b.errors {
-        return false;
-    }
-    if t.points < b.points {
-        return false;
-    }
-    if t.squares < b.squares {
-        return false;
-    }
-    if t.exchanges < b.exchanges {
-        return false;
-    }
-    b.countries <= t.countries
+    b.credited <= t.credited
+        && b.voids <= t.voids
+        && b.duplicates <= t.duplicates
+        && b.errors <= t.errors
+        && b.points <= t.points
+        && b.squares <= t.squares
+        && b.exchanges <= t.exchanges
+        && b.countries <= t.countries
 }
 
 // What is left of the sums without it.
@@ -623,21 +507,15 @@ fn worth_kept(kept: &[u8], at: usize) -> u64
 }
 
 // The slices reach to the last of the records that are present.
+#[tactic(auto, using(crate::proofs::SessionLaws::few_present), unfolding(crate::specs::Session::slices_reach, rules::specs::Log::conjunction))]
 fn reach(s: Session, verdicts: usize, kept: usize) -> bool
     ensures { result ≡ slices_reach base s verdicts kept }
 {
     if !is_reachable(s) {
         return false;
     }
-    let sums = s.sums;
-    let n = present(sums.tally);
-    if n == 0 {
-        return false;
-    }
-    if verdicts < n {
-        return false;
-    }
-    n <= kept / KEPT_BYTES
+    let n = present(s.sums.tally);
+    0 < n && n <= verdicts && n <= kept / KEPT_BYTES
 }
 
 // What giving back does to the sums, where they hold what the record brought; its mode is one of the eleven.
@@ -645,23 +523,19 @@ fn take_off(s: Session, brought: Tally, mode: usize) -> Replied
     requires { mode < 11 }
     ensures { result ≡ taken_off s brought mode }
 {
-    let sums = s.sums;
-    if !holds(brought, sums.tally) {
+    if !holds(brought, s.sums.tally) {
         return refused(s, 12, 0);
     }
-    let mut list = judge::mode_numbers(sums.modes);
+    let mut list = judge::mode_numbers(s.sums.modes);
     if list[mode] < brought.credited {
         return refused(s, 12, 0);
     }
-    list[mode] = list[mode] - brought.credited;
-    let declared = s.declared;
-    let tally = less(brought, sums.tally);
-    let modes = judge::modes_in(&list);
-    let left = Sums { tally, modes };
-    accepted(Session {
-        declared,
-        sums: left,
-    })
+    list[mode] -= brought.credited;
+    let left = Sums {
+        tally: less(brought, s.sums.tally),
+        modes: judge::modes_in(&list),
+    };
+    accepted(Session { sums: left, ..s })
 }
 
 // The last record is given back.
@@ -683,11 +557,4 @@ pub fn totals(s: Session) -> Totals
     ensures { result ≡ totals_now base s }
 {
     judge::totals_kept(s.sums, s.declared)
-}
-
-// The session after a call.
-pub fn session_of(r: Replied) -> Session
-    ensures { result ≡ r.session }
-{
-    r.session
 }

@@ -2,9 +2,9 @@
 -- Assumes nothing.
 use Prim.Native.Nat.{ℕ, ◌+◌, ◌≤◌, ◌<◌}
 use native.Mathlib.Nat.{zero-add, add-zero}
-use mathlib.Core.Bool.{Bool, true, cond}
+use mathlib.Core.Bool.{Bool, true, false, cond}
 use mathlib.Core.List.{List, ◌++◌}
-use mathlib.Core.Path.{◌≡◌, sym, ap, ◌∙◌}
+use mathlib.Core.Path.{◌≡◌, refl, sym, ap, ◌∙◌}
 use lib.Dec.{eqb}
 use lib.ListN.{length, drop, get_or, set, get_or-eq_default}
 use lib.Seq.{drop_at, get_or-drop}
@@ -47,6 +47,14 @@ module _ (struck : Places) (told among₀ : List ℕ) (i : ℕ) where
   turn {among} {left} {b} {gone} {next} h p q g t e =
       row_next f among₀ i h p
       (e ∙ (λ j. cond (g j) (get_or (p j) i 0) (t j)) ∙ (λ j. cond (struck i) (stays f among₀ i j) (get_or told (q j) 0)))
+
+  -- The verdict of a struck record stays as it was.
+  pub turn_struck : {among : List ℕ} {left : ℕ} → i < length among₀ → among ≡ written among₀ 0 (row f i) → left ≡ place_after struck i → struck i ≡ true → set among i (get_or among i 0) ≡ written among₀ 0 (row f (i + 1))
+  turn_struck h p q g = turn h p q (sym g) refl refl
+
+  -- At the place of one that is left stands what is told of it.
+  pub turn_left : {among : List ℕ} {left b : ℕ} → i < length among₀ → among ≡ written among₀ 0 (row f i) → left ≡ place_after struck i → struck i ≡ false → b ≡ get_or told left 0 → set among i b ≡ written among₀ 0 (row f (i + 1))
+  turn_left h p q g t = turn h p q (sym g) t refl
 
 pub all_spread : (struck : Places) (told among₀ : List ℕ) {among : List ℕ} → among ≡ row (spread_at struck told among₀) (length among₀) → among ≡ spread_over struck told among₀
 unfolding spread_over

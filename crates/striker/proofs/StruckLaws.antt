@@ -15,8 +15,9 @@ use Rattle.reader.specs.Contact.{contacts_at}
 use Rattle.reader.specs.Noted.{contacts_read, listed}
 use Rattle.reader.specs.Read.{read_told, read_of}
 use Rattle.reader.specs.declared.Contact.{Contact}
-use Rattle.reader.specs.declared.Heading.{Heading}
-use Rattle.reader.specs.declared.ReadAnswer.{ReadAnswer}
+use Rattle.std.specs.Prelude.{Result, Ok, Err}
+use Rattle.reader.specs.Read.{heading_of}
+use Rattle.reader.specs.declared.Accepted.{Accepted}
 use Rattle.rules.proofs.Format.{accepted_when_written}
 use Rattle.rules.proofs.StrikingGiven.{strike_accepted, strike_refused}
 use Rattle.rules.specs.Answers.{written, unwritten, bytes_of_writing, over}
@@ -32,7 +33,7 @@ use Rattle.writer.proofs.WeighedLaws.{front_listed}
 use Rattle.writer.proofs.WrittenLaws.{front_end, front_laid}
 use Rattle.writer.specs.LogText.{wrote_by}
 use Rattle.writer.specs.Written.{Puts}
-use Rattle.writer.specs.declared.Wrote.TheVariants as Wrote
+use Rattle.std.specs.Prelude.{Ok, Err}
 use Rattle.striker.specs.Given.{LinesLie, Strikable}
 use Rattle.striker.specs.KeptText.{kept_lines, head_text}
 use Rattle.striker.proofs.KeptLaws as Kept
@@ -133,26 +134,26 @@ module _ {R : Rules} {s : Text} {first : ℕ} {ends : List ℕ} (w : Strikable R
 
     -- A refusal is told, and leaves the slice as it was.
     module _ (slice : List ℕ) {r : Refusal} (e : strike_out R (length slice) marks s ≡ unwritten r) where
-      refused_both : (Wrote.Refused r ≡ wrote_by (strike_out R (length slice) marks s)) × (slice ≡ over (bytes_of_writing (strike_out R (length slice) marks s)) slice)
+      refused_both : (Err r ≡ wrote_by (strike_out R (length slice) marks s)) × (slice ≡ over (bytes_of_writing (strike_out R (length slice) marks s)) slice)
       unfolding wrote_by bytes_of_writing over
       refused_both = (rw e, rw e)
 
-    pub few_told : (slice : List ℕ) → length marks < length ends → (Wrote.Refused (refusal 7 0 0) ≡ wrote_by (strike_out R (length slice) marks s)) × (slice ≡ over (bytes_of_writing (strike_out R (length slice) marks s)) slice)
+    pub few_told : (slice : List ℕ) → length marks < length ends → (Err (refusal 7 0 0) ≡ wrote_by (strike_out R (length slice) marks s)) × (slice ≡ over (bytes_of_writing (strike_out R (length slice) marks s)) slice)
     few_told slice h = refused_both slice (seven (length slice) h)
 
-    pub long_told : (slice : List ℕ) → length ends ≤ length marks → length slice < length result → (Wrote.Refused (refusal 8 0 0) ≡ wrote_by (strike_out R (length slice) marks s)) × (slice ≡ over (bytes_of_writing (strike_out R (length slice) marks s)) slice)
+    pub long_told : (slice : List ℕ) → length ends ≤ length marks → length slice < length result → (Err (refusal 8 0 0) ≡ wrote_by (strike_out R (length slice) marks s)) × (slice ≡ over (bytes_of_writing (strike_out R (length slice) marks s)) slice)
     long_told slice h g = refused_both slice (eight (length slice) h g)
 
     -- What was put together is the answer.
-    pub all_told : {slice slice' : List ℕ} {end : ℕ} → length ends ≤ length marks → Puts slice 0 result slice' end → (Wrote.Length end ≡ wrote_by (strike_out R (length slice) marks s)) × (slice' ≡ over (bytes_of_writing (strike_out R (length slice) marks s)) slice)
+    pub all_told : {slice slice' : List ℕ} {end : ℕ} → length ends ≤ length marks → Puts slice 0 result slice' end → (Ok end ≡ wrote_by (strike_out R (length slice) marks s)) × (slice' ≡ over (bytes_of_writing (strike_out R (length slice) marks s)) slice)
     unfolding wrote_by bytes_of_writing
     all_told {slice} h p =
         let e = handed (length slice) h (omega (arith, p.fits)) in
-        (rw e (ap Wrote.Length (front_end p)), rw e (front_laid p))
+        (rw e (ap Ok (front_end p)), rw e (front_laid p))
 
 -- # What reading tells
 
-not_read : {n first : ℕ} {heading : Heading} {r : Refusal} → ReadAnswer.Refused r ≡ ReadAnswer.Accepted n first heading → ⊥
+not_read : {a : Accepted} {r : Refusal} → Err r ≡ Ok a → ⊥
 not_read e = let z : ◌≡◌ {A = ℕ} 0 1 = cc in omega arith
 
 module _ (R : Rules) (s : Text) where
@@ -160,7 +161,7 @@ module _ (R : Rules) (s : Text) where
   unfolding read_of
   read_accepted log e = ap (read_told (length s)) e
 
-  read_refused : (r : Refusal) → read R s ≡ refused r → read_of R s ≡ ReadAnswer.Refused r
+  read_refused : (r : Refusal) → read R s ≡ refused r → read_of R s ≡ Err r
   unfolding read_of read_told
   read_refused r e = rw e
 
@@ -168,7 +169,7 @@ module _ (R : Rules) (s : Text) where
   abbrev pub Noted : Type 0
   Noted = (log : Log) → read R s ≡ accepted log → contacts_read R s ≡ contacts_at R s (records_start s log) (length log.records)
 
-  module _ {n first : ℕ} {heading : Heading} (h : read_of R s ≡ ReadAnswer.Accepted n first heading) (noted : Noted) where
+  module _ {a : Accepted} (h : read_of R s ≡ Ok a) (noted : Noted) where
     log_read : (log : Log) × (read R s ≡ accepted log)
     log_read = by (read R s) refl
       where
@@ -179,13 +180,15 @@ module _ (R : Rules) (s : Text) where
     abbrev read_log : Log
     read_log = log_read.0
 
-    counted_is : n ≡ length read_log.records
+    told_is : a ≡ record { records = length read_log.records; first = records_start s read_log; heading = heading_of read_log }
     unfolding read_told
-    counted_is = let e = sym h ∙ read_accepted read_log log_read.1 in cc
+    told_is = let e = sym h ∙ read_accepted read_log log_read.1 in cc
 
-    first_is : first ≡ records_start s read_log
-    unfolding read_told
-    first_is = let e = sym h ∙ read_accepted read_log log_read.1 in cc
+    counted_is : a.records ≡ length read_log.records
+    counted_is = ap (λ (x : Accepted). x.records) told_is
+
+    first_is : a.first ≡ records_start s read_log
+    first_is = ap (λ (x : Accepted). x.first) told_is
 
     module _ (slice : List ℕ) {ends : List ℕ} (l : length slice ≡ R.most_records) (e : ends ≡ listed (λ (c : Contact). c.end) (contacts_read R s) slice) where
       abbrev cs : List Contact
@@ -194,18 +197,18 @@ module _ (R : Rules) (s : Text) where
       cs_many : length cs ≡ length read_log.records
       cs_many = length_contacts R s (records_start s read_log) (length read_log.records)
 
-      noted_ends : take n ends ≡ ends_of cs
+      noted_ends : take a.records ends ≡ ends_of cs
       noted_ends =
           let room = leb-true (length read_log.records) R.most_records (rightly R s read_log log_read.1).fits in
-          ap (take n) (e ∙ ap (λ (x : List Contact). listed (λ (c : Contact). c.end) x slice) (noted read_log log_read.1))
+          ap (take a.records) (e ∙ ap (λ (x : List Contact). listed (λ (c : Contact). c.end) x slice) (noted read_log log_read.1))
           ∙ ap (λ (k : ℕ). take k (listed (λ (c : Contact). c.end) cs slice)) (counted_is ∙ sym cs_many)
           ∙ front_listed (λ (c : Contact). c.end) cs slice (omega (arith, cs_many, l, room))
 
-      pub many_noted : n ≤ length ends
+      pub many_noted : a.records ≤ length ends
       many_noted =
-          omega (arith, ap length noted_ends, length-take n ends, length-map cs (λ (c : Contact). c.end), cs_many, counted_is)
+          omega (arith, ap length noted_ends, length-take a.records ends, length-map cs (λ (c : Contact). c.end), cs_many, counted_is)
 
-      pub strikable : Strikable R s first (take n ends)
+      pub strikable : Strikable R s a.first (take a.records ends)
       strikable =
           record {
             log = read_log;
@@ -215,15 +218,15 @@ module _ (R : Rules) (s : Text) where
           }
 
   -- The refusal is the reader's.
-  module _ {r : Refusal} (h : read_of R s ≡ ReadAnswer.Refused r) where
+  module _ {r : Refusal} (h : read_of R s ≡ Err r) where
     unread : read R s ≡ refused r
     unread = by (read R s) refl
       where
         by : (x : Reading) → read R s ≡ x → read R s ≡ refused r
         by (accepted log) e = unfold read_told in absurd (not_read {r = r} (sym h ∙ read_accepted log e))
-        by (refused q) e = let k : ReadAnswer.Refused q ≡ ReadAnswer.Refused r = sym (read_refused q e) ∙ h in let i : q ≡ r = cc in e ∙ ap refused i
+        by (refused q) e = let k : ◌≡◌ {A = Result Accepted Refusal} (Err q) (Err r) = sym (read_refused q e) ∙ h in let i : q ≡ r = cc in e ∙ ap refused i
 
-    pub unread_told : (marks slice : List ℕ) → (Wrote.Refused r ≡ wrote_by (strike_out R (length slice) marks s)) × (slice ≡ over (bytes_of_writing (strike_out R (length slice) marks s)) slice)
+    pub unread_told : (marks slice : List ℕ) → (Err r ≡ wrote_by (strike_out R (length slice) marks s)) × (slice ≡ over (bytes_of_writing (strike_out R (length slice) marks s)) slice)
     unfolding wrote_by bytes_of_writing over
     unread_told marks slice =
         let e = strike_refused R (length slice) marks s r unread in

@@ -5,7 +5,6 @@
 
 ghost use Rattle.std.specs.Prelude.{◌+◌, ◌-◌, ◌≤◌, length, get_or, cond, ◌≡◌};
 ghost use Rattle.rules.specs.Answers.{bytes_of_writing, over};
-ghost use Rattle.rules.specs.Reading.{refusal};
 ghost use Rattle.rules.specs.Rules.{base};
 ghost use Rattle.rules.specs.Striking.{marked, place_after, strike_out};
 ghost use Rattle.striker.specs.KeptText.{is_struck, kept_line, kept_lines, head_text};
@@ -13,47 +12,16 @@ ghost use Rattle.striker.specs.Given.{LinesLie, Strikable};
 ghost use Rattle.striker.specs.Spread.{spread_at, spread_over};
 ghost use Rattle.writer.specs.LogText.{wrote_by};
 ghost use Rattle.writer.specs.Written.{Puts};
-ghost use Rattle.writer.specs.declared.Wrote.TheVariants as Wrote;
 
-use reader::ReadAnswer;
 use rules::Refusal;
-use writer::Wrote;
 
 // # Measured
-
-// CR LF stand behind the end of a record.
-fn behind_end(end: u16) -> usize
-    ensures { result ≡ end + 2 }
-{
-    end as usize + 2
-}
 
 // A byte strikes its record, if it is not 0.
 fn is_struck(mark: u8) -> bool
     ensures { result ≡ is_struck mark }
 {
     mark != 0
-}
-
-// One record, if it is kept.
-fn one_kept(struck: bool) -> usize
-    ensures { (result ≡ cond struck 0 1) × (result ≤ 1) }
-{
-    if struck {
-        return 0;
-    }
-    1
-}
-
-// The bytes of its line, from a place to another, if it is kept.
-fn bytes_kept(struck: bool, start: usize, next: usize) -> usize
-    requires { start ≤ next }
-    ensures { (result ≡ cond struck 0 (next - start)) × (result ≤ next - start) }
-{
-    if struck {
-        return 0;
-    }
-    next - start
 }
 
 // What is left of the records: how many there are, and how many bytes their lines take.
@@ -73,14 +41,13 @@ fn measure(log: &[u8], first: usize, ends: &[u16], struck: &[u8]) -> Left
     let mut records = 0;
     let mut bytes = 0;
     let mut start = first;
-    let mut i = 0;
-    while i < ends.len() {
-        let next = behind_end(ends[i]);
-        let gone = is_struck(struck[i]);
-        records += one_kept(gone);
-        bytes += bytes_kept(gone, start, next);
+    for (i, end) in ends.iter().enumerate() {
+        let next = writer::behind_end(*end);
+        if !is_struck(struck[i]) {
+            records += 1;
+            bytes += next - start;
+        }
         start = next;
-        i += 1;
     }
     Left { records, bytes }
 }
@@ -111,17 +78,14 @@ fn put_lines(
     requires struck_in_bounds { at + length (kept_lines log.now first ends.now (marked struck.now)) ≤ length out.old }
     ensures { Puts out.old at (kept_lines log.now first ends.now (marked struck.now)) out.new result }
 {
-    let mut end = at;
+    let mut to = at;
     let mut start = first;
-    let mut i = 0;
-    while i < ends.len() {
-        let next = behind_end(ends[i]);
-        let gone = is_struck(struck[i]);
-        end = put_line(out, end, log, start, next, gone);
+    for (i, end) in ends.iter().enumerate() {
+        let next = writer::behind_end(*end);
+        to = put_line(out, to, log, start, next, is_struck(struck[i]));
         start = next;
-        i += 1;
     }
-    end
+    to
 }
 
 // The log in front of its count line, and this line in its place.
@@ -136,25 +100,21 @@ fn put_head(out: &mut [u8], log: &[u8], front: usize, line: &[u8]) -> usize
 
 // # The log
 
-fn refused(number: u32) -> Wrote
-    ensures { result ≡ Wrote.Refused (refusal number 0 0) }
-{
-    Wrote::Refused(Refusal {
-        number,
-        line: 0,
-        field: 0,
-    })
-}
-
 // An accepted log, whose first record begins at `first` and whose records end where they are listed to. The result is measured before its first byte is
 // written.
-fn strike_read(log: &[u8], struck: &[u8], first: usize, ends: &[u16], out: &mut [u8]) -> Wrote
+fn strike_read(
+    log: &[u8],
+    struck: &[u8],
+    first: usize,
+    ends: &[u16],
+    out: &mut [u8],
+) -> Result<usize, Refusal>
     requires { Strikable base log.now first ends.now }
     ensures answer { result ≡ wrote_by (strike_out base (length out.old) struck.now log.now) }
     ensures slice { out.new ≡ over (bytes_of_writing (strike_out base (length out.old) struck.now log.now)) out.old }
 {
     if struck.len() < ends.len() {
-        return refused(7);
+        return Err(rules::refused(7));
     }
     let left = measure(log, first, ends, struck);
     let mut line = [0u8; writer::COUNT_LINE];
@@ -162,14 +122,14 @@ fn strike_read(log: &[u8], struck: &[u8], first: usize, ends: &[u16], out: &mut 
     let front = first - (was + 2);
     let count = writer::count_line(&mut line, left.records as u64);
     if out.len() < front + (count + 2) + left.bytes {
-        return refused(8);
+        return Err(rules::refused(8));
     }
     let at = put_head(out, log, front, &line[..count]);
-    Wrote::Length(put_lines(out, at, log, first, ends, struck))
+    Ok(put_lines(out, at, log, first, ends, struck))
 }
 
 // A log is read, and written to the front of the slice without the records whose byte in `struck` is not 0. On a refusal no byte of the slice is changed.
-pub fn strike(log: &[u8], struck: &[u8], out: &mut [u8]) -> Wrote
+pub fn strike(log: &[u8], struck: &[u8], out: &mut [u8]) -> Result<usize, Refusal>
     ensures answer { result ≡ wrote_by (strike_out base (length out.old) struck.now log.now) }
     ensures slice { out.new ≡ over (bytes_of_writing (strike_out base (length out.old) struck.now log.now)) out.old }
 {
@@ -178,21 +138,15 @@ pub fn strike(log: &[u8], struck: &[u8], out: &mut [u8]) -> Wrote
     let mut points = [0u16; 0];
     let mut pointsends = [0u16; 0];
     let mut ends = [0u16; rules::MOST_RECORDS];
-    match reader::survey(
+    let read = reader::survey(
         log,
         &mut calls,
         &mut exchanges,
         &mut points,
         &mut pointsends,
         &mut ends,
-    ) {
-        ReadAnswer::Accepted {
-            records,
-            first,
-            heading: _,
-        } => strike_read(log, struck, first, &ends[..records], out),
-        ReadAnswer::Refused(r) => Wrote::Refused(r),
-    }
+    )?;
+    strike_read(log, struck, read.first, &ends[..read.records], out)
 }
 
 // # What is told of those that are left
@@ -201,20 +155,7 @@ pub fn strike(log: &[u8], struck: &[u8], out: &mut [u8]) -> Wrote
 fn byte_or_none(list: &[u8], i: usize) -> u8
     ensures { result ≡ get_or list.now i 0 }
 {
-    if list.len() <= i {
-        return 0;
-    }
-    list[i]
-}
-
-// The one byte where a record is struck, and else the other.
-fn picked(struck: bool, stood: u8, told: u8) -> u8
-    ensures { result ≡ cond struck stood told }
-{
-    if struck {
-        return stood;
-    }
-    told
+    list.get(i).copied().unwrap_or(0)
 }
 
 // The verdicts of judging what is left of a log, each put at the place that its record has in the log; at the places of struck records all stays as it was.
@@ -222,12 +163,10 @@ pub fn spread(told: &[u8], struck: &[u8], among: &mut [u8])
     ensures { among.new ≡ spread_over (marked struck.now) told.now among.old }
 {
     let mut left = 0;
-    let mut i = 0;
-    while i < among.len() {
-        let gone = is_struck(byte_or_none(struck, i));
-        let next = byte_or_none(told, left);
-        among[i] = picked(gone, among[i], next);
-        left += one_kept(gone);
-        i += 1;
+    for (i, verdict) in among.iter_mut().enumerate() {
+        if !is_struck(byte_or_none(struck, i)) {
+            *verdict = byte_or_none(told, left);
+            left += 1;
+        }
     }
 }

@@ -4,56 +4,35 @@
 
 #![tactic(auto)]
 
-ghost use Rattle.std.specs.Prelude.{◌≤◌, length};
 ghost use Rattle.std.specs.Counts.{IsPrefixLen};
 
-use judge::Judged;
-use mender::MendAnswer;
-use places::ViewRead;
-use reader::ReadAnswer;
 use rules::{Refusal, Totals};
 use std::fs;
 use std::rt::Files;
-use writer::Wrote;
 
 // Room for a log, and for what is made of one.
 const LARGE: usize = rules::LONGEST_LOG + 1;
 
-// A failed write is passed over: what is missing on standard output tells of it.
-fn say(rt: &impl Print, text: &[u8]) {
-    let _ = rt.write_all(text);
-}
+// # What is answered
 
-// A word and a number behind it.
-fn show(rt: &impl Print, word: &[u8], n: u64) {
-    say(rt, word);
-    let mut digits = [0u8; console::DIGITS];
-    let start = console::decimal(n, &mut digits);
-    say(rt, &digits[start..]);
-}
+// Wherever something is printed a failed write is passed over: what is missing on standard output tells of it.
 
 fn show_refusal(rt: &impl Print, r: Refusal) {
-    show(rt, b" refused ", r.number as u64);
-    show(rt, b" ", r.line as u64);
-    show(rt, b" ", r.field as u64);
-    say(rt, b"\n");
+    let _ = println!(rt; " refused {} {} {}", r.number, r.line, r.field);
 }
 
 // What reading answers; how many records there are, none where the log is refused.
 fn show_read(rt: &impl Print, log: &[u8]) -> usize {
-    say(rt, b"  read:");
+    let _ = print!(rt; "  read:");
     match reader::read(log) {
-        ReadAnswer::Accepted {
-            records,
-            first: _,
-            heading,
-        } => {
-            show(rt, b" records ", records as u64);
-            show(rt, b" respelt ", heading.respelt as u64);
-            say(rt, b"\n");
-            records
+        Ok(read) => {
+            let _ = println!(rt;
+                " records {} respelt {}",
+                read.records, read.heading.respelt
+            );
+            read.records
         }
-        ReadAnswer::Refused(r) => {
+        Err(r) => {
             show_refusal(rt, r);
             0
         }
@@ -62,102 +41,65 @@ fn show_read(rt: &impl Print, log: &[u8]) -> usize {
 
 // The credited records of each mode: the codes 0 to 9, and then blank.
 fn show_modes(rt: &impl Print, numbers: &[u64; judge::MODES]) {
-    say(rt, b"  modes:");
-    let mut i = 0;
-    while i < judge::MODES {
-        show(rt, b" ", numbers[i]);
-        i += 1;
+    let _ = print!(rt; "  modes:");
+    for number in numbers {
+        let _ = print!(rt; " {number}");
     }
-    say(rt, b"\n");
+    let _ = println!(rt);
 }
 
 fn show_totals(rt: &impl Print, t: Totals) {
-    show(rt, b" credited ", t.credited);
-    show(rt, b" voids ", t.voids);
-    show(rt, b" duplicates ", t.duplicates);
-    show(rt, b" errors ", t.errors);
-    show(rt, b" points ", t.points);
-    show(rt, b" squares ", t.squares);
-    show(rt, b" exchanges ", t.exchanges);
-    show(rt, b" countries ", t.countries);
-    show(rt, b" bonuses ", t.squarebonus);
-    show(rt, b" ", t.exchangebonus);
-    show(rt, b" ", t.countrybonus);
-    show(rt, b" total ", t.total);
-    say(rt, b"\n");
-    let modes = t.modes;
-    let numbers = judge::mode_numbers(modes);
-    show_modes(rt, &numbers);
-}
-
-fn show_verdict(rt: &impl Print, verdict: u8) {
-    show(rt, b" ", verdict as u64);
+    let _ = print!(rt;
+        " credited {} voids {} duplicates {} errors {}",
+        t.credited, t.voids, t.duplicates, t.errors
+    );
+    let _ = print!(rt;
+        " points {} squares {} exchanges {} countries {}",
+        t.points, t.squares, t.exchanges, t.countries
+    );
+    let _ = println!(rt;
+        " bonuses {} {} {} total {}",
+        t.squarebonus, t.exchangebonus, t.countrybonus, t.total
+    );
+    show_modes(rt, &judge::mode_numbers(t.modes));
 }
 
 // The first n verdicts, or of many the first thirty.
 fn show_verdicts(rt: &impl Print, verdicts: &[u8], n: usize) {
-    say(rt, b"  verdicts:");
-    let mut i = 0;
-    while i < verdicts.len() {
-        if n <= i {
-            break;
-        }
-        if i == 30 {
-            say(rt, b" ..");
-            break;
-        }
-        show_verdict(rt, verdicts[i]);
-        i += 1;
+    let _ = print!(rt; "  verdicts:");
+    for verdict in verdicts.iter().take(n.min(30)) {
+        let _ = print!(rt; " {verdict}");
     }
-    say(rt, b"\n");
+    if 30 < n {
+        let _ = print!(rt; " ..");
+    }
+    let _ = println!(rt);
 }
 
 fn show_judged(rt: &impl Print, log: &[u8], records: usize) {
     let mut verdicts = [0u8; rules::MOST_RECORDS];
     let answer = judge::judge(log, &mut verdicts);
-    say(rt, b"  judged:");
+    let _ = print!(rt; "  judged:");
     match answer {
-        Judged::Totals(t) => {
+        Ok(t) => {
             show_totals(rt, t);
             show_verdicts(rt, &verdicts, records);
         }
-        Judged::Refused(r) => show_refusal(rt, r),
-    }
-}
-
-fn show_change(rt: &impl Print, kind: u8, line: u32) {
-    show(rt, b" ", kind as u64);
-    show(rt, b":", line as u64);
-}
-
-// The changes from a place of the list up to another.
-fn show_part(rt: &impl Print, kinds: &[u8], lines: &[u32], from: usize, to: usize)
-    requires { (to ≤ length kinds.now) × (to ≤ length lines.now) }
-{
-    let mut i = from;
-    while i < to {
-        show_change(rt, kinds[i], lines[i]);
-        i += 1;
+        Err(r) => show_refusal(rt, r),
     }
 }
 
 // The n changes, each as kind:line, or of many the first six and the last six.
 fn show_changes(rt: &impl Print, kinds: &[u8], lines: &[u32], n: usize) {
-    show(rt, b" changes ", n as u64);
-    if kinds.len() < n {
-        return;
+    let _ = print!(rt; " changes {n}");
+    for (i, (kind, line)) in kinds.iter().zip(lines).take(n).enumerate() {
+        if n <= 12 || i < 6 || n - 6 <= i {
+            let _ = print!(rt; " {kind}:{line}");
+        } else if i == 6 {
+            let _ = print!(rt; " ..");
+        }
     }
-    if lines.len() < n {
-        return;
-    }
-    if n <= 12 {
-        show_part(rt, kinds, lines, 0, n);
-    } else {
-        show_part(rt, kinds, lines, 0, 6);
-        say(rt, b" ..");
-        show_part(rt, kinds, lines, n - 6, n);
-    }
-    say(rt, b"\n");
+    let _ = println!(rt);
 }
 
 fn show_mended(rt: &impl Print, log: &[u8]) {
@@ -165,13 +107,13 @@ fn show_mended(rt: &impl Print, log: &[u8]) {
     let mut kinds = [0u8; rules::LONGEST_LOG / 2];
     let mut lines = [0u32; rules::LONGEST_LOG / 2];
     let answer = mender::mend(log, &mut mended, &mut kinds, &mut lines);
-    say(rt, b"  mended:");
+    let _ = print!(rt; "  mended:");
     match answer {
-        MendAnswer::Mended { length, changes } => {
-            show(rt, b" length ", length as u64);
-            show_changes(rt, &kinds, &lines, changes);
+        Ok(told) => {
+            let _ = print!(rt; " length {}", told.length);
+            show_changes(rt, &kinds, &lines, told.changes);
         }
-        MendAnswer::Refused(r) => show_refusal(rt, r),
+        Err(r) => show_refusal(rt, r),
     }
 }
 
@@ -180,21 +122,15 @@ fn load(rt: &(impl Files + Print), name: &str, log: &mut [u8]) -> usize
     ensures { IsPrefixLen result log.new }
 {
     let Ok(mut file) = fs::open(rt, name) else {
-        say(rt, name.as_bytes());
-        say(rt, b" cannot be opened\n");
+        let _ = println!(rt; "{name} cannot be opened");
         return 0;
     };
     console::fill(&mut file, log).bytes
 }
 
-fn show_name(rt: &impl Print, name: &str) {
-    say(rt, name.as_bytes());
-    say(rt, b"\n");
-}
-
 // What is answered of a log: by reading, by judging and by mending.
 fn answers(rt: &(impl Files + Print), name: &str) {
-    show_name(rt, name);
+    let _ = println!(rt; "{name}");
     let mut log = [0u8; LARGE];
     let n = load(rt, name, &mut log);
     let records = show_read(rt, &log[..n]);
@@ -205,28 +141,18 @@ fn answers(rt: &(impl Files + Print), name: &str) {
 // What is answered of a log when a keyword is viewed: where its argument starts, how long it is, whether the keyword stands in the listed spelling,
 // and the argument.
 fn argument(rt: &(impl Files + Print), name: &str, keyword: usize) {
-    show_name(rt, name);
+    let _ = println!(rt; "{name}");
     let mut log = [0u8; LARGE];
     let n = load(rt, name, &mut log);
-    show(rt, b"  view ", keyword as u64);
-    say(rt, b":");
+    let _ = print!(rt; "  view {keyword}:");
     match places::view(&log[..n], keyword) {
-        ViewRead::Seen {
-            start,
-            length,
-            listed,
-        } => {
-            show(rt, b" start ", start as u64);
-            show(rt, b" length ", length as u64);
-            if listed {
-                say(rt, b" listed ");
-            } else {
-                say(rt, b" respelt ");
-            }
-            say(rt, places::viewed(&log[..n], keyword));
-            say(rt, b"\n");
+        Ok(seen) => {
+            let spelling = if seen.listed { "listed" } else { "respelt" };
+            let _ = print!(rt; " start {} length {} {spelling} ", seen.start, seen.length);
+            let _ = rt.write_all(places::viewed(&log[..n], keyword));
+            let _ = println!(rt);
         }
-        ViewRead::Refused(r) => show_refusal(rt, r),
+        Err(r) => show_refusal(rt, r),
     }
 }
 
@@ -234,55 +160,45 @@ fn argument(rt: &(impl Files + Print), name: &str, keyword: usize) {
 fn show_likeness(rt: &(impl Files + Print), res: &[u8], n: usize, name: &str) {
     let mut log = [0u8; LARGE];
     let m = load(rt, name, &mut log);
-    if res.len() < n {
-        return;
-    }
-    if header::same_text(&res[..n], &log[..m]) {
-        say(rt, b" as ");
-    } else {
-        say(rt, b" not as ");
-    }
-    show_name(rt, name);
+    let same = header::same_text(console::part(res, 0, n), &log[..m]);
+    let likeness = if same { "as" } else { "not as" };
+    let _ = println!(rt; " {likeness} {name}");
 }
 
 // What is answered of a log when it is written back, and whether the result is the log of the other file.
 fn written(rt: &(impl Files + Print), name: &str, other: &str) {
-    show_name(rt, name);
+    let _ = println!(rt; "{name}");
     let mut log = [0u8; LARGE];
     let n = load(rt, name, &mut log);
     let mut result = [0u8; LARGE];
     let answer = writer::write(&log[..n], &mut result);
-    say(rt, b"  written:");
+    let _ = print!(rt; "  written:");
     match answer {
-        Wrote::Length(length) => {
-            show(rt, b" length ", length as u64);
+        Ok(length) => {
+            let _ = print!(rt; " length {length}");
             show_likeness(rt, &result, length, other);
         }
-        Wrote::Refused(r) => show_refusal(rt, r),
+        Err(r) => show_refusal(rt, r),
     }
 }
 
 // What is answered of a log when the records are struck that two words name, and whether what is left is the log of the other file.
-fn struck(rt: &(impl Files + Print), name: &str, first: &[u8], second: &[u8], other: &str) {
-    show_name(rt, name);
+fn struck(rt: &(impl Files + Print), name: &str, first: &str, second: &str, other: &str) {
+    let _ = println!(rt; "{name}");
     let mut log = [0u8; LARGE];
     let n = load(rt, name, &mut log);
     let mut marks = [0u8; rules::MOST_RECORDS];
-    words::mark(first, &mut marks);
-    words::mark(second, &mut marks);
+    words::mark(first.as_bytes(), &mut marks);
+    words::mark(second.as_bytes(), &mut marks);
     let mut left = [0u8; LARGE];
     let answer = striker::strike(&log[..n], &marks, &mut left);
-    say(rt, b"  struck ");
-    say(rt, first);
-    say(rt, b" ");
-    say(rt, second);
-    say(rt, b":");
+    let _ = print!(rt; "  struck {first} {second}:");
     match answer {
-        Wrote::Length(length) => {
-            show(rt, b" length ", length as u64);
+        Ok(length) => {
+            let _ = print!(rt; " length {length}");
             show_likeness(rt, &left, length, other);
         }
-        Wrote::Refused(r) => show_refusal(rt, r),
+        Err(r) => show_refusal(rt, r),
     }
 }
 
@@ -290,48 +206,52 @@ fn struck(rt: &(impl Files + Print), name: &str, first: &[u8], second: &[u8], ot
 // a remark, and the first record stands on the line after it. Mending sets the count of those in cases 3 and 11 that are refused for it, hands over
 // what is accepted as it is, and refuses the others as reading does.
 fn cases(rt: &(impl Files + Print)) {
-    // 2, line 1.
-    answers(rt, "01-empty.edi");
-    // Accepted, total 0.
-    answers(rt, "02-no-records.edi");
-    // The count line with 999 meets its rule, so that a record is missing behind it; with 1000 it gives 4.
-    answers(rt, "03-count-999.edi");
-    answers(rt, "03-count-1000.edi");
-    // All 999 records, each with a call, a square and an exchange of its own, a country, and as many points as there can be; bonuses of 9999 and
-    // multipliers of 99: so the total is the largest, 998,404,684,715,196. None has a mode.
-    answers(rt, "03-999-records.edi");
-    // 75 characters are accepted, 76 are refused 2.
-    answers(rt, "04-remark-75.edi");
-    answers(rt, "04-remark-76.edi");
-    // 240229 is valid, 230229 is refused 5, field 1.
-    answers(rt, "05-date-240229.edi");
-    answers(rt, "05-date-230229.edi");
-    // 2359 is valid, 2400 is refused, field 2.
-    answers(rt, "06-time-2359.edi");
-    answers(rt, "06-time-2400.edi");
-    // Refused, field 3.
-    answers(rt, "07-call-of-two.edi");
-    // Refused, field 11.
-    answers(rt, "08-error-with-points.edi");
-    // JO65FR and JO65 are one square, so the second brings no square; JS65 is refused, field 10.
-    answers(rt, "09-one-square.edi");
-    answers(rt, "09-js65.edi");
-    // Refused, field 11.
-    answers(rt, "10-points-007.edi");
-    // 6, at the line of the record that is missing, and of the first byte too many.
-    answers(rt, "11-one-of-two.edi");
-    answers(rt, "11-three-of-two.edi");
-    // Verdicts 96, 64, 3, 2, 1; total 700. Both credited records have mode 1, and those that are not credited, by 1 and 2 and with none, count for
-    // no mode. What it is written back as has the same verdicts and totals.
-    answers(rt, "12-spring.edi");
-    answers(rt, "12-written.edi");
-    // The same log with every keyword in another spelling: the same verdicts and totals.
-    answers(rt, "12-respelt.edi");
-    // The first record struck: the repeat is credited, and counts for mode 2; total 700. Written back first, and then struck: total 580.
-    answers(rt, "13-struck.edi");
-    answers(rt, "13-written-struck.edi");
-    // 24 credited, 11579 points, 19 squares, 7 countries.
-    answers(rt, "14-sample.edi");
+    for name in [
+        // 2, line 1.
+        "01-empty.edi",
+        // Accepted, total 0.
+        "02-no-records.edi",
+        // The count line with 999 meets its rule, so that a record is missing behind it; with 1000 it gives 4.
+        "03-count-999.edi",
+        "03-count-1000.edi",
+        // All 999 records, each with a call, a square and an exchange of its own, a country, and as many points as there can be; bonuses of 9999 and
+        // multipliers of 99: so the total is the largest, 998,404,684,715,196. None has a mode.
+        "03-999-records.edi",
+        // 75 characters are accepted, 76 are refused 2.
+        "04-remark-75.edi",
+        "04-remark-76.edi",
+        // 240229 is valid, 230229 is refused 5, field 1.
+        "05-date-240229.edi",
+        "05-date-230229.edi",
+        // 2359 is valid, 2400 is refused, field 2.
+        "06-time-2359.edi",
+        "06-time-2400.edi",
+        // Refused, field 3.
+        "07-call-of-two.edi",
+        // Refused, field 11.
+        "08-error-with-points.edi",
+        // JO65FR and JO65 are one square, so the second brings no square; JS65 is refused, field 10.
+        "09-one-square.edi",
+        "09-js65.edi",
+        // Refused, field 11.
+        "10-points-007.edi",
+        // 6, at the line of the record that is missing, and of the first byte too many.
+        "11-one-of-two.edi",
+        "11-three-of-two.edi",
+        // Verdicts 96, 64, 3, 2, 1; total 700. Both credited records have mode 1, and those that are not credited, by 1 and 2 and with none, count
+        // for no mode. What it is written back as has the same verdicts and totals.
+        "12-spring.edi",
+        "12-written.edi",
+        // The same log with every keyword in another spelling: the same verdicts and totals.
+        "12-respelt.edi",
+        // The first record struck: the repeat is credited, and counts for mode 2; total 700. Written back first, and then struck: total 580.
+        "13-struck.edi",
+        "13-written-struck.edi",
+        // 24 credited, 11579 points, 19 squares, 7 countries.
+        "14-sample.edi",
+    ] {
+        answers(rt, name);
+    }
 }
 
 // Views of the log of case 12, and 9 before everything else. A refused log has none.
@@ -371,49 +291,57 @@ fn writings(rt: &(impl Files + Print)) {
 // first; the third has CQS0s, with a nought, and the others the locator IP620A, with a nought too. The fourth remark of 001 has 76 characters; those
 // of 003 have several keywords on line 7, which is too long.
 fn samples(rt: &(impl Files + Print)) {
-    answers(rt, "000-1-lf.edi");
-    answers(rt, "001-lf.edi");
-    answers(rt, "003-1-lf.edi");
-    answers(rt, "000-1.edi");
-    answers(rt, "000-2.edi");
-    answers(rt, "000-3.edi");
-    answers(rt, "000-4.edi");
-    answers(rt, "000-5.edi");
-    answers(rt, "001.edi");
-    answers(rt, "003-1.edi");
-    answers(rt, "003-2.edi");
-    // The first of 000 without its remarks: two semicolons are missing in its ERROR record. With them it has the figures of case 14.
-    answers(rt, "000-1-no-remarks.edi");
-    answers(rt, "000-1-mended-no-remarks.edi");
-    // The same log in the spellings of the list of keywords in 000, PEXch, CEXcs and CEXcB besides; and with that list's MOpel and CDXCc, which are
-    // other words.
-    answers(rt, "000-list.edi");
-    answers(rt, "000-list-mopel.edi");
-    answers(rt, "000-list-cdxcc.edi");
-    // Those of 000 mended by hand, in their own spellings: CQSOs and IP62OA with the letter O, the semicolons that their ERROR records lack, and
-    // none of the lines that the layout put in. They claim 24 contacts, 19 squares and 7 countries (the last 8), exchanges where there are
-    // any, and 11579 points, or 24 where a contact is one point; all that is so, but the last has 20 squares. Of the totals that they claim only
-    // the first and the third are sums as in document 01.
-    answers(rt, "000-1-mended.edi");
-    answers(rt, "000-1-written.edi");
-    answers(rt, "000-2-mended.edi");
-    answers(rt, "000-3-mended.edi");
-    answers(rt, "000-4-mended.edi");
-    answers(rt, "000-5-mended.edi");
-    // Those of 003 with a line for each keyword and record. They claim what a longer log had: of their six records four are credited, in four
-    // squares, with three exchanges, for `0` is one, and three countries.
-    answers(rt, "003-1-mended.edi");
-    answers(rt, "003-2-mended.edi");
+    for name in [
+        "000-1-lf.edi",
+        "001-lf.edi",
+        "003-1-lf.edi",
+        "000-1.edi",
+        "000-2.edi",
+        "000-3.edi",
+        "000-4.edi",
+        "000-5.edi",
+        "001.edi",
+        "003-1.edi",
+        "003-2.edi",
+        // The first of 000 without its remarks: two semicolons are missing in its ERROR record. With them it has the figures of case 14.
+        "000-1-no-remarks.edi",
+        "000-1-mended-no-remarks.edi",
+        // The same log in the spellings of the list of keywords in 000, PEXch, CEXcs and CEXcB besides; and with that list's MOpel and CDXCc, which
+        // are other words.
+        "000-list.edi",
+        "000-list-mopel.edi",
+        "000-list-cdxcc.edi",
+        // Those of 000 mended by hand, in their own spellings: CQSOs and IP62OA with the letter O, the semicolons that their ERROR records lack, and
+        // none of the lines that the layout put in. They claim 24 contacts, 19 squares and 7 countries (the last 8), exchanges where there are
+        // any, and 11579 points, or 24 where a contact is one point; all that is so, but the last has 20 squares. Of the totals that they claim only
+        // the first and the third are sums as in document 01.
+        "000-1-mended.edi",
+        "000-1-written.edi",
+        "000-2-mended.edi",
+        "000-3-mended.edi",
+        "000-4-mended.edi",
+        "000-5-mended.edi",
+        // Those of 003 with a line for each keyword and record. They claim what a longer log had: of their six records four are credited, in four
+        // squares, with three exchanges, for `0` is one, and three countries.
+        "003-1-mended.edi",
+        "003-2-mended.edi",
+    ] {
+        answers(rt, name);
+    }
 }
 
 // Logs that a mail program chewed.
 fn chewed(rt: &(impl Files + Print)) {
-    // Case 12 with bare LFs, an open last line, spaces behind a record and a wrong count: each kind of change.
-    answers(rt, "w2-chewed.edi");
-    // Case 12 with a count of 007, spaces behind two records, and CR alone at the end. Spaces behind a keyword or a remark stay.
-    answers(rt, "w2-few.edi");
-    // A record that was broken in two is no record, whatever the count becomes: nothing is handed over.
-    answers(rt, "w2-broken.edi");
+    for name in [
+        // Case 12 with bare LFs, an open last line, spaces behind a record and a wrong count: each kind of change.
+        "w2-chewed.edi",
+        // Case 12 with a count of 007, spaces behind two records, and CR alone at the end. Spaces behind a keyword or a remark stay.
+        "w2-few.edi",
+        // A record that was broken in two is no record, whatever the count becomes: nothing is handed over.
+        "w2-broken.edi",
+    ] {
+        answers(rt, name);
+    }
 }
 
 // Second tries: a duplicate needs points or a claimed D.
@@ -451,14 +379,14 @@ fn modes(rt: &(impl Files + Print)) {
 // Striking: case 13, both ways, in its log as it came and as it was written back; all records; second tries; two contacts of different modes. What is left
 // has the log's own claims and spelling, and is judged above. A refused log has no records to strike.
 fn strikes(rt: &(impl Files + Print)) {
-    struck(rt, "12-spring.edi", b"1", b"1", "13-struck.edi");
-    struck(rt, "12-written.edi", b"1", b"1-1", "13-written-struck.edi");
-    struck(rt, "12-spring.edi", b"4-5", b"1-3", "02-no-records.edi");
-    struck(rt, "w3-tries.edi", b"1", b"1", "w3-struck.edi");
-    struck(rt, "w3-written.edi", b"1", b"1", "w3-written-struck.edi");
-    struck(rt, "w4-modes.edi", b"2", b"15", "w4-struck.edi");
-    struck(rt, "w4-written.edi", b"2", b"15", "w4-written-struck.edi");
-    struck(rt, "01-empty.edi", b"1", b"2", "01-empty.edi");
+    struck(rt, "12-spring.edi", "1", "1", "13-struck.edi");
+    struck(rt, "12-written.edi", "1", "1-1", "13-written-struck.edi");
+    struck(rt, "12-spring.edi", "4-5", "1-3", "02-no-records.edi");
+    struck(rt, "w3-tries.edi", "1", "1", "w3-struck.edi");
+    struck(rt, "w3-written.edi", "1", "1", "w3-written-struck.edi");
+    struck(rt, "w4-modes.edi", "2", "15", "w4-struck.edi");
+    struck(rt, "w4-written.edi", "2", "15", "w4-written-struck.edi");
+    struck(rt, "01-empty.edi", "1", "2", "01-empty.edi");
 }
 
 fn main(rt: HostRuntime) {

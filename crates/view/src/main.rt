@@ -4,29 +4,21 @@
 #![tactic(auto)]
 
 use console::EprintBytes;
-use places::ViewRead;
+use fields::Digits;
 use std::env::Env;
-use words::Named;
 
 // # The keyword
 
 // A number, however large, of which the first digit is no 0.
 fn is_number(word: &[u8]) -> bool {
-    if word.len() == 0 {
-        return false;
-    }
-    if word[0] == b'0' {
-        return false;
-    }
-    fields::digit_run(word, 0) == word.len()
+    matches!(word.first(), Some(b'1'..=b'9')) && fields::run(word, 0, &Digits) == word.len()
 }
 
 fn say_unknown(rt: &impl EprintBytes, word: &[u8]) {
-    console::say(rt, b"desk: \"");
-    console::say(rt, word);
-    console::say(
+    console::say_word(
         rt,
-        b"\" is neither the name of a keyword, as PCall, nor its number, 1 to 36\n",
+        word,
+        "is neither the name of a keyword, as PCall, nor its number, 1 to 36",
     );
 }
 
@@ -40,21 +32,19 @@ fn show_argument(rt: &(impl Print + EprintBytes), argument: &[u8]) {
     console::answer(rt, b"\n");
 }
 
+fn show_keyword(rt: &(impl Print + EprintBytes), log: &[u8], keyword: usize) {
+    match places::view(log, keyword) {
+        Ok(_) => show_argument(rt, places::viewed(log, keyword)),
+        Err(r) => console::say_refusal(rt, r),
+    }
+}
+
 // A log has at most 65,535 bytes: one byte more tells that there are too many.
 fn view(rt: &(impl Input + Print + EprintBytes), keyword: usize) {
     let mut log = [0u8; rules::LONGEST_LOG + 1];
     let taken = console::take(rt, &mut rt.reader(), &mut log, b"desk");
-    if taken.failed {
-        return;
-    }
-    let n = taken.bytes;
-    match places::view(&log[..n], keyword) {
-        ViewRead::Seen {
-            start: _,
-            length: _,
-            listed: _,
-        } => show_argument(rt, places::viewed(&log[..n], keyword)),
-        ViewRead::Refused(r) => console::say_refusal(rt, r),
+    if !taken.failed {
+        show_keyword(rt, &log[..taken.bytes], keyword);
     }
 }
 
@@ -71,14 +61,13 @@ fn view_unnamed(rt: &(impl Input + Print + EprintBytes), word: &[u8]) {
 fn main(rt: HostRuntime) {
     let mut word = [0u8; console::LONGEST_WORD];
     let Ok(n) = rt.arg(1, &mut word) else {
-        console::say(
-            &rt,
-            b"desk: a keyword is due, by its name, as PCall, or its number, 1 to 36\n",
+        let _ = eprintln!(rt;
+            "desk: a keyword is due, by its name, as PCall, or its number, 1 to 36"
         );
         return;
     };
     match words::keyword(&word[..n]) {
-        Named::Keyword(k) => view(&rt, k),
-        Named::Nothing => view_unnamed(&rt, &word[..n]),
+        Some(k) => view(&rt, k),
+        None => view_unnamed(&rt, &word[..n]),
     }
 }

@@ -1,19 +1,20 @@
--- Laws of marking: what is marked turn by turn, and what stands at each place afterwards.
+-- Laws of marking: what stands at each place afterwards, and which word marks.
 -- Assumes nothing.
-use Prim.Native.Nat.{ℕ, zero, suc, ◌+◌, ◌-◌, ◌≤◌, ◌<◌}
+use Prim.Native.Nat.{ℕ, zero, suc, ◌-◌, ◌≤◌, ◌<◌}
 use native.Mathlib.Omega.{arith}
-use native.Mathlib.Numerals.{unary_clauses, add-one}
+use native.Mathlib.Numerals.{unary_clauses}
 use mathlib.Core.Bool.{Bool, true, false, ◌&&◌}
 use mathlib.Core.List.{List, [], ◌∷◌, ◌++◌}
-use mathlib.Core.Path.{◌≡◌, refl, sym, ap, ap₂, ◌∙◌}
+use mathlib.Core.Path.{◌≡◌, refl, sym, ap, ap₂}
 use lib.Dec.{leb}
-use lib.ListN.{length, take, drop, get_or, set, replicate, length-append, length-replicate, length-drop, length-take}
+use lib.ListN.{length, take, drop, get_or, replicate, length-append, length-replicate, length-drop, length-take}
 use borrow.Author.Tests.{le-leb, leb-true}
+use Rattle.std.specs.Prelude.{None, Some}
 use Rattle.rules.specs.Rules.{Rules}
 use Rattle.rules.specs.Text.{Text, value}
 use Rattle.rules.proofs.Tests.{and_l, and_r, fails}
 use Rattle.words.specs.Words.{first_in, last_in, record_number, number_named, names_records, marked_from, marked_by}
-use Rattle.words.proofs.NumberLaws.{number_least, number_most, number_told, number_known}
+use Rattle.words.proofs.NumberLaws.{number_least, number_most, number_told, number_none}
 
 -- The marks behind the first, where that one is in front of those that are set, and where it is one of them.
 past_front : (from to m : ℕ) (marks : List ℕ) → marked_from (suc from) (suc to) (m ∷ marks) ≡ m ∷ marked_from from to marks
@@ -24,7 +25,7 @@ past_set : (to m : ℕ) (marks : List ℕ) → marked_from 0 (suc to) (m ∷ mar
 unfolding marked_from
 past_set to m marks = simp unary_clauses refl
 
--- No mark is set at first, and a turn sets the next.
+-- From a place up to itself no mark is set.
 pub mark_none : (from : ℕ) (marks : List ℕ) → marks ≡ marked_from from from marks
 mark_none zero marks = unfold marked_from in refl
 mark_none (suc from) [] = unfold marked_from in simp unary_clauses (by from)
@@ -32,19 +33,6 @@ mark_none (suc from) [] = unfold marked_from in simp unary_clauses (by from)
     by : (n : ℕ) → [] ≡ replicate {A = ℕ} (n - n) 1 ++ []
     by n = let none : n - n ≡ 0 = omega arith in rw none
 mark_none (suc from) (m ∷ marks) = rw (past_front from from m marks) (ap (λ (r : List ℕ). m ∷ r) (mark_none from marks))
-
-turn : (from i : ℕ) (marks : List ℕ) → from ≤ i → i < length marks → set (marked_from from i marks) i 1 ≡ marked_from from (suc i) marks
-turn from i [] h l = absurd (omega arith)
-turn zero zero (m ∷ marks) h l = unfold marked_from in refl
-turn zero (suc i) (m ∷ marks) h l =
-    rw (past_set i m marks, past_set (suc i) m marks) (ap (λ (r : List ℕ). 1 ∷ r) (turn zero i marks (omega arith) (omega arith)))
-turn (suc from) zero (m ∷ marks) h l = absurd (omega arith)
-turn (suc from) (suc i) (m ∷ marks) h l =
-    rw (past_front from i m marks, past_front from (suc i) m marks)
-    (ap (λ (r : List ℕ). m ∷ r) (turn from i marks (omega arith) (omega arith)))
-
-pub mark_turn : (from i : ℕ) (marks : List ℕ) → from ≤ i → i < length marks → set (marked_from from i marks) i 1 ≡ marked_from from (i + 1) marks
-mark_turn from i marks h l = turn from i marks h l ∙ ap (λ (n : ℕ). marked_from from n marks) (sym (add-one i))
 
 -- As many marks as there were.
 pub mark_length : (from to : ℕ) (marks : List ℕ) → from ≤ to → to ≤ length marks → length (marked_from from to marks) ≡ length marks
@@ -118,44 +106,41 @@ module _ (R : Rules) (word : Text) (marks : List ℕ) where
   unfolding marked_by
   unnamed n = let e = fails (names_records R room word) n in (sym e, rw e)
 
-  module _ {first : ℕ} (f : first ≡ number_named R room (first_in word)) where
-    first_told : record_number R room (first_in word) ≡ true → first ≡ value (first_in word)
-    first_told e = number_told R room (first_in word) f e
+  pub no_first : None ≡ number_named R room (first_in word) → (false ≡ names_records R room word) × (marks ≡ marked_by R word marks)
+  no_first h = unnamed (λ e. number_none R room (first_in word) h (named_first R room word e))
 
-    pub no_first : first ≡ 0 → (false ≡ names_records R room word) × (marks ≡ marked_by R word marks)
-    no_first z =
-        unnamed
-        (λ e.
-        let known = named_first R room word e in
-        omega (arith, first_told known, number_least R room (first_in word) known))
+  pub no_last : None ≡ number_named R room (last_in word) → (false ≡ names_records R room word) × (marks ≡ marked_by R word marks)
+  no_last h = unnamed (λ e. number_none R room (last_in word) h (named_last R room word e))
 
-    module _ {last : ℕ} (g : last ≡ number_named R room (last_in word)) where
-      last_told : record_number R room (last_in word) ≡ true → last ≡ value (last_in word)
-      last_told e = number_told R room (last_in word) g e
+  module _ {first last : ℕ} (f : Some first ≡ number_named R room (first_in word)) (g : Some last ≡ number_named R room (last_in word)) where
+    first_told : (record_number R room (first_in word) ≡ true) × (first ≡ value (first_in word))
+    first_told = number_told R room (first_in word) f
 
-      pub no_last : last < first → (false ≡ names_records R room word) × (marks ≡ marked_by R word marks)
-      no_last l =
-          unnamed
-          (λ e. omega (arith, named_order R room word e, first_told (named_first R room word e), last_told (named_last R room word e)))
+    last_told : (record_number R room (last_in word) ≡ true) × (last ≡ value (last_in word))
+    last_told = number_told R room (last_in word) g
 
-      module _ (n : first ≡ 0 → ⊥) (l : first ≤ last) where
-        first_known : record_number R room (first_in word) ≡ true
-        first_known = number_known R room (first_in word) f (omega arith)
+    pub first_least : 1 ≤ first
+    first_least = omega (arith, first_told.1, number_least R room (first_in word) first_told.0)
 
-        last_known : record_number R room (last_in word) ≡ true
-        last_known = number_known R room (last_in word) g (omega arith)
+    pub last_within : last ≤ length marks
+    last_within = omega (arith, last_told.1, number_most R room (last_in word) last_told.0)
 
-        pub last_within : last ≤ length marks
-        last_within = omega (arith, last_told last_known, number_most R room (last_in word) last_known)
+    out_of_order : last < first → (false ≡ names_records R room word) × (marks ≡ marked_by R word marks)
+    out_of_order l = unnamed (λ e. omega (arith, named_order R room word e, first_told.1, last_told.1))
 
-        pub both : true ≡ names_records R room word
-        unfolding names_records
-        both =
-            let order : value (first_in word) ≤ value (last_in word) = omega (arith, first_told first_known, last_told last_known) in
-            rw (first_known, last_known, le-leb (value (first_in word)) (value (last_in word)) order)
+    pub no_order : last < first → false ≡ names_records R room word
+    no_order l = (out_of_order l).0
 
-        pub both_marked : marked_from (first - 1) last marks ≡ marked_by R word marks
-        unfolding marked_by
-        both_marked =
-            rw (← both)
-            (ap₂ (λ (a b : ℕ). marked_from (a - 1) b marks) (first_told first_known) (last_told last_known))
+    pub none_marked : last < first → marks ≡ marked_by R word marks
+    none_marked l = (out_of_order l).1
+
+    module _ (l : first ≤ last) where
+      pub both : true ≡ names_records R room word
+      unfolding names_records
+      both =
+          let order : value (first_in word) ≤ value (last_in word) = omega (arith, first_told.1, last_told.1) in
+          rw (first_told.0, last_told.0, le-leb (value (first_in word)) (value (last_in word)) order)
+
+      pub both_marked : marked_from (first - 1) last marks ≡ marked_by R word marks
+      unfolding marked_by
+      both_marked = rw (← both) (ap₂ (λ (a b : ℕ). marked_from (a - 1) b marks) first_told.1 last_told.1)

@@ -1,14 +1,17 @@
 -- Laws of a word that is a number as a whole, and of the record that it names.
 -- Assumes nothing.
-use Prim.Native.Nat.{ℕ, zero, suc, ◌+◌, ◌-◌, ◌≤◌, ◌<◌}
+use Rattle.std.specs.Prelude.{Some, None}
+use Prim.Native.Nat.{ℕ, suc, ◌+◌, ◌-◌, ◌≤◌, ◌<◌}
 use native.Mathlib.Omega.{arith}
 use mathlib.Core.Bool.{Bool, true, false, cond, ◌&&◌}
 use mathlib.Core.List.{[], ◌∷◌}
+use mathlib.Core.Logic.{◌⊎◌, inl, inr}
 use mathlib.Core.Path.{◌≡◌, refl, sym, ap, ◌∙◌}
 use lib.Dec.{leb, eqb}
 use lib.ListN.{length, take, drop, length-drop}
 use lib.Seq.{take_all}
 use borrow.Author.Tests.{ne_eqb, eq-eqb, le-leb, lt-leb, leb-true}
+use Rattle.std.specs.Prelude.{None, Some}
 use Rattle.rules.specs.Rules.{Rules}
 use Rattle.rules.specs.Text.{Text, digit, all, span, value, number, number_from}
 use Rattle.rules.proofs.NumberLaws.{number_digits}
@@ -16,7 +19,6 @@ use Rattle.rules.proofs.TextLaws.{span_short}
 use Rattle.rules.proofs.Tests.{and_l, and_r, fails}
 use Rattle.fields.specs.Field.{in_field}
 use Rattle.fields.proofs.PartLaws.{whole_span}
-use Rattle.figures.specs.declared.NumberRead.{NumberRead}
 use Rattle.figures.specs.Figure.{number_at}
 use Rattle.figures.proofs.Picked.{number_picked, number_refused}
 use Rattle.header.proofs.DueLaws.{argument_broken, argument_ends}
@@ -33,11 +35,11 @@ from_apart least most t e =
 
 -- What the reader answers at the front of a word tells of the word as a whole.
 module _ (least most : ℕ) (t : Text) where
-  pub whole_none : number_at (number_from least most) t 0 ≡ NumberRead.Bad → number_from least most t ≡ false
+  pub whole_none : number_at (number_from least most) t 0 ≡ None → number_from least most t ≡ false
   whole_none p =
       sym (argument_broken (number_from least most) (from_apart least most) t (number_refused (number_from least most) t 0 p))
 
-  module _ {v e : ℕ} (p : number_at (number_from least most) t 0 ≡ NumberRead.Number v e) where
+  module _ {v e : ℕ} (p : number_at (number_from least most) t 0 ≡ Some (v, e)) where
     ends : eqb e (length t) ≡ number_from least most t
     ends = argument_ends (number_from least most) (from_apart least most) t (number_kept (number_from least most) t 0 p)
 
@@ -52,7 +54,7 @@ module _ (least most : ℕ) (t : Text) where
         let q = number_picked (number_from least most) t 0 p in
         q.1 ∙ ap value (text_by_end t 0 q.2 ∙ take_all (e - 0) t (omega arith))
 
--- The record that a text names, by what is known of it as a number from 0 on: 0 names none.
+-- The record that a text names, by what is known of it as a number from 0 on.
 module _ (R : Rules) (room : ℕ) (t : Text) where
   from_nought : number_from 1 R.most_records t ≡ (number_from 0 R.most_records t && leb 1 (value t))
   unfolding number_from
@@ -65,27 +67,27 @@ module _ (R : Rules) (room : ℕ) (t : Text) where
       by true false false = refl
       by false b c = refl
 
-  pub named_none : number_from 0 R.most_records t ≡ false → 0 ≡ number_named R room t
+  pub named_none : number_from 0 R.most_records t ≡ false → None ≡ number_named R room t
   unfolding number_named record_number
   named_none e = rw (from_nought, e)
 
   module _ (e : number_from 0 R.most_records t ≡ true) {v : ℕ} (q : v ≡ value t) where
-    pub named_beyond : room < v → 0 ≡ number_named R room t
+    pub named_beyond : (v < 1) ⊎ (room < v) → None ≡ number_named R room t
     unfolding number_named record_number
-    named_beyond h =
+    named_beyond (inl h) =
+        let small : value t < 1 = omega arith in
+        rw (from_nought, e, lt-leb 1 (value t) small)
+    named_beyond (inr h) =
         let large : 1 ≤ value t = omega arith in
         let out : room < value t = omega arith in
         rw (from_nought, e, le-leb 1 (value t) large, lt-leb (value t) room out)
 
-    pub named_within : v ≤ room → v ≡ number_named R room t
+    pub named_within : 1 ≤ v → v ≤ room → Some v ≡ number_named R room t
     unfolding number_named record_number
-    named_within h =
+    named_within l h =
+        let large : 1 ≤ value t = omega arith in
         let fit : value t ≤ room = omega arith in
-        rw (from_nought, e, le-leb (value t) room fit) (q ∙ by (value t))
-      where
-        by : (n : ℕ) → n ≡ cond (leb 1 n && true) n 0
-        by zero = refl
-        by (suc n) = rw (le-leb 1 (suc n) (omega arith))
+        rw (from_nought, e, le-leb 1 (value t) large, le-leb (value t) room fit) (ap Some q)
 
 -- A text that names a record, by what was answered of it.
 module _ (R : Rules) (room : ℕ) (t : Text) where
@@ -101,17 +103,20 @@ module _ (R : Rules) (room : ℕ) (t : Text) where
   unfolding record_number
   number_most e = leb-true (value t) room (and_r (number_from 1 R.most_records t) (leb (value t) room) e)
 
-  pub number_told : {n : ℕ} → n ≡ number_named R room t → record_number R room t ≡ true → n ≡ value t
+  pub number_told : {n : ℕ} → Some n ≡ number_named R room t → (record_number R room t ≡ true) × (n ≡ value t)
   unfolding number_named
-  number_told h e = h ∙ rw e
-
-  pub number_known : {n : ℕ} → n ≡ number_named R room t → 1 ≤ n → record_number R room t ≡ true
-  unfolding number_named
-  number_known {n} h l = by (record_number R room t) h
+  number_told {n} h = by (record_number R room t) h
     where
-      by : (b : Bool) → n ≡ cond b (value t) 0 → b ≡ true
-      by true k = refl
-      by false k = absurd (omega arith)
+      by : (b : Bool) → Some n ≡ cond b (Some (value t)) None → (b ≡ true) × (n ≡ value t)
+      by true k = (refl, cc)
+      by false k = let z : ◌≡◌ {A = ℕ} 0 1 = cc in absurd (omega arith)
+
+  pub number_none : None ≡ number_named R room t → record_number R room t ≡ true → ⊥
+  unfolding number_named
+  number_none h e =
+      let k : None ≡ Some (value t) = h ∙ rw e in
+      let z : ◌≡◌ {A = ℕ} 0 1 = cc in
+      omega arith
 
 -- A word has a dash where the run up to it ends within the word.
 no_dash : (s : Text) → length s ≤ span undashed s → all undashed s ≡ true

@@ -1,10 +1,9 @@
 -- Words at the desk, and what they name.
 -- Assumes nothing.
-use Rattle.std.specs.Prelude.{ℕ, Bool, true, false, List, [], ◌∷◌, replicate}
+use Rattle.std.specs.Prelude.{ℕ, Bool, true, false, List, [], ◌∷◌, replicate, Option, None, Some}
 use Prim.Native.String.{String}
 use Rattle.rules.specs.Rules.{base}
 use Rattle.rules.specs.Text.{bytes}
-use Rattle.words.specs.declared.Named.{Named}
 use Rattle.words.specs.Words.{names_records, marked_by, named_by}
 
 -- # Records
@@ -69,20 +68,20 @@ mark_cases =
 -- A word, and what it names.
 pub record KeywordCase : Type 0 where
   pub word : String
-  pub named : Named
+  pub named : Option ℕ
 
-unfoldable pub named_on : KeywordCase → Named
+unfoldable pub named_on : KeywordCase → Option ℕ
 unfolding named_by base
 named_on c = named_by base (bytes c.word)
 
-unfoldable pub named_as : KeywordCase → Named
+unfoldable pub named_as : KeywordCase → Option ℕ
 named_as c = c.named
 
 abbrev is : String → ℕ → KeywordCase
-is word n = record { word = word; named = Named.Keyword n }
+is word n = record { word = word; named = Some n }
 
 abbrev is_none : String → KeywordCase
-is_none word = record { word = word; named = Named.Nothing }
+is_none word = record { word = word; named = None }
 
 unfoldable pub keyword_cases : List KeywordCase
 keyword_cases =

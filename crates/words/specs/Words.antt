@@ -1,12 +1,12 @@
 -- What a secretary's words at the desk name: records of a log, and the keywords of its header.
 -- Assumes nothing.
-use Rattle.std.specs.Prelude.{ℕ, zero, suc, ◌+◌, ◌-◌, Bool, true, false, cond, not, ◌&&◌, List, [], ◌∷◌, ◌++◌, map, ◌≡◌, leb, eqb, length, take, drop, get_or, replicate}
+use Rattle.std.specs.Prelude.{ℕ, zero, suc, ◌+◌, ◌-◌, Bool, true, false, cond, not, ◌&&◌, List, [], ◌∷◌, ◌++◌, map, ◌≡◌, leb, eqb, length, take, drop, get_or, replicate, Option, None, Some}
+use Rattle.std.specs.Option.{option_or}
 use Rattle.rules.specs.Arguments.{Entry, entries, count}
 use Rattle.rules.specs.Log.{keywords_of}
 use Rattle.rules.specs.Reading.{has_keyword}
 use Rattle.rules.specs.Rules.{Rules}
 use Rattle.rules.specs.Text.{Text, all, span, same_but_case, value, number_from}
-use Rattle.words.specs.declared.Named.{Named}
 
 -- # Records
 
@@ -29,10 +29,10 @@ unfoldable pub record_number : Rules → ℕ → Text → Bool
 unfolding number_from value
 record_number R room t = number_from 1 R.most_records t && leb (value t) room
 
--- The number of the record that a text names; 0 where it names none.
-unfoldable pub number_named : Rules → ℕ → Text → ℕ
+-- The number of the record that a text names.
+unfoldable pub number_named : Rules → ℕ → Text → Option ℕ
 unfolding record_number value
-number_named R room t = cond (record_number R room t) (value t) 0
+number_named R room t = cond (record_number R room t) (Some (value t)) None
 
 -- Both are such numbers, and the first is no larger than the last.
 unfoldable pub names_records : Rules → ℕ → Text → Bool
@@ -72,26 +72,23 @@ unfolding has_keyword
 has_first [] line = false
 has_first (e ∷ es) line = has_keyword e line
 
--- The number of the keyword that the word is, in any letter case: the first such one's, where the keywords are counted from a number on; 0 where there
--- is none.
-unfoldable pub keyword_from : ℕ → List Entry → Text → ℕ
+-- The number of the keyword that the word is, in any letter case: the first such one's, where the keywords are counted from a number on.
+unfoldable pub keyword_from : ℕ → List Entry → Text → Option ℕ
 unfolding same_but_case
-keyword_from n [] word = 0
+keyword_from n [] word = None
 keyword_from n (e ∷ es) word =
     let later = keyword_from (suc n) es word in
-    cond (same_but_case e.keyword word) n later
+    cond (same_but_case e.keyword word) (Some n) later
 
 -- A number, as a count is written, is handed on as it is: which of them are keywords' numbers is for the view to say.
-unfoldable pub count_named : Rules → Text → Named
+unfoldable pub count_named : Rules → Text → Option ℕ
 unfolding count value
-count_named R word = cond (count R word) (Named.Keyword (value word)) Named.Nothing
+count_named R word = cond (count R word) (Some (value word)) None
 
 -- What a word names: the keyword that it is, else the number that it is, else nothing.
-unfoldable pub named_by : Rules → Text → Named
+unfoldable pub named_by : Rules → Text → Option ℕ
 unfolding keyword_from entries count_named
-named_by R word =
-    let n = keyword_from 1 entries word in
-    cond (eqb n 0) (count_named R word) (Named.Keyword n)
+named_by R word = option_or (keyword_from 1 entries word) (count_named R word)
 
 -- So many numbers from this one on.
 unfoldable pub numbers : ℕ → ℕ → List ℕ
@@ -101,4 +98,4 @@ numbers n (suc many) = n ∷ numbers (suc n) many
 -- Each of the keywords, as it is listed, names its own number.
 unfoldable pub EachNamesItself : Rules → Type 0
 unfolding named_by keywords_of entries numbers
-EachNamesItself R = map (named_by R) (keywords_of entries) ≡ map Named.Keyword (numbers 1 36)
+EachNamesItself R = map (named_by R) (keywords_of entries) ≡ map Some (numbers 1 36)

@@ -5,13 +5,12 @@
 #![tactic(auto)]
 
 use console::EprintBytes;
-use writer::Wrote;
 
 fn write(rt: &(impl Print + EprintBytes), log: &[u8]) {
     let mut written = [0u8; rules::LONGEST_LOG];
     match writer::write(log, &mut written) {
-        Wrote::Length(length) => console::answer(rt, console::part(&written, 0, length)),
-        Wrote::Refused(r) => console::say_refusal(rt, r),
+        Ok(length) => console::answer(rt, console::part(&written, 0, length)),
+        Err(r) => console::say_refusal(rt, r),
     }
 }
 
@@ -19,9 +18,7 @@ fn write(rt: &(impl Print + EprintBytes), log: &[u8]) {
 fn main(rt: HostRuntime) {
     let mut log = [0u8; rules::LONGEST_LOG + 1];
     let taken = console::take(&rt, &mut rt.reader(), &mut log, b"desk");
-    if taken.failed {
-        return;
+    if !taken.failed {
+        write(&rt, &log[..taken.bytes]);
     }
-    let n = taken.bytes;
-    write(&rt, &log[..n]);
 }

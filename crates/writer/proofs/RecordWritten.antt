@@ -2,7 +2,7 @@
 -- Assumes nothing.
 use Prim.Native.Nat.{ℕ, ◌+◌, ◌≤◌}
 use native.Mathlib.Omega.{arith}
-use mathlib.Core.Bool.{Bool, true, false, cond, not}
+use mathlib.Core.Bool.{Bool, true, false, cond}
 use mathlib.Core.List.{[], ◌∷◌, ◌++◌}
 use mathlib.Core.Path.{◌≡◌, refl, sym}
 use lib.ListN.{length, length-append}
@@ -10,19 +10,19 @@ use Rattle.reader.specs.Contact.{between}
 use Rattle.rules.proofs.Tests.{never}
 use Rattle.rules.specs.Fields.{new_mark, duplicate_mark}
 use Rattle.rules.specs.Log.{crlf}
-use Rattle.rules.specs.Text.{Text, bytes, semicolon}
+use Rattle.rules.specs.Text.{Text, semicolon}
 use Rattle.writer.specs.RecordText.{says_duplicate, says_new, mark_text, marks_text, zero_text, record_text}
 
 -- A field without its mark is its semicolon alone; with it, the mark follows.
-pub unmarked : (m : Text) (b : Bool) → not b ≡ true → mark_text b m ≡ semicolon ∷ []
+pub unmarked : (m : Text) (b : Bool) → b ≡ false → mark_text b m ≡ semicolon ∷ []
 unfolding mark_text
 unmarked m false e = refl
-unmarked m true e = never e
+unmarked m true e = never (sym e)
 
-pub marked : (m : Text) (b : Bool) → not b ≡ false → mark_text b m ≡ (semicolon ∷ []) ++ m
+pub marked : (m : Text) (b : Bool) → b ≡ true → mark_text b m ≡ (semicolon ∷ []) ++ m
 unfolding mark_text
 marked m true e = refl
-marked m false e = never (sym e)
+marked m false e = never e
 
 -- The semicolon is there in any case.
 pub mark_some : (b : Bool) (m : Text) → 1 ≤ length (mark_text b m)
@@ -30,13 +30,9 @@ unfolding mark_text
 mark_some b m = omega arith
 
 -- The points of a duplicate, which become 0, and those of any other record.
-pub no_zero_lem : (b : Bool) → not b ≡ true → zero_text b ≡ []
+pub no_zero_lem : (b : Bool) → b ≡ false → zero_text b ≡ []
 no_zero_lem false e = refl
-no_zero_lem true e = never e
-
-pub a_zero : (b : Bool) → not b ≡ false → zero_text b ≡ bytes "0"
-a_zero true e = refl
-a_zero false e = never (sym e)
+no_zero_lem true e = never (sym e)
 
 -- What is copied ends where the points begin or where they end.
 module _ (start points pointsend : ℕ) (order : start ≤ points) (rise : points ≤ pointsend) where

@@ -6,7 +6,7 @@ use mathlib.Core.List.{List, [], ◌∷◌, ◌++◌, append_assoc}
 use mathlib.Core.Path.{◌≡◌, refl, sym, ap, ◌∙◌}
 use lib.ListN.{length, drop, length-append}
 use Rattle.judge.specs.Judge.{judged_by, judged_of}
-use Rattle.judge.specs.declared.Judged.{Judged}
+use Rattle.std.specs.Prelude.{Result, Ok, Err}
 use Rattle.rules.specs.Answers.{Judgement, judged, unjudged, judge, over}
 use Rattle.rules.specs.Desk.{shown_line, shown_modes, shown_totals, shown_refusal, shown, desk}
 use Rattle.rules.specs.Judging.{mode_numbers}
@@ -41,16 +41,16 @@ unfolding mode_lines mode_line_at mode_line mode_marks mode_numbers texts shown_
 modes_shown m = refl
 
 -- What is shown of each answer of the judge.
-shown_by : Judged → Text
-shown_by (Judged.Totals t) = shown_totals t
-shown_by (Judged.Refused r) = shown_refusal r
+shown_by : Result Totals Refusal → Text
+shown_by (Ok t) = shown_totals t
+shown_by (Err r) = shown_refusal r
 
 by_answer : (j : Judgement) → shown j ≡ shown_by (judged_by j)
 unfolding shown judged_by shown_by
 by_answer (judged t vs) = refl
 by_answer (unjudged r) = refl
 
-module _ (R : Rules) (s : Text) {a : Judged} (told : a ≡ judged_of R R.most_records s) where
+module _ (R : Rules) (s : Text) {a : Result Totals Refusal} (told : a ≡ judged_of R R.most_records s) where
   desk_by : desk R s ≡ shown_by a
   desk_by = opened ∙ by_answer (judge R R.most_records s) ∙ closed ∙ ap shown_by (sym told)
     where
@@ -60,11 +60,11 @@ module _ (R : Rules) (s : Text) {a : Judged} (told : a ≡ judged_of R R.most_re
       closed : shown_by (judged_by (judge R R.most_records s)) ≡ shown_by (judged_of R R.most_records s)
       closed = unfold judged_of in refl
 
-  pub desk_totals : (t : Totals) → a ≡ Judged.Totals t → shown_totals t ≡ desk R s
+  pub desk_totals : (t : Totals) → a ≡ Ok t → shown_totals t ≡ desk R s
   unfolding shown_by
   desk_totals t e = sym (desk_by ∙ ap shown_by e)
 
-  pub desk_refusal : (r : Refusal) → a ≡ Judged.Refused r → shown_refusal r ≡ desk R s
+  pub desk_refusal : (r : Refusal) → a ≡ Err r → shown_refusal r ≡ desk R s
   unfolding shown_by
   desk_refusal r e = sym (desk_by ∙ ap shown_by e)
 

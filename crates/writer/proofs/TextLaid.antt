@@ -7,7 +7,7 @@ use mathlib.Core.List.{List, [], ◌∷◌, ◌++◌}
 use mathlib.Core.Path.{◌≡◌, refl, sym, ap, subst, ◌∙◌}
 use lib.ListN.{length, take, drop, length-append}
 use lib.Seq.{take-append_seam}
-use borrow.Author.Tests.{le-leb, lt-leb}
+use borrow.Author.Tests.{le-leb}
 use Rattle.rules.specs.Answers.{over}
 use Rattle.rules.specs.Log.{count_start, count_line}
 use Rattle.rules.specs.Text.{Text, digits}
@@ -15,14 +15,6 @@ use Rattle.writer.specs.Written.{Puts, has_room, written}
 use Rattle.writer.proofs.WrittenLaws.{count_most}
 
 module _ (d : List ℕ) (at : ℕ) (t : Text) where
-  pub no_room : length d < at + length t
-      → (at ≡ cond (has_room d at t) (at + length t) at) × (d ≡ cond (has_room d at t) (written d at t) d)
-  no_room h = rw (lt-leb (at + length t) (length d) h) (refl, refl)
-
-  pub room : {e : List ℕ} {r : ℕ} → Puts d at t e r
-      → (r ≡ cond (has_room d at t) (at + length t) at) × (e ≡ cond (has_room d at t) (written d at t) d)
-  room p = rw (le-leb (at + length t) (length d) p.fits) (p.place, p.list)
-
   pub text_laid_lem : {e : List ℕ} {r : ℕ} → at + length t ≤ length d
       → r ≡ cond (has_room d at t) (at + length t) at → e ≡ cond (has_room d at t) (written d at t) d
       → Puts d at t e r

@@ -34,7 +34,7 @@ use Rattle.writer.specs.LogText.{wrote_by, wrote_of, written_afterwards}
 use Rattle.writer.specs.RecordText.{records_text}
 use Rattle.writer.specs.Respelling.{KeywordsLie, relisted}
 use Rattle.writer.specs.Written.{Puts}
-use Rattle.writer.specs.declared.Wrote.TheVariants as Wrote
+use Rattle.std.specs.Prelude.{Ok, Err}
 use Rattle.writer.proofs.ClaimLines.{nine}
 use Rattle.writer.proofs.ClaimsWritten.{rightly, claims_lie, head_written, written_allowed, written_many}
 use Rattle.writer.proofs.RespellingLaws.{keywords_lie, relisted_log}
@@ -225,7 +225,7 @@ module _ {R : Rules} {s : Text} {t : Totals} {first : ℕ} {heading : Heading} {
     refuses : write R (length slice) s ≡ unwritten (refusal 8 0 0)
     refuses = answer_is (length slice) ∙ ap answered h
 
-    pub refused_answer : Wrote.Refused (refusal 8 0 0) ≡ wrote_of R (length slice) s
+    pub refused_answer : Err (refusal 8 0 0) ≡ wrote_of R (length slice) s
     unfolding wrote_of wrote_by
     refused_answer = rw refuses
 
@@ -248,9 +248,9 @@ module _ {R : Rules} {s : Text} {t : Totals} {first : ℕ} {heading : Heading} {
     pub keywords_there : KeywordsLie entries 14 slice'
     keywords_there = subst (λ (l : List ℕ). KeywordsLie entries 14 l) (sym laid) (there (drop (length result) slice))
 
-    pub written_answer : Wrote.Length end ≡ wrote_of R (length slice) s
+    pub written_answer : Ok end ≡ wrote_of R (length slice) s
     unfolding wrote_of wrote_by
-    written_answer = rw writes (ap Wrote.Length (front_end p ∙ long))
+    written_answer = rw writes (ap Ok (front_end p ∙ long))
 
     pub written_slice : {slice'' : List ℕ} → slice'' ≡ relisted heading.respelt slice' → slice'' ≡ written_afterwards R s slice
     unfolding bytes_of_writing over

@@ -1,17 +1,17 @@
 -- What is answered to writing: the log written back, or why it is not, by the definitions of document 01.
 -- Assumes nothing.
-use Rattle.std.specs.Prelude.{ℕ, List, length}
+use Rattle.std.specs.Prelude.{ℕ, List, length, Result, Ok, Err}
 use Rattle.rules.specs.Answers.{Writing, written, unwritten, write, bytes_of_writing, over}
 use Rattle.rules.specs.Rules.{Rules}
 use Rattle.rules.specs.Text.{Text}
-use Rattle.writer.specs.declared.Wrote.{Wrote}
+use Rattle.rules.specs.declared.Refusal.{Refusal}
 
 -- How long the result is, or the refusal.
-unfoldable pub wrote_by : Writing → Wrote
-wrote_by (written t) = Wrote.Length (length t)
-wrote_by (unwritten r) = Wrote.Refused r
+unfoldable pub wrote_by : Writing → Result ℕ Refusal
+wrote_by (written t) = Ok (length t)
+wrote_by (unwritten r) = Err r
 
-unfoldable pub wrote_of : Rules → ℕ → Text → Wrote
+unfoldable pub wrote_of : Rules → ℕ → Text → Result ℕ Refusal
 unfolding wrote_by write
 wrote_of R room s = wrote_by (write R room s)
 

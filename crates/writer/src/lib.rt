@@ -20,7 +20,7 @@ ghost use Rattle.writer.specs.RecordText.{says_duplicate, mark_text, marks_text,
 ghost use Rattle.writer.specs.Shown.{mode_line, mode_lines};
 ghost use Rattle.writer.specs.Written.{Puts, has_room, written};
 
-use judge::{Judged, Weighed};
+use fields::Digits;
 use reader::Heading;
 use rules::{Refusal, Totals};
 
@@ -69,14 +69,10 @@ fn put_part(out: &mut [u8], at: usize, s: &[u8], from: usize, to: usize) -> usiz
     requires { (from ≤ to) × (to ≤ length s.now) × (at + (to - from) ≤ length out.old) }
     ensures { Puts out.old at (between s.now from to) out.new result }
 {
-    let mut i = from;
-    let mut end = at;
-    while i < to {
-        out[end] = s[i];
-        i += 1;
-        end += 1;
+    for i in from..to {
+        out[at + (i - from)] = s[i];
     }
-    end
+    at + (to - from)
 }
 
 // The line's end, CR LF.
@@ -94,10 +90,11 @@ fn put_mark(out: &mut [u8], at: usize, marked: bool, mark: u8) -> usize
     ensures { Puts out.old at (mark_text marked (mark ∷ [])) out.new result }
 {
     let field = put_byte(out, at, 59);
-    if !marked {
-        return field;
+    if marked {
+        put_byte(out, field, mark)
+    } else {
+        field
     }
-    put_byte(out, field, mark)
 }
 
 // The last four fields of a record, and its line's end.
@@ -132,10 +129,7 @@ fn is_duplicate(number: u8) -> bool
 fn copied_to(points: usize, pointsend: usize, duplicate: bool) -> usize
     ensures { result ≡ cond duplicate points pointsend }
 {
-    if duplicate {
-        return points;
-    }
-    pointsend
+    if duplicate { points } else { pointsend }
 }
 
 // They become 0.
@@ -143,10 +137,7 @@ fn put_zero(out: &mut [u8], at: usize, duplicate: bool) -> usize
     requires { at + length (zero_text duplicate) ≤ length out.old }
     ensures { Puts out.old at (zero_text duplicate) out.new result }
 {
-    if !duplicate {
-        return at;
-    }
-    put_byte(out, at, 48)
+    if duplicate { put_byte(out, at, 48) } else { at }
 }
 
 // The record that begins at `start`, as it is written back.
@@ -181,10 +172,7 @@ fn put_record(
 fn mark_length(marked: bool) -> usize
     ensures { (result ≡ length (mark_text marked new_mark)) × (result ≡ length (mark_text marked duplicate_mark)) × (result ≤ 2) }
 {
-    if marked {
-        return 2;
-    }
-    1
+    if marked { 2 } else { 1 }
 }
 
 // How many bytes `put_marks` writes.
@@ -198,10 +186,7 @@ fn marks_length(exchange: bool, square: bool, country: bool, duplicate: bool) ->
 fn zero_length(duplicate: bool) -> usize
     ensures { (result ≡ length (zero_text duplicate)) × (result ≤ 1) }
 {
-    if duplicate {
-        return 1;
-    }
-    0
+    usize::from(duplicate)
 }
 
 // How many bytes `put_record` writes.
@@ -221,7 +206,7 @@ fn record_length(s: &[u8], start: usize, points: u16, pointsend: u16, number: u8
 }
 
 // CR LF stand behind the end of a record.
-fn behind_end(end: u16) -> usize
+pub fn behind_end(end: u16) -> usize
     ensures { result ≡ end + 2 }
 {
     end as usize + 2
@@ -244,11 +229,9 @@ fn put_records(
 {
     let mut end = at;
     let mut start = first;
-    let mut i = 0;
-    while i < numbers.len() {
-        end = put_record(out, end, s, start, points[i], pointsends[i], numbers[i]);
+    for (i, number) in numbers.iter().enumerate() {
+        end = put_record(out, end, s, start, points[i], pointsends[i], *number);
         start = behind_end(ends[i]);
-        i += 1;
     }
     end
 }
@@ -267,11 +250,9 @@ fn records_length(
 {
     let mut sum = 0;
     let mut start = first;
-    let mut i = 0;
-    while i < numbers.len() {
-        sum += record_length(s, start, points[i], pointsends[i], numbers[i]);
+    for (i, number) in numbers.iter().enumerate() {
+        sum += record_length(s, start, points[i], pointsends[i], *number);
         start = behind_end(ends[i]);
-        i += 1;
     }
     sum
 }
@@ -293,14 +274,11 @@ fn claims_at(s: &[u8], line: usize, starts: &mut [usize], ends: &mut [usize])
     ensures ends { ends.new ≡ claim_ends s.now line (length starts.old) }
 {
     let mut next = line;
-    let mut i = 0;
-    while i < starts.len() {
-        let start = next + 6;
-        let end = fields::digit_run(s, start);
-        starts[i] = start;
+    for (i, start) in starts.iter_mut().enumerate() {
+        *start = next + 6;
+        let end = fields::run(s, *start, &Digits);
         ends[i] = end;
         next = line_behind(s, end);
-        i += 1;
     }
 }
 
@@ -328,11 +306,9 @@ fn put_claims(
 {
     let mut at = 0;
     let mut from = 0;
-    let mut i = 0;
-    while i < claims.len() {
-        at = put_claim(out, at, s, from, starts[i], claims[i]);
+    for (i, claim) in claims.iter().enumerate() {
+        at = put_claim(out, at, s, from, starts[i], *claim);
         from = ends[i];
-        i += 1;
     }
     put_part(out, at, s, from, first)
 }
@@ -344,11 +320,9 @@ fn claims_length(s: &[u8], first: usize, starts: &[usize], ends: &[usize], claim
 {
     let mut sum = 0;
     let mut from = 0;
-    let mut i = 0;
-    while i < claims.len() {
-        sum += starts[i] - from + digit_count(claims[i]);
+    for (i, claim) in claims.iter().enumerate() {
+        sum += starts[i] - from + digit_count(*claim);
         from = ends[i];
-        i += 1;
     }
     sum + (first - from)
 }
@@ -381,32 +355,19 @@ fn respell(out: &mut [u8], respelt: usize)
         return;
     }
     let mut at = 14;
-    let mut k = 0;
-    while k < 36 {
-        let word = header::listed(k);
-        let argument = put_part(out, at, &word, 0, 6);
+    for k in 0..36 {
+        let argument = put_part(out, at, &header::listed(k), 0, 6);
         at = line_behind(out, argument);
-        k += 1;
     }
 }
 
 // # The log
 
-// How long the result is, or why nothing was written.
-#[derive(Clone, Copy)]
-pub enum Wrote {
-    Length(usize),
-    Refused(Refusal),
-}
-
 // A result of this length is no longer than a log may be, nor than the slice.
 fn result_fits(length: usize, room: usize) -> bool
     ensures { result ≡ (leb length base.longest_log && leb length room) }
 {
-    if rules::longest_log() < length {
-        return false;
-    }
-    length <= room
+    length <= rules::longest_log() && length <= room
 }
 
 // A judged log is written back, if the slice has room for the result; otherwise the slice is left as it is. The result is measured before its first
@@ -421,7 +382,7 @@ fn write_weighed(
     ends: &[u16],
     numbers: &[u8],
     out: &mut [u8],
-) -> Wrote
+) -> Result<usize, Refusal>
     requires { Writable base log.now t first heading points.now pointsends.now ends.now numbers.now }
     ensures answer { result ≡ wrote_of base (length out.old) log.now }
     ensures slice { out.new ≡ written_afterwards base log.now out.old }
@@ -433,20 +394,16 @@ fn write_weighed(
     let head = claims_length(log, first, &claimstarts, &claimends, &claims);
     let length = head + records_length(log, first, points, pointsends, ends, numbers);
     if !result_fits(length, out.len()) {
-        return Wrote::Refused(Refusal {
-            number: 8,
-            line: 0,
-            field: 0,
-        });
+        return Err(rules::refused(8));
     }
     let at = put_claims(out, log, first, &claimstarts, &claimends, &claims);
     let end = put_records(out, at, log, first, points, pointsends, ends, numbers);
     respell(out, heading.respelt);
-    Wrote::Length(end)
+    Ok(end)
 }
 
 // A log is read, judged and written back to the front of the slice. On a refusal no byte of the slice is changed.
-pub fn write(log: &[u8], out: &mut [u8]) -> Wrote
+pub fn write(log: &[u8], out: &mut [u8]) -> Result<usize, Refusal>
     ensures answer { result ≡ wrote_of base (length out.old) log.now }
     ensures slice { out.new ≡ written_afterwards base log.now out.old }
 {
@@ -454,25 +411,19 @@ pub fn write(log: &[u8], out: &mut [u8]) -> Wrote
     let mut points = [0u16; rules::MOST_RECORDS];
     let mut pointsends = [0u16; rules::MOST_RECORDS];
     let mut ends = [0u16; rules::MOST_RECORDS];
-    match judge::weigh(log, &mut verdicts, &mut points, &mut pointsends, &mut ends) {
-        Weighed::Done {
-            totals,
-            records,
-            first,
-            heading,
-        } => write_weighed(
-            log,
-            totals,
-            first,
-            heading,
-            &points[..records],
-            &pointsends[..records],
-            &ends[..records],
-            &verdicts[..records],
-            out,
-        ),
-        Weighed::Refused(r) => Wrote::Refused(r),
-    }
+    let weighed = judge::weigh(log, &mut verdicts, &mut points, &mut pointsends, &mut ends)?;
+    let n = weighed.records;
+    write_weighed(
+        log,
+        weighed.totals,
+        weighed.first,
+        weighed.heading,
+        &points[..n],
+        &pointsends[..n],
+        &ends[..n],
+        &verdicts[..n],
+        out,
+    )
 }
 
 // # What the desk program shows
@@ -511,12 +462,9 @@ fn put_modes(out: &mut [u8], at: usize, modes: &[u64; judge::MODES]) -> usize
     requires { at + 308 ≤ length out.old }
     ensures { Puts out.old at (mode_lines modes.now) out.new result }
 {
-    let marks = MODE_MARKS;
     let mut end = at;
-    let mut i = 0;
-    while i < judge::MODES {
-        end = put_mode(out, end, marks[i], modes[i]);
-        i += 1;
+    for (i, mark) in MODE_MARKS.iter().enumerate() {
+        end = put_mode(out, end, *mark, modes[i]);
     }
     end
 }
@@ -551,8 +499,8 @@ pub fn show(log: &[u8], out: &mut [u8; SHOWN]) -> usize
 {
     let mut verdicts = [0u8; rules::MOST_RECORDS];
     match judge::judge(log, &mut verdicts) {
-        Judged::Totals(t) => show_totals(t, out),
-        Judged::Refused(r) => show_refusal(r, out),
+        Ok(t) => show_totals(t, out),
+        Err(r) => show_refusal(r, out),
     }
 }
 
@@ -563,10 +511,7 @@ pub fn put_text(out: &mut [u8], at: usize, text: &[u8]) -> usize
     ensures answer { result ≡ cond (has_room out.old at text.now) (at + length text.now) at }
     ensures slice { out.new ≡ cond (has_room out.old at text.now) (written out.old at text.now) out.old }
 {
-    if out.len() < at {
-        return at;
-    }
-    if out.len() - at < text.len() {
+    if out.len() < at || out.len() - at < text.len() {
         return at;
     }
     put_part(out, at, text, 0, text.len())

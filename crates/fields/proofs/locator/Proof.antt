@@ -4,7 +4,7 @@ use native.Mathlib.Omega.{arith}
 use mathlib.Core.Path.{refl}
 use Rattle.rules.specs.Fields.{locator, square_letter, sub_letter}
 use Rattle.rules.specs.Text.{digit}
-use Rattle.fields.proofs.ShapeLaws.{Shape, Goes, goes, ended, one, too_long_lem, whole, may_end, may_go_on, step, stop, locator_2, locator_4, locator_is_lem, locator_bad, locator_kept}
+use Rattle.fields.proofs.ShapeLaws.{Shape, Goes, goes, ended, one, too_long_lem, whole, may_end, may_go_on, step, stop, locator_2, locator_4, locator_is_lem, end_none, end_some}
 use Rattle.fields.proofs.locator.Statement.{statement}
 use Rattle.fields.proofs.locator.Tie as tie
 
@@ -41,7 +41,7 @@ is_square_letter_requires : tie.Need-is_square_letter-requires
 is_square_letter_requires c κs = tt
 
 returns : tie.Need-returns-then-not-is_square_letter
-returns c = locator_bad _ _ (stop square_letter refl (goes _ _ locator_is_lem) c.before.before.byte_at.ensures c.before.is_square_letter.ensures c.if-not-is_square_letter.true-raw)
+returns c = end_none _ _ _ (stop square_letter refl (goes _ _ locator_is_lem) c.before.before.byte_at.ensures c.before.is_square_letter.ensures c.if-not-is_square_letter.true-raw)
 
 behind1 : (c : tie.Else-not-is_square_letter) → Behind (start1 c) (one square_letter locator_2) 1
 behind1 c = step square_letter refl (goes _ _ locator_is_lem) c.before.before.byte_at.ensures c.before.is_square_letter.ensures _ refl c.if-not-is_square_letter.false-raw
@@ -56,7 +56,7 @@ is_square_letter_requires_2 : tie.Need-is_square_letter-requires-2
 is_square_letter_requires_2 c κs = tt
 
 returns_2 : tie.Need-returns-then-not-is_square_letter-2
-returns_2 c = locator_bad _ _ (stop square_letter refl (behind1 c.before.before.before) c.before.before.byte_at-2.ensures c.before.is_square_letter-2.ensures c.if-not-is_square_letter-2.true-raw)
+returns_2 c = end_none _ _ _ (stop square_letter refl (behind1 c.before.before.before) c.before.before.byte_at-2.ensures c.before.is_square_letter-2.ensures c.if-not-is_square_letter-2.true-raw)
 
 behind2 : (c : tie.Else-not-is_square_letter-2) → Behind (start2 c) locator_2 2
 behind2 c = step square_letter refl (behind1 c.before.before.before) c.before.before.byte_at-2.ensures c.before.is_square_letter-2.ensures _ (omega arith) c.if-not-is_square_letter-2.false-raw
@@ -71,7 +71,7 @@ is_digit_requires : tie.Need-is_digit-requires
 is_digit_requires c κs = tt
 
 returns_3 : tie.Need-returns-then-not-is_digit
-returns_3 c = locator_bad _ _ (stop digit refl (behind2 c.before.before.before) c.before.before.byte_at-3.ensures c.before.is_digit.ensures c.if-not-is_digit.true-raw)
+returns_3 c = end_none _ _ _ (stop digit refl (behind2 c.before.before.before) c.before.before.byte_at-3.ensures c.before.is_digit.ensures c.if-not-is_digit.true-raw)
 
 behind3 : (c : tie.Else-not-is_digit) → Behind (start3 c) (one digit locator_4) 3
 behind3 c = step digit refl (behind2 c.before.before.before) c.before.before.byte_at-3.ensures c.before.is_digit.ensures _ (omega arith) c.if-not-is_digit.false-raw
@@ -86,7 +86,7 @@ is_digit_requires_2 : tie.Need-is_digit-requires-2
 is_digit_requires_2 c κs = tt
 
 returns_4 : tie.Need-returns-then-not-is_digit-2
-returns_4 c = locator_bad _ _ (stop digit refl (behind3 c.before.before.before) c.before.before.byte_at-4.ensures c.before.is_digit-2.ensures c.if-not-is_digit-2.true-raw)
+returns_4 c = end_none _ _ _ (stop digit refl (behind3 c.before.before.before) c.before.before.byte_at-4.ensures c.before.is_digit-2.ensures c.if-not-is_digit-2.true-raw)
 
 behind4 : (c : tie.Else-not-is_digit-2) → Behind (start4 c) locator_4 4
 behind4 c = step digit refl (behind3 c.before.before.before) c.before.before.byte_at-4.ensures c.before.is_digit-2.ensures _ (omega arith) c.if-not-is_digit-2.false-raw
@@ -98,7 +98,7 @@ byte_at_requires_5 : tie.Need-byte_at-fifth-requires
 byte_at_requires_5 c κs = tt
 
 returns_5 : tie.Need-returns-then-fifth-eq59
-returns_5 c = locator_kept _ _ _ (may_end c.before.byte_at-fifth.ensures (behind4 c.before.before) c.if-fifth-eq59.true)
+returns_5 c = end_some _ _ _ (may_end c.before.byte_at-fifth.ensures (behind4 c.before.before) c.if-fifth-eq59.true)
 
 past4 : (c : tie.Else-fifth-eq59) → Behind (start5 c) (one sub_letter (one sub_letter ended)) 4
 past4 c = may_go_on c.before.byte_at-fifth.ensures (behind4 c.before.before) c.if-fifth-eq59.false
@@ -107,7 +107,7 @@ is_sub_letter_requires : tie.Need-is_sub_letter-requires
 is_sub_letter_requires c κs = tt
 
 returns_6 : tie.Need-returns-then-not-is_sub_letter
-returns_6 c = locator_bad _ _ (stop sub_letter refl (past4 c.before.before) c.before.before.before.byte_at-fifth.ensures c.before.is_sub_letter.ensures c.if-not-is_sub_letter.true-raw)
+returns_6 c = end_none _ _ _ (stop sub_letter refl (past4 c.before.before) c.before.before.before.byte_at-fifth.ensures c.before.is_sub_letter.ensures c.if-not-is_sub_letter.true-raw)
 
 behind5 : (c : tie.Else-not-is_sub_letter) → Behind (start6 c) (one sub_letter ended) 5
 behind5 c = step sub_letter refl (past4 c.before.before) c.before.before.before.byte_at-fifth.ensures c.before.is_sub_letter.ensures _ (omega arith) c.if-not-is_sub_letter.false-raw
@@ -122,7 +122,7 @@ is_sub_letter_requires_2 : tie.Need-is_sub_letter-requires-2
 is_sub_letter_requires_2 c κs = tt
 
 returns_7 : tie.Need-returns-then-not-is_sub_letter-2
-returns_7 c = locator_bad _ _ (stop sub_letter refl (behind5 c.before.before.before) c.before.before.byte_at-5.ensures c.before.is_sub_letter-2.ensures c.if-not-is_sub_letter-2.true-raw)
+returns_7 c = end_none _ _ _ (stop sub_letter refl (behind5 c.before.before.before) c.before.before.byte_at-5.ensures c.before.is_sub_letter-2.ensures c.if-not-is_sub_letter-2.true-raw)
 
 behind6 : (c : tie.Else-not-is_sub_letter-2) → Behind (start7 c) ended 6
 behind6 c = step sub_letter refl (behind5 c.before.before.before) c.before.before.byte_at-5.ensures c.before.is_sub_letter-2.ensures _ (omega arith) c.if-not-is_sub_letter-2.false-raw
@@ -134,10 +134,10 @@ ends_requires : tie.Need-ends-requires
 ends_requires c κs = tt
 
 returns_8 : tie.Need-returns-then-not-ends
-returns_8 c = locator_bad _ _ (too_long_lem c.before.ends.ensures (behind6 c.before.before) c.if-not-ends.true-raw)
+returns_8 c = end_none _ _ _ (too_long_lem c.before.ends.ensures (behind6 c.before.before) c.if-not-ends.true-raw)
 
 returns_9 : tie.Need-returns
-returns_9 c = locator_kept _ _ _ (whole c.before.ends.ensures (behind6 c.before.before) c.if-not-ends.false-raw)
+returns_9 c = end_some _ _ _ (whole c.before.ends.ensures (behind6 c.before.before) c.if-not-ends.false-raw)
 
 pub locator_spec : {M : Type 1} → statement M
 locator_spec =

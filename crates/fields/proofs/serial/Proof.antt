@@ -4,7 +4,7 @@ use native.Mathlib.Omega.{arith}
 use mathlib.Core.Path.{refl}
 use Rattle.rules.specs.Fields.{serial}
 use Rattle.rules.specs.Text.{digit}
-use Rattle.fields.proofs.ShapeLaws.{Shape, Goes, goes, ended, one, too_long_lem, whole, may_end, may_go_on, step, stop, serial_3, serial_is, serial_bad, serial_kept}
+use Rattle.fields.proofs.ShapeLaws.{Shape, Goes, goes, ended, one, too_long_lem, whole, may_end, may_go_on, step, stop, serial_3, serial_is, end_none, end_some}
 use Rattle.fields.proofs.serial.Statement.{statement}
 use Rattle.fields.proofs.serial.Tie as tie
 
@@ -35,7 +35,7 @@ byte_at_requires : tie.Need-byte_at-first-requires
 byte_at_requires c κs = tt
 
 returns : tie.Need-returns-then-first-eq59
-returns c = serial_kept _ _ _ (may_end c.before.byte_at-first.ensures (goes _ _ serial_is) c.if-first-eq59.true)
+returns c = end_some _ _ _ (may_end c.before.byte_at-first.ensures (goes _ _ serial_is) c.if-first-eq59.true)
 
 past0 : (c : tie.Else-first-eq59) → Goes serial (one digit (one digit (one digit serial_3))) (start1 c).args.s.now (start1 c).args.at (start1 c).args.at
 past0 c = may_go_on c.before.byte_at-first.ensures (goes _ _ serial_is) c.if-first-eq59.false
@@ -45,7 +45,7 @@ is_digit_requires c κs = tt
 
 returns_2 : tie.Need-returns-then-not-is_digit
 returns_2 c =
-    serial_bad _ _
+    end_none _ _ _
     (stop digit refl (past0 c.before.before) c.before.before.before.byte_at-first.ensures c.before.is_digit.ensures c.if-not-is_digit.true-raw)
 
 behind1 : (c : tie.Else-not-is_digit) → Behind (start2 c) (one digit (one digit serial_3)) 1
@@ -63,7 +63,7 @@ is_digit_requires_2 c κs = tt
 
 returns_3 : tie.Need-returns-then-not-is_digit-2
 returns_3 c =
-    serial_bad _ _
+    end_none _ _ _
     (stop digit refl (behind1 c.before.before.before) c.before.before.byte_at.ensures c.before.is_digit-2.ensures c.if-not-is_digit-2.true-raw)
 
 behind2 : (c : tie.Else-not-is_digit-2) → Behind (start3 c) (one digit serial_3) 2
@@ -81,7 +81,7 @@ is_digit_requires_3 c κs = tt
 
 returns_4 : tie.Need-returns-then-not-is_digit-3
 returns_4 c =
-    serial_bad _ _
+    end_none _ _ _
     (stop digit refl (behind2 c.before.before.before) c.before.before.byte_at-2.ensures c.before.is_digit-3.ensures c.if-not-is_digit-3.true-raw)
 
 behind3 : (c : tie.Else-not-is_digit-3) → Behind (start4 c) serial_3 3
@@ -95,7 +95,7 @@ byte_at_requires_4 : tie.Need-byte_at-fourth-requires
 byte_at_requires_4 c κs = tt
 
 returns_5 : tie.Need-returns-then-fourth-eq59
-returns_5 c = serial_kept _ _ _ (may_end c.before.byte_at-fourth.ensures (behind3 c.before.before) c.if-fourth-eq59.true)
+returns_5 c = end_some _ _ _ (may_end c.before.byte_at-fourth.ensures (behind3 c.before.before) c.if-fourth-eq59.true)
 
 past3 : (c : tie.Else-fourth-eq59) → Behind (start5 c) (one digit ended) 3
 past3 c = may_go_on c.before.byte_at-fourth.ensures (behind3 c.before.before) c.if-fourth-eq59.false
@@ -105,7 +105,7 @@ is_digit_requires_4 c κs = tt
 
 returns_6 : tie.Need-returns-then-not-is_digit-4
 returns_6 c =
-    serial_bad _ _
+    end_none _ _ _
     (stop digit refl (past3 c.before.before) c.before.before.before.byte_at-fourth.ensures c.before.is_digit-4.ensures c.if-not-is_digit-4.true-raw)
 
 behind4 : (c : tie.Else-not-is_digit-4) → Behind (start6 c) ended 4
@@ -119,10 +119,10 @@ ends_requires : tie.Need-ends-requires
 ends_requires c κs = tt
 
 returns_7 : tie.Need-returns-then-not-ends
-returns_7 c = serial_bad _ _ (too_long_lem c.before.ends.ensures (behind4 c.before.before) c.if-not-ends.true-raw)
+returns_7 c = end_none _ _ _ (too_long_lem c.before.ends.ensures (behind4 c.before.before) c.if-not-ends.true-raw)
 
 returns_8 : tie.Need-returns
-returns_8 c = serial_kept _ _ _ (whole c.before.ends.ensures (behind4 c.before.before) c.if-not-ends.false-raw)
+returns_8 c = end_some _ _ _ (whole c.before.ends.ensures (behind4 c.before.before) c.if-not-ends.false-raw)
 
 pub serial_spec : {M : Type 1} → statement M
 serial_spec =

@@ -69,7 +69,7 @@ returns_5 : tie.Need-returns
 returns_5 c =
     let e = ended c.before in
     time_some _ _ (omega arith) (sym e.ends.ensures ∙ not-false _ e.if-not-ends.false-raw)
-    (sym c.from_digits.ensures ∙ c.in-Time.is)
+    (sym c.from_digits.ensures ∙ c.in-Some.is)
 
 pub time_spec : {M : Type 1} → statement M
 time_spec =

@@ -32,135 +32,95 @@ returns c = beyond_table base _ _ c.if-k-ge36.true
 is_two_dates_requires : tie.Need-is_two_dates-requires
 is_two_dates_requires c κs = tt
 
-told_requires : tie.Need-told-requires
-told_requires c κs = tt
-
 is_call_requires : tie.Need-is_call-requires
 is_call_requires c κs = tt
-
-told_requires_2 : tie.Need-told-requires-in-2
-told_requires_2 c κs = tt
 
 is_locator_requires : tie.Need-is_locator-requires
 is_locator_requires c κs = tt
 
-told_requires_3 : tie.Need-told-requires-in-3
-told_requires_3 c κs = tt
-
 is_exchange_requires : tie.Need-is_exchange-requires
 is_exchange_requires c κs = tt
 
-told_requires_4 : tie.Need-told-requires-in-4
-told_requires_4 c κs = tt
-
-is_band_name_requires : tie.Need-is_band_name-requires
-is_band_name_requires c κs = tt
-
-told_requires_5 : tie.Need-told-requires-in-8
-told_requires_5 c κs = tt
+band_requires : tie.Need-band-requires
+band_requires c κs = tt
 
 is_empty_or_call_requires : tie.Need-is_empty_or_call-requires
 is_empty_or_call_requires c κs = tt
 
-told_requires_6 : tie.Need-told-requires-in-9
-told_requires_6 c κs = tt
-
 is_count_and_multiplier_requires : tie.Need-is_count_and_multiplier-requires
 is_count_and_multiplier_requires c κs = tt
-
-told_requires_7 : tie.Need-told-requires-in-26
-told_requires_7 c κs = tt
 
 is_claimed_points_requires : tie.Need-is_claimed_points-requires
 is_claimed_points_requires c κs = tt
 
-told_requires_8 : tie.Need-told-requires-in-27
-told_requires_8 c κs = tt
-
 is_count_bonus_multiplier_requires : tie.Need-is_count_bonus_multiplier-requires
 is_count_bonus_multiplier_requires c κs = tt
-
-told_requires_9 : tie.Need-told-requires-in-28
-told_requires_9 c κs = tt
 
 is_claimed_bonus_requires : tie.Need-is_claimed_bonus-requires
 is_claimed_bonus_requires c κs = tt
 
-told_requires_10 : tie.Need-told-requires-in-29
-told_requires_10 c κs = tt
-
 is_claimed_total_requires : tie.Need-is_claimed_total-requires
 is_claimed_total_requires c κs = tt
-
-told_requires_11 : tie.Need-told-requires-in-34
-told_requires_11 c κs = tt
 
 is_best_contact_requires : tie.Need-is_best_contact-requires
 is_best_contact_requires c κs = tt
 
-told_requires_12 : tie.Need-told-requires-in-35
-told_requires_12 c κs = tt
-
 is_empty_or_calls_requires : tie.Need-is_empty_or_calls-requires
 is_empty_or_calls_requires c κs = tt
 
-told_requires_13 : tie.Need-told-requires-in-19
-told_requires_13 c κs = tt
-
 returns_2 : tie.Need-returns-in-1
 unfolding argument_of first_argument entries
-returns_2 c = answered base two_dates _ 1 [] _ refl c.in-1.is c.told.ensures c.is_two_dates.ensures
+returns_2 c = answered base two_dates _ 1 [] _ refl c.in-1.is c.is_two_dates.ensures
 
 returns_3 : tie.Need-returns-in-2
 unfolding argument_of first_argument entries
-returns_3 c = answered base a_call _ 2 [] _ refl c.in-2.is c.told-in-2.ensures c.is_call.ensures
+returns_3 c = answered base a_call _ 2 [] _ refl c.in-2.is c.is_call.ensures
 
 returns_4 : tie.Need-returns-in-3
 unfolding argument_of first_argument entries
-returns_4 c = answered base a_locator _ 3 [] _ refl c.in-3.is c.told-in-3.ensures c.is_locator.ensures
+returns_4 c = answered base a_locator _ 3 [] _ refl c.in-3.is c.is_locator.ensures
 
 returns_5 : tie.Need-returns-in-4
 unfolding argument_of first_argument entries
-returns_5 c = answered base an_exchange _ 4 [] _ refl c.in-4.is c.told-in-4.ensures c.is_exchange.ensures
+returns_5 c = answered base an_exchange _ 4 [] _ refl c.in-4.is c.is_exchange.ensures
 
 returns_6 : tie.Need-returns-in-8
 unfolding argument_of first_argument entries
-returns_6 c = answered base a_band _ 8 [] _ refl c.in-8.is c.told-in-8.ensures c.is_band_name.ensures
+returns_6 c = answered base a_band _ 8 [] _ refl c.in-8.is c.band.ensures
 
 returns_7 : tie.Need-returns-in-9
 unfolding argument_of first_argument entries
-returns_7 c = answered base empty_or_call _ 9 (11 ∷ []) _ refl c.in-9.is c.told-in-9.ensures c.is_empty_or_call.ensures
+returns_7 c = answered base empty_or_call _ 9 (11 ∷ []) _ refl c.in-9.is c.is_empty_or_call.ensures
 
 returns_8 : tie.Need-returns-in-26
 unfolding argument_of first_argument entries
-returns_8 c = answered base count_and_multiplier _ 26 [] _ refl c.in-26.is c.told-in-26.ensures c.is_count_and_multiplier.ensures
+returns_8 c = answered base count_and_multiplier _ 26 [] _ refl c.in-26.is c.is_count_and_multiplier.ensures
 
 returns_9 : tie.Need-returns-in-27
 unfolding argument_of first_argument entries
-returns_9 c = answered base claimed_points _ 27 [] _ refl c.in-27.is c.told-in-27.ensures c.is_claimed_points.ensures
+returns_9 c = answered base claimed_points _ 27 [] _ refl c.in-27.is c.is_claimed_points.ensures
 
 returns_10 : tie.Need-returns-in-28
 unfolding argument_of first_argument entries
-returns_10 c = answered base count_bonus_multiplier _ 28 (30 ∷ 32 ∷ []) _ refl c.in-28.is c.told-in-28.ensures c.is_count_bonus_multiplier.ensures
+returns_10 c = answered base count_bonus_multiplier _ 28 (30 ∷ 32 ∷ []) _ refl c.in-28.is c.is_count_bonus_multiplier.ensures
 
 returns_11 : tie.Need-returns-in-29
 unfolding argument_of first_argument entries
-returns_11 c = answered base claimed_bonus _ 29 (31 ∷ 33 ∷ []) _ refl c.in-29.is c.told-in-29.ensures c.is_claimed_bonus.ensures
+returns_11 c = answered base claimed_bonus _ 29 (31 ∷ 33 ∷ []) _ refl c.in-29.is c.is_claimed_bonus.ensures
 
 returns_12 : tie.Need-returns-in-34
 unfolding argument_of first_argument entries
-returns_12 c = answered base claimed_total _ 34 [] _ refl c.in-34.is c.told-in-34.ensures c.is_claimed_total.ensures
+returns_12 c = answered base claimed_total _ 34 [] _ refl c.in-34.is c.is_claimed_total.ensures
 
 returns_13 : tie.Need-returns-in-35
 unfolding argument_of first_argument entries
-returns_13 c = answered base best_contact _ 35 [] _ refl c.in-35.is c.told-in-35.ensures c.is_best_contact.ensures
+returns_13 c = answered base best_contact _ 35 [] _ refl c.in-35.is c.is_best_contact.ensures
 
 returns_14 : tie.Need-returns-in-19
 unfolding argument_of first_argument entries
 returns_14 c =
     answered base empty_or_calls _ 19 (20 ∷ []) _ refl
     (one_of [] 19 (20 ∷ []) 19 2 _ refl c.in-19.if-k-lt19-own.false c.in-19.if-k-lt21-own.true tt)
-    c.told-in-19.ensures
     c.is_empty_or_calls.ensures
 
 -- The places that are left, below the calls of the operators and above them.
@@ -168,14 +128,14 @@ returns_15 : tie.Need-returns-in_default
 unfolding argument_of first_argument entries meets
 returns_15 c =
     let others : List ℕ = 5 ∷ 6 ∷ 7 ∷ 10 ∷ 12 ∷ 13 ∷ 14 ∷ 15 ∷ 16 ∷ 17 ∷ 18 ∷ [] in
-    answered base anything _ 0 others _ refl (one_of arms 0 others 0 19 _ refl zero-le c.in_default.if-k-lt19-own.true c.in_default.in_default-own.rest) refl refl
+    answered base anything _ 0 others _ refl (one_of arms 0 others 0 19 _ refl zero-le c.in_default.if-k-lt19-own.true c.in_default.in_default-own.rest) refl
 
 returns_16 : tie.Need-returns-in_default-2
 unfolding argument_of first_argument entries meets
 returns_16 c =
     let others : List ℕ = 22 ∷ 23 ∷ 24 ∷ 25 ∷ [] in
     answered base anything _ 21 others _ refl
-    (one_of arms 21 others 21 15 _ refl c.in_default.if-k-lt21-own.false c.if-k-ge36.false c.in_default.in_default-own.rest) refl refl
+    (one_of arms 21 others 21 15 _ refl c.in_default.if-k-lt21-own.false c.if-k-ge36.false c.in_default.in_default-own.rest) refl
 
 pub argument_spec : {M : Type 1} → statement M
 argument_spec =
@@ -183,31 +143,18 @@ argument_spec =
     (tie.spec
     returns
     is_two_dates_requires
-    told_requires
     is_call_requires
-    told_requires_2
     is_locator_requires
-    told_requires_3
     is_exchange_requires
-    told_requires_4
-    is_band_name_requires
-    told_requires_5
+    band_requires
     is_empty_or_call_requires
-    told_requires_6
     is_count_and_multiplier_requires
-    told_requires_7
     is_claimed_points_requires
-    told_requires_8
     is_count_bonus_multiplier_requires
-    told_requires_9
     is_claimed_bonus_requires
-    told_requires_10
     is_claimed_total_requires
-    told_requires_11
     is_best_contact_requires
-    told_requires_12
     is_empty_or_calls_requires
-    told_requires_13
     returns_2
     returns_3
     returns_4

@@ -22,14 +22,14 @@ abbrev decreases-loop : tie.decreases-loop-at
 decreases-loop t at₀ at = length t - at
 
 -- The loop's turn, from behind the call that was read, and the text.
-abbrev turn : tie.In-Call invariant-loop decreases-loop → tie.At-loop-at invariant-loop decreases-loop
+abbrev turn : tie.In-Some invariant-loop decreases-loop → tie.At-loop-at invariant-loop decreases-loop
 turn c = c.before.before.before
 
 abbrev text : tie.At-loop-at invariant-loop decreases-loop → Text
 text c = c.args.t.now
 
-call_kept : (c : tie.In-Call invariant-loop decreases-loop) → Kept call (text (turn c)) (turn c).loop-at.at c.in-Call.end
-call_kept c = (call_picked (text (turn c)) (turn c).loop-at.at (sym c.call.ensures ∙ c.in-Call.is)).0
+call_kept : (c : tie.In-Some invariant-loop decreases-loop) → Kept call (text (turn c)) (turn c).loop-at.at c.in-Some.call.end
+call_kept c = (call_picked call (text (turn c)) (turn c).loop-at.at (sym c.call.ensures ∙ c.in-Some.is)).0
 
 returns : tie.Need-returns-then-t-eq0 invariant-loop decreases-loop
 returns c = calls_none base _ c.if-t-eq0.true
@@ -40,8 +40,8 @@ loop_holds c = (search rules, refl)
 call_requires : tie.Need-call-requires invariant-loop decreases-loop
 call_requires c κs = tt
 
-enum_known_end : tie.Need-enum_known-end invariant-loop decreases-loop
-enum_known_end c = search rules
+enum_known_call : tie.Need-enum_known-call invariant-loop decreases-loop
+enum_known_call c = search rules
 
 enum_told : tie.Need-enum_told-1 invariant-loop decreases-loop
 enum_told c = search rules
@@ -51,29 +51,29 @@ returns_2 c =
     let d = c.before.before.before in
     calls_told base (text d) false d.if-t-eq0.false
     (d.loop-at.invariant.1
-    ∙ every_broken call (text d) d.loop-at.at (call_refused (text d) d.loop-at.at (sym c.call.ensures ∙ c.in_default.is)))
+    ∙ every_broken call (text d) d.loop-at.at (call_refused call (text d) d.loop-at.at (sym c.call.ensures ∙ c.in_default.is)))
 
-returns_3 : tie.Need-returns-then-end-t invariant-loop decreases-loop
+returns_3 : tie.Need-returns-then-call-t invariant-loop decreases-loop
 returns_3 c =
-    let d = turn c.before in
+    let d = turn c.before.before in
     calls_told base (text d) true d.if-t-eq0.false
-    (d.loop-at.invariant.1 ∙ every_last call (text d) d.loop-at.at (call_kept c.before) c.if-end-t.true)
+    (d.loop-at.invariant.1 ∙ every_last call (text d) d.loop-at.at (call_kept c.before.before) c.if-call-t.true)
 
 add_at : tie.Need-overflow_add-at invariant-loop decreases-loop
 add_at c =
-    let d = turn c.before in
-    omega (arith, (call_kept c.before).ending, end_within (text d) d.loop-at.at)
+    let d = turn c.before.before.before in
+    omega (arith, (call_kept c.before.before.before).ending, end_within (text d) d.loop-at.at)
 
 loop_less : tie.Need-loop-at-smaller invariant-loop decreases-loop
 loop_less c =
-    let d = turn c.before in
-    omega (arith, (call_kept c.before).ending, end_by_span (text d) d.loop-at.at)
+    let d = turn c.before.before.before in
+    omega (arith, (call_kept c.before.before.before).ending, end_by_span (text d) d.loop-at.at)
 
 loop_again : tie.Need-loop-at-preserved invariant-loop decreases-loop
 loop_again c =
-    let d = turn c.before in
-    let inside : c.in-Call.end < length (text d) = omega (arith, (call_kept c.before).ending, end_within (text d) d.loop-at.at) in
-    (omega arith, d.loop-at.invariant.1 ∙ every_more call (text d) d.loop-at.at (call_kept c.before) inside)
+    let d = turn c.before.before.before in
+    let inside : c.before.before.in-Some.call.end < length (text d) = omega (arith, (call_kept c.before.before.before).ending, end_within (text d) d.loop-at.at) in
+    (omega arith, d.loop-at.invariant.1 ∙ every_more call (text d) d.loop-at.at (call_kept c.before.before.before) inside)
 
 returns_4 : tie.Need-returns invariant-loop decreases-loop
 returns_4 c =
@@ -89,7 +89,7 @@ is_empty_or_calls_spec =
     returns
     loop_holds
     call_requires
-    enum_known_end
+    enum_known_call
     enum_told
     returns_2
     returns_3

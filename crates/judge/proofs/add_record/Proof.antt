@@ -8,25 +8,25 @@ use Rattle.judge.proofs.CountLaws.{void_sums, duplicate_sums, error_sums, other_
 use Rattle.judge.proofs.add_record.Statement.{statement}
 use Rattle.judge.proofs.add_record.Tie as tie
 
-enum_told : tie.Need-enum_told-1
+enum_told : tie.Need-enum_told_at-1
 enum_told c = search rules
 
 credited_more_requires : tie.Need-credited_more-requires
 credited_more_requires c κs = search rules
 
-enum_told_2 : tie.Need-enum_told-in-Void
+enum_told_2 : tie.Need-enum_told_at-in-Void
 enum_told_2 c = search rules
 
 add_sums : tie.Need-overflow_add-sums
 add_sums c = omega (arith, c.requires.voids)
 
-enum_told_3 : tie.Need-enum_told-in-Duplicate
+enum_told_3 : tie.Need-enum_told_at-in-Duplicate
 enum_told_3 c = search rules
 
 add_sums_2 : tie.Need-overflow_add-sums-in-Duplicate
 add_sums_2 c = omega (arith, c.requires.duplicates)
 
-enum_told_4 : tie.Need-enum_told-in-Error
+enum_told_4 : tie.Need-enum_told_at-in-Error
 enum_told_4 c = search rules
 
 add_sums_3 : tie.Need-overflow_add-sums-in-Error

@@ -1,8 +1,9 @@
 -- What a credited record adds: one to the credited ones and to those of its mode, its points, and one for each of its marks.
 use native.Mathlib.Omega.{arith}
+use mathlib.Core.Path.{◌∙◌}
 use borrow.Author.Rules.{rules}
 use Rattle.judge.specs.Count.{tallied}
-use Rattle.judge.proofs.CountLaws.{mode_placed, worth_most, credited_sums, credited_list}
+use Rattle.judge.proofs.CountLaws.{mode_placed, worth_most, bit_worth, credited_sums, credited_list}
 use Rattle.judge.proofs.ModeLaws.{one_counted}
 use Rattle.judge.proofs.credited_more.Statement.{statement}
 use Rattle.judge.proofs.credited_more.Tie as tie
@@ -35,30 +36,30 @@ add_sums c = omega (arith, (placed c).requires.0.credited)
 add_sums_2 : tie.Need-overflow_add-sums-2
 add_sums_2 c = let start = placed c.before in omega (arith, start.requires.0.points, start.requires.0.worth_small)
 
-one_if_requires : tie.Need-one_if-requires
-one_if_requires c κs = search rules
+from_requires : tie.Need-from-requires
+from_requires c κs = search rules
 
 add_sums_3 : tie.Need-overflow_add-sums-3
-add_sums_3 c = let start = squared c in omega (arith, start.requires.0.squares, c.one_if.ensures, worth_most start.args.v.square 1)
+add_sums_3 c = let start = squared c in omega (arith, start.requires.0.squares, (c.from.ensures ∙ bit_worth _), worth_most start.args.v.square 1)
 
-one_if_requires_2 : tie.Need-one_if-requires-2
-one_if_requires_2 c κs = search rules
+from_requires_2 : tie.Need-from-requires-2
+from_requires_2 c κs = search rules
 
 add_sums_4 : tie.Need-overflow_add-sums-4
-add_sums_4 c = let start = squared c.before.before in omega (arith, start.requires.0.exchanges, c.one_if-2.ensures, worth_most start.args.v.exchange 1)
+add_sums_4 c = let start = squared c.before.before in omega (arith, start.requires.0.exchanges, (c.from-2.ensures ∙ bit_worth _), worth_most start.args.v.exchange 1)
 
-one_if_requires_3 : tie.Need-one_if-requires-3
-one_if_requires_3 c κs = search rules
+from_requires_3 : tie.Need-from-requires-3
+from_requires_3 c κs = search rules
 
 add_sums_5 : tie.Need-overflow_add-sums-5
-add_sums_5 c = let start = squared c.before.before.before.before in omega (arith, start.requires.0.countries, c.one_if-3.ensures, worth_most start.args.v.country 1)
+add_sums_5 c = let start = squared c.before.before.before.before in omega (arith, start.requires.0.countries, (c.from-3.ensures ∙ bit_worth _), worth_most start.args.v.country 1)
 
 returns : tie.Need-returns
 returns c =
     let start = squared c.before.before.before.before in
     let modes = start.args.modes.now in
     let mode = start.args.mode in (
-      credited_sums (tallied start.args.t modes) start.args.worth mode start.args.v start.requires.1 c.one_if.ensures c.one_if-2.ensures c.one_if-3.ensures
+      credited_sums (tallied start.args.t modes) start.args.worth mode start.args.v start.requires.1 (c.from.ensures ∙ bit_worth _) (c.from-2.ensures ∙ bit_worth _) (c.from-3.ensures ∙ bit_worth _)
           (one_counted modes mode (omega (arith, start.requires.0.long, mode_placed start.requires.0 start.requires.1))),
       credited_list modes mode start.args.v start.requires.1,
     )
@@ -74,10 +75,10 @@ credited_more_spec =
     element_write_modes
     add_sums
     add_sums_2
-    one_if_requires
+    from_requires
     add_sums_3
-    one_if_requires_2
+    from_requires_2
     add_sums_4
-    one_if_requires_3
+    from_requires_3
     add_sums_5
     returns)

@@ -6,7 +6,7 @@ use borrow.Author.Rules.{rules}
 use Rattle.rules.specs.Rules.{base}
 use Rattle.rules.specs.Fields.{empty_or, locator}
 use Rattle.reader.specs.Contact.{between}
-use Rattle.judge.proofs.CountLaws.{worth_most}
+use Rattle.judge.proofs.CountLaws.{worth_most, bit_worth}
 use Rattle.judge.proofs.ToldLaws.{country_inside, exchange_from, exchange_inside_lem, exchange_short_lem, exchange_size, locator_inside_lem, locator_is_lem, locator_ruled}
 use Rattle.judge.proofs.StepLaws.{credits}
 use Rattle.judge.proofs.credited_next.Statement.{statement}
@@ -80,21 +80,21 @@ verdict_by_requires c κs = search rules
 add_t23 : tie.Need-overflow_add-after
 add_t23 c = omega (arith, (start c.before.before).requires.call_room, (start c.before.before).well_formed.1.1.1.1.0)
 
-one_if_requires : tie.Need-one_if-requires
-one_if_requires c κs = search rules
+from_requires : tie.Need-from-requires
+from_requires c κs = search rules
 
 add_t27 : tie.Need-overflow_add-after-2
 add_t27 c =
     let country = c.before.before.before.before in
-    omega (arith, (start country).requires.square_room, (start country).well_formed.1.1.1.1.1.1.1.0, c.one_if.ensures, worth_most (claimed country).new_square-square.result 1)
+    omega (arith, (start country).requires.square_room, (start country).well_formed.1.1.1.1.1.1.1.0, (c.from.ensures ∙ bit_worth _), worth_most (claimed country).new_square-square.result 1)
 
-one_if_requires_2 : tie.Need-one_if-requires-2
-one_if_requires_2 c κs = search rules
+from_requires_2 : tie.Need-from-requires-2
+from_requires_2 c κs = search rules
 
 add_t29 : tie.Need-overflow_add-after-3
 add_t29 c =
     let country = c.before.before.before.before.before.before in
-    omega (arith, (start country).requires.exchange_key_room, (start country).well_formed.1.1.1.1.1.1.0, c.one_if-2.ensures, worth_most (squared (claimed country)).new_part-exchange.result 1)
+    omega (arith, (start country).requires.exchange_key_room, (start country).well_formed.1.1.1.1.1.1.0, (c.from-2.ensures ∙ bit_worth _), worth_most (squared (claimed country)).new_part-exchange.result 1)
 
 worth_at_requires : tie.Need-worth_at-requires
 worth_at_requires c κs = search rules
@@ -118,7 +118,7 @@ returns c =
     let square = claimed country in
     let part = squared square in
     let a = (start country).args in
-    credits base a.s.now a.p a.mode a.kept a.calls.now a.exchanges.now a.exchangekeys.now a.squares.now said.verdict_by-verdict.ensures (parted part).part_end-end.ensures part.new_part-exchange.ensures square.new_square-square.ensures country.claims_country-country.ensures c.worth_at.ensures c.one_if.ensures c.one_if-2.ensures
+    credits base a.s.now a.p a.mode a.kept a.calls.now a.exchanges.now a.exchangekeys.now a.squares.now said.verdict_by-verdict.ensures (parted part).part_end-end.ensures part.new_part-exchange.ensures square.new_square-square.ensures country.claims_country-country.ensures c.worth_at.ensures (c.from.ensures ∙ bit_worth _) (c.from-2.ensures ∙ bit_worth _)
 
 pub credited_next_spec : {M : Type 1} → statement M
 credited_next_spec =
@@ -135,9 +135,9 @@ credited_next_spec =
     slice_write_calls
     verdict_by_requires
     add_t23
-    one_if_requires
+    from_requires
     add_t27
-    one_if_requires_2
+    from_requires_2
     add_t29
     worth_at_requires
     same_length

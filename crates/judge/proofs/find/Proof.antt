@@ -4,7 +4,7 @@ use native.Mathlib.Omega.{arith}
 use mathlib.Core.Path.{◌≡◌, refl, sym, ap, ◌∙◌}
 use lib.ListN.{get_or}
 use borrow.Author.Rules.{rules}
-use Rattle.judge.specs.declared.Found.TheVariants.{At}
+use Rattle.std.specs.Prelude.{Some}
 use Rattle.judge.specs.Parts.{seek, part_by}
 use Rattle.judge.proofs.PartLaws.{compared, first_most, seek_all, seek_none, seek_here, seek_later, seek_over}
 use Rattle.judge.proofs.find.Statement.{statement}
@@ -65,7 +65,7 @@ same_run_requires c κs =
     let begun = start after.before in
     let size = after.wide-n.ensures.0 in
     let inside = begun.requires.0.inside after.next_key-k.result c.if-m-k.false in
-    (λ z. omega (arith, size, c.wide.ensures.0, inside.within, after.next_key-k.ensures.stands), λ z. omega (arith, size, begun.requires.1.within))
+    (omega (arith, size, c.wide.ensures.0, inside.within, after.next_key-k.ensures.stands), omega (arith, size, begun.requires.1.within))
 
 add_k : tie.Need-overflow_add-k invariant_look decreases_look
 add_k c =
@@ -93,14 +93,14 @@ returns c =
     elim c.if-m-k.branch [
       | then-m-k w ↦ let h = w.if-m-k.true in let k = w.at-is in absurd (omega arith)
       | else-m-k+then-same_run w ↦
-          ap At w.at-is
+          ap Some w.at-is
           ∙ sym
           ((onward after).1
           ∙ seek_here a.s.now a.places.now a.keys.now _ a.m after.next_key-k.result w.if-m-k.false
           (compared a.s.now a.places.now a.keys.now a.place a.m after.next_key-k.result after.wide-n.ensures.0 w.wide.ensures.0 after.next_key-k.ensures.stands w.same_run.ensures w.if-same_run.true))
     ]
 
-returns_2 : tie.Need-returns invariant_look decreases_look
+returns_2 : tie.Need-returns-else-at-m invariant_look decreases_look
 returns_2 c =
     let after = c.before.before in
     elim c.if-m-k.branch [

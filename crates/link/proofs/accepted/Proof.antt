@@ -10,6 +10,9 @@ use Rattle.link.proofs.accepted.Tie as tie
 stopped_requires : tie.Need-stopped-requires
 stopped_requires c κs = search rules
 
+refused_requires : tie.Need-refused-requires
+refused_requires c κs = search rules
+
 sums_of_requires : tie.Need-sums_of-requires
 sums_of_requires c κs = search rules
 
@@ -22,10 +25,12 @@ totals_kept_requires c κs = search rules
 returns : tie.Need-returns
 returns c =
     let s = c.args.s in
+    let told =
     accepted_by_lem base s c.stopped.ensures
-    (c.totals_kept.ensures ∙ (λ i. totals_kept base (c.sums_of.ensures i) (c.declared_of.ensures i)))
+    (c.totals_kept.ensures ∙ (λ i. totals_kept base (c.sums_of.ensures i) (c.declared_of.ensures i))) in
+    rw c.refused.ensures told
 
 pub accepted_spec : {M : Type 1} → statement M
 accepted_spec =
     tie.close
-    (tie.spec stopped_requires sums_of_requires declared_of_requires totals_kept_requires returns)
+    (tie.spec stopped_requires refused_requires sums_of_requires declared_of_requires totals_kept_requires returns)

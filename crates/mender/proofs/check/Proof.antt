@@ -6,7 +6,7 @@ use native.Mathlib.Omega.{arith}
 use mathlib.Core.List.{◌∷◌}
 use mathlib.Core.Path.{◌≡◌, sym, ap, ◌∙◌}
 use lib.ListN.{length}
-use Rattle.rules.specs.declared.Next.TheVariants as Next
+use Rattle.std.specs.Prelude.{Ok, Err}
 use Rattle.rules.specs.Rules.{base}
 use Rattle.rules.specs.Text.{Text}
 use Rattle.reader.proofs.HeadLaws.{log_small}
@@ -40,11 +40,11 @@ laid : (k : tie.After-lay-l invariant-loop decreases-loop) → let l = looped k 
 laid k = k.lay-l.ensures
 
 -- What is laid, and what follows from it, behind the step.
-abbrev stepped : tie.In-Goes invariant-loop decreases-loop → tie.After-laid_next-after invariant-loop decreases-loop
+abbrev stepped : tie.In-Ok invariant-loop decreases-loop → tie.After-laid_next invariant-loop decreases-loop
 stepped g = g.before
 
-goes : (g : tie.In-Goes invariant-loop decreases-loop) → let k = (stepped g).before in let l = looped k in line_next base l.loop-at.due (text_laid (text l) l.loop-at.at (l.loop-at.follow - 1) k.lay-l.result) ≡ Next.Goes g.in-Goes.next
-goes g = sym (stepped g).laid_next-after.ensures ∙ g.in-Goes.is
+goes : (g : tie.In-Ok invariant-loop decreases-loop) → let k = (stepped g).before in let l = looped k in line_next base l.loop-at.due (text_laid (text l) l.loop-at.at (l.loop-at.follow - 1) k.lay-l.result) ≡ Ok g.in-Ok.next
+goes g = sym (stepped g).laid_next.ensures ∙ g.in-Ok.is
 
 -- The lines that are left: the one that is laid, and those behind it.
 turned : (k : tie.After-lay-l invariant-loop decreases-loop) → let l = looped k in checked_of base (text l) ≡ checked_from base l.loop-at.due l.loop-at.line l.loop-at.bytes l.loop-at.listed (line_laid (text l) l.loop-at.at (l.loop-at.follow - 1) k.lay-l.result ∷ mended_at k.lay-l.result.region (text l) k.lay-l.result.next)
@@ -63,23 +63,28 @@ sub_follow c = walks_some c.loop-at.invariant.0 c.loop-at-test.true
 lay_requires : tie.Need-lay-l-requires invariant-loop decreases-loop
 lay_requires c κs = search rules
 
-laid_next_requires : tie.Need-laid_next-after-requires invariant-loop decreases-loop
+laid_next_requires : tie.Need-laid_next-requires invariant-loop decreases-loop
 laid_next_requires c κs =
     let l = looped c in
     ((laid c).spans, (laid c).clean, omega (arith, l.loop-at.invariant.5, l.loop-at.invariant.6))
 
-enum_known_after : tie.Need-enum_known-after invariant-loop decreases-loop
-enum_known_after c = search rules
+enum_known_fault : tie.Need-enum_known-fault invariant-loop decreases-loop
+enum_known_fault c = search rules
 
-returns : tie.Need-returns-in-Stops invariant-loop decreases-loop
+at_requires : tie.Need-at-requires invariant-loop decreases-loop
+at_requires c κs = search rules
+
+returns : tie.Need-returns-in-Err invariant-loop decreases-loop
 returns c =
-    let n = c.before in
+    let r = c.before in
+    let n = r.before in
     let k = n.before in
     let l = looped k in
-    sym (turned k ∙ checked_stop base _ _ _ _ (text l) l.loop-at.at (l.loop-at.follow - 1) k.lay-l.result _ (sym n.laid_next-after.ensures ∙ c.in-Stops.is))
+    ap Err c.at.ensures
+    ∙ sym (turned k ∙ checked_stop base _ _ _ _ (text l) l.loop-at.at (l.loop-at.follow - 1) k.lay-l.result _ (sym n.laid_next.ensures ∙ r.in-Err.is))
 
-enum_known_after_2 : tie.Need-enum_known-after-in-Goes-1 invariant-loop decreases-loop
-enum_known_after_2 c = search rules
+enum_known_next : tie.Need-enum_known-next invariant-loop decreases-loop
+enum_known_next c = search rules
 
 line_length_requires : tie.Need-line_length-bytes-requires invariant-loop decreases-loop
 line_length_requires c κs = (laid (stepped c).before).spans
@@ -95,19 +100,19 @@ add_bytes c =
 one_if_requires : tie.Need-one_if-requires invariant-loop decreases-loop
 one_if_requires c κs = search rules
 
-one_if_requires_2 : tie.Need-one_if-requires-in-Goes invariant-loop decreases-loop
+one_if_requires_2 : tie.Need-one_if-requires-in-Ok invariant-loop decreases-loop
 one_if_requires_2 c κs = search rules
 
 add_listed : tie.Need-overflow_add-listed invariant-loop decreases-loop
 add_listed c =
-    let few : c.one_if.result + c.one_if-in-Goes.result ≤ 2 = omega (arith, c.one_if.ensures.1, c.one_if-in-Goes.ensures.1) in
+    let few : c.one_if.result + c.one_if-in-Ok.result ≤ 2 = omega (arith, c.one_if.ensures.1, c.one_if-in-Ok.ensures.1) in
     search rules
 
-add_listed_2 : tie.Need-overflow_add-listed-in-Goes invariant-loop decreases-loop
+add_listed_2 : tie.Need-overflow_add-listed-in-Ok invariant-loop decreases-loop
 add_listed_2 c =
     let l = looped (stepped c.before.before.before).before in
-    let few : l.loop-at.listed + (c.one_if.result + c.one_if-in-Goes.result) ≤ 200000 =
-    omega (arith, log_small, l.loop-at.invariant.4, l.loop-at.invariant.6, l.loop-at.invariant.0.near, c.one_if.ensures.1, c.one_if-in-Goes.ensures.1) in
+    let few : l.loop-at.listed + (c.one_if.result + c.one_if-in-Ok.result) ≤ 200000 =
+    omega (arith, log_small, l.loop-at.invariant.4, l.loop-at.invariant.6, l.loop-at.invariant.0.near, c.one_if.ensures.1, c.one_if-in-Ok.ensures.1) in
     search rules
 
 add_line : tie.Need-overflow_add-line invariant-loop decreases-loop
@@ -129,10 +134,10 @@ loop_again c =
     let l = looped k in
     let p = (laid k).spans in (
       walks_on l.loop-at.invariant.0 (laid k),
-      turned k ∙ checked_go base _ _ _ _ (text l) l.loop-at.at (l.loop-at.follow - 1) k.lay-l.result _ (goes g) b.0 c.one_if.ensures.0 c.one_if-in-Goes.ensures.0,
+      turned k ∙ checked_go base _ _ _ _ (text l) l.loop-at.at (l.loop-at.follow - 1) k.lay-l.result _ (goes g) b.0 c.one_if.ensures.0 c.one_if-in-Ok.ensures.0,
       omega (arith, l.loop-at.invariant.2, p.forth, p.behind),
       omega (arith, l.loop-at.invariant.3, b.1, p.forth, p.behind),
-      omega (arith, l.loop-at.invariant.4, c.one_if.ensures.1, c.one_if-in-Goes.ensures.1, p.forth, p.behind),
+      omega (arith, l.loop-at.invariant.4, c.one_if.ensures.1, c.one_if-in-Ok.ensures.1, p.forth, p.behind),
       omega (arith, l.loop-at.invariant.5),
       l.loop-at.invariant.6,
     )
@@ -155,9 +160,10 @@ check_spec =
     sub_follow
     lay_requires
     laid_next_requires
-    enum_known_after
+    enum_known_fault
+    at_requires
     returns
-    enum_known_after_2
+    enum_known_next
     line_length_requires
     add_bytes
     one_if_requires

@@ -19,14 +19,14 @@ array_share_prefix_word c = word_fits _ (replicate 33 0) c.count_line-end.ensure
 slice_aggregate_step : tie.Need-slice_bounds-step-end
 slice_aggregate_step c = sym (length-take-le _ _ (array_share_prefix_word c.before))
 
-step_requires : tie.Need-step-stepped-requires
+step_requires : tie.Need-step-requires
 step_requires c κs = search rules
 
 returns : tie.Need-returns
 returns c =
     let w = c.before.before in
     let b = w in
-    next_of_step base _ _ (count_ruled b.args.n b.requires) (word_is _ (replicate 33 0) w.count_line-end.ensures.0 w.count_line-end.ensures.1) c.step-stepped.ensures
+    next_of_step base _ _ (count_ruled b.args.n b.requires) (word_is _ (replicate 33 0) w.count_line-end.ensures.0 w.count_line-end.ensures.1) c.step.ensures
 
 pub count_next_spec : {M : Type 1} → statement M
 count_next_spec =

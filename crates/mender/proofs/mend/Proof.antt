@@ -33,7 +33,7 @@ enum_told c = search rules
 keep_requires : tie.Need-keep-requires
 keep_requires c κs = search rules
 
-enum_told_2 : tie.Need-enum_told-in-Refused
+enum_told_2 : tie.Need-enum_told-in-Err
 enum_told_2 c = search rules
 
 rework_requires : tie.Need-rework-requires
@@ -41,19 +41,19 @@ rework_requires c κs =
     let k = c in
     omega (arith, k.longest_log.ensures, k.if-longest_log-log.false)
 
-same_length : tie.Need-shape_of-out-in-Accepted
+same_length : tie.Need-shape_of-out-in-Ok
 same_length c = search rules
 
-returns_2 : tie.Need-returns-in-Accepted
+returns_2 : tie.Need-returns-in-Ok
 returns_2 c =
     let q = c.before.before in
     let k = q.before.before.before in
     let b = begun k in
-    let a = read_accepted base b.args.log.now (sym k.read.ensures ∙ q.in-Accepted.is) in
+    let a = read_accepted base b.args.log.now (sym k.read.ensures ∙ q.in-Ok.is) in
     let m = kept_mends base b.args.log.now a.0 a.1 (omega (arith, k.longest_log.ensures, k.if-longest_log-log.false)) b.args.out.now b.args.kinds.now b.args.lines.now q.keep.ensures.0 q.keep.ensures.1 in
     (m.told, (m.text_told, (m.kinds_told, m.lines_told)))
 
-same_length_2 : tie.Need-shape_of-out-in-Refused
+same_length_2 : tie.Need-shape_of-out-in-Err
 same_length_2 c = search rules
 
 same_length_3 : tie.Need-shape_of-kinds
@@ -62,7 +62,7 @@ same_length_3 c = search rules
 same_length_4 : tie.Need-shape_of-lines
 same_length_4 c = search rules
 
-returns_3 : tie.Need-returns-in-Refused
+returns_3 : tie.Need-returns-in-Err
 returns_3 c =
     let m = c.rework.ensures in
     (m.told, (m.text_told, (m.kinds_told, m.lines_told)))

@@ -6,8 +6,8 @@ use Rattle.pad.specs.Face.{totals_face, closing_face}
 use Rattle.pad.proofs.closing_face.Statement.{statement}
 use Rattle.pad.proofs.closing_face.Tie as tie
 
-refusal_face_requires : tie.Need-refusal_face-requires
-refusal_face_requires c κs = search rules
+from_requires : tie.Need-from-requires
+from_requires c κs = search rules
 
 totals_face_requires : tie.Need-totals_face-requires
 totals_face_requires c κs = search rules
@@ -16,7 +16,7 @@ returns : tie.Need-returns
 unfolding closing_face
 returns c =
     let totals = c.args.c.totals in
-    c.totals_face.ensures ∙ ap (λ (r : SumpquinceRefusal). totals_face r totals) c.refusal_face.ensures
+    c.totals_face.ensures ∙ ap (λ (r : SumpquinceRefusal). totals_face r totals) c.from.ensures
 
 pub closing_face_spec : {M : Type 1} → statement M
-closing_face_spec = tie.close (tie.spec refusal_face_requires totals_face_requires returns)
+closing_face_spec = tie.close (tie.spec from_requires totals_face_requires returns)

@@ -8,8 +8,8 @@ use Rattle.pad.proofs.sumpquince_read.Tie as tie
 read_requires : tie.Need-read-requires
 read_requires c κs = search rules
 
-enum_known_records : tie.Need-enum_known-records
-enum_known_records c = search rules
+enum_known_read : tie.Need-enum_known-read
+enum_known_read c = search rules
 
 no_refusal_requires : tie.Need-no_refusal-requires
 no_refusal_requires c κs = search rules
@@ -17,23 +17,23 @@ no_refusal_requires c κs = search rules
 enum_known_r : tie.Need-enum_known-r
 enum_known_r c = search rules
 
-refusal_face_requires : tie.Need-refusal_face-requires
-refusal_face_requires c κs = search rules
+from_requires : tie.Need-from-requires
+from_requires c κs = search rules
 
-returns : tie.Need-returns-in-Accepted
-returns c = records_shown _ c.no_refusal.ensures (sym c.in-Accepted.is ∙ c.read.ensures)
+returns : tie.Need-returns-in-Ok
+returns c = records_shown _ c.no_refusal.ensures (sym c.in-Ok.is ∙ c.read.ensures)
 
-returns_2 : tie.Need-returns-in-Refused
-returns_2 c = unread_shown _ c.refusal_face.ensures (sym c.in-Refused.is ∙ c.read.ensures)
+returns_2 : tie.Need-returns-in-Err
+returns_2 c = unread_shown _ c.from.ensures (sym c.in-Err.is ∙ c.read.ensures)
 
 pub sumpquince_read_spec : {M : Type 1} → statement M
 sumpquince_read_spec =
     tie.close
     (tie.spec
     read_requires
-    enum_known_records
+    enum_known_read
     no_refusal_requires
     enum_known_r
-    refusal_face_requires
+    from_requires
     returns
     returns_2)

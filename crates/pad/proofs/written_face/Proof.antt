@@ -11,17 +11,17 @@ enum_known_w c = search rules
 no_refusal_requires : tie.Need-no_refusal-requires
 no_refusal_requires c κs = search rules
 
-enum_known_w_2 : tie.Need-enum_known-w-in-Refused-1
+enum_known_w_2 : tie.Need-enum_known-w-in-Err-1
 enum_known_w_2 c = search rules
 
-refusal_face_requires : tie.Need-refusal_face-requires
-refusal_face_requires c κs = search rules
+from_requires : tie.Need-from-requires
+from_requires c κs = search rules
 
-returns : tie.Need-returns-in-Length
-returns c = length_shown c.no_refusal.ensures c.in-Length.is
+returns : tie.Need-returns-in-Ok
+returns c = length_shown c.no_refusal.ensures c.in-Ok.is
 
-returns_2 : tie.Need-returns-in-Refused
-returns_2 c = unwritten_shown c.refusal_face.ensures c.in-Refused.is
+returns_2 : tie.Need-returns-in-Err
+returns_2 c = unwritten_shown c.from.ensures c.in-Err.is
 
 pub written_face_spec : {M : Type 1} → statement M
 written_face_spec =
@@ -30,6 +30,6 @@ written_face_spec =
     enum_known_w
     no_refusal_requires
     enum_known_w_2
-    refusal_face_requires
+    from_requires
     returns
     returns_2)

@@ -154,11 +154,11 @@ loop_less c = search rules
 loop_again : tie.Need-loop-i-preserved invariant-loop decreases-loop
 loop_again c = (omega (arith, room5 c), run5 c)
 
-allowed_tail_requires : tie.Need-allowed_tail-requires invariant-loop decreases-loop
-allowed_tail_requires c κs = search rules
+run_requires : tie.Need-run-requires invariant-loop decreases-loop
+run_requires c κs = search rules
 
 returns_6 : tie.Need-returns invariant-loop decreases-loop
-returns_6 c = c.allowed_tail.ensures ∙ sym c.loop-i.invariant.1.ending
+returns_6 c = c.run.ensures ∙ sym c.loop-i.invariant.1.ending
 
 pub allowed_run_spec : {M : Type 1} → statement M
 allowed_run_spec =
@@ -190,5 +190,5 @@ allowed_run_spec =
     add_i
     loop_less
     loop_again
-    allowed_tail_requires
+    run_requires
     returns_6)

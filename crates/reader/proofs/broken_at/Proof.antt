@@ -9,8 +9,8 @@ use Rattle.reader.proofs.broken_at.Statement.{statement}
 use Rattle.reader.proofs.broken_at.Tie as tie
 
 -- The line that was found.
-found : (c : tie.In-Line) → Stood base c.args.s.now c.args.at c.in-Line.end
-found c = stood base _ _ (sym c.line_end.ensures ∙ c.in-Line.is)
+found : (c : tie.In-Some) → Stood base c.args.s.now c.args.at c.in-Some.end
+found c = stood base _ _ (sym c.line_end.ensures ∙ c.in-Some.is)
 
 line_end_requires : tie.Need-line_end-requires
 line_end_requires c κs = search rules
@@ -40,7 +40,7 @@ broken_requires : tie.Need-broken-requires
 broken_requires c κs = search rules
 
 returns_3 : tie.Need-returns
-returns_3 c = c.broken.ensures ∙ broken_line base _ _ _ (sym c.line_end.ensures ∙ c.in-Line.is)
+returns_3 c = c.broken.ensures ∙ broken_line base _ _ _ (sym c.line_end.ensures ∙ c.in-Some.is)
 
 pub broken_at_spec : {M : Type 1} → statement M
 broken_at_spec =

@@ -6,6 +6,7 @@ use mathlib.Core.Path.{◌≡◌, sym, ap, ◌∙◌}
 use Prim.Native.Nat.{ℕ, ◌+◌, ◌-◌, ◌^◌, ◌≤◌, ◌<◌}
 use lib.ListN.{length, take}
 use lib.Seq.{length-take-le}
+use Rattle.std.specs.Prelude.{Err}
 use Rattle.rules.specs.Log.{count_line}
 use Rattle.rules.specs.Rules.{base}
 use Rattle.writer.proofs.RecordLoops.{log_small}
@@ -92,7 +93,7 @@ returns : tie.Need-returns-then-struck-ends
 returns c =
     let b = c in
     let told = few_told b.requires b.args.struck.now b.args.out.now (omega (arith, c.if-struck-ends.true)) in
-    (c.refused.ensures ∙ told.0, told.1)
+    (ap Err c.refused.ensures ∙ told.0, told.1)
 
 measure_requires : tie.Need-measure-left-requires
 measure_requires c κs = let w = (begun c).requires in (in_order w, marked_all c, short w)
@@ -133,7 +134,7 @@ returns_2 c =
     let k = counted d in
     let b = started k in
     let told = long_told b.requires b.args.struck.now b.args.out.now (marked_all (measured k).before) (omega (arith, t.if-out-front.true, size_is d)) in
-    (c.refused-then-out-front.ensures ∙ told.0, told.1)
+    (ap Err c.refused-then-out-front.ensures ∙ told.0, told.1)
 
 array_share_prefix_line : tie.Need-slice_bounds-line-end
 array_share_prefix_line c =

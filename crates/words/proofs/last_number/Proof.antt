@@ -8,8 +8,8 @@ use Rattle.words.proofs.NumberLaws.{last_same, last_behind}
 use Rattle.words.proofs.last_number.Statement.{statement}
 use Rattle.words.proofs.last_number.Tie as tie
 
-run_to_requires : tie.Need-run_to-end-requires
-run_to_requires c κs = tt
+run_requires : tie.Need-run-end-requires
+run_requires c κs = search rules
 
 record_number_requires : tie.Need-record_number-requires
 record_number_requires c κs = tt
@@ -18,7 +18,7 @@ returns : tie.Need-returns-then-word-end
 returns c =
     c.record_number.ensures
     ∙ ap (λ (t : Text). number_named base c.args.room t)
-    (last_same _ c.run_to-end.ensures c.if-word-end.true)
+    (last_same _ c.run-end.ensures c.if-word-end.true)
 
 add_record_number : tie.Need-overflow_add-end
 add_record_number c = search rules
@@ -39,13 +39,13 @@ returns_2 : tie.Need-returns
 returns_2 c =
     c.record_number-2.ensures
     ∙ ap (λ (t : Text). number_named base c.args.room t)
-    (last_behind _ c.run_to-end.ensures c.if-word-end.false)
+    (last_behind _ c.run-end.ensures c.if-word-end.false)
 
 pub last_number_spec : {M : Type 1} → statement M
 last_number_spec =
     tie.close
     (tie.spec
-    run_to_requires
+    run_requires
     record_number_requires
     returns
     add_record_number

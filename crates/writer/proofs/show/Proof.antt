@@ -34,17 +34,17 @@ enum_known_r c = search rules
 show_refusal_requires : tie.Need-show_refusal-requires
 show_refusal_requires c κs = search rules
 
-returns : tie.Need-returns-in-Totals
+returns : tie.Need-returns-in-Ok
 unfolding base
 returns c =
     let j = totalled c in
-    all_shown c.show_totals.ensures (desk_totals base (begun j).args.log.now j.judge.ensures.0 _ c.in-Totals.is)
+    all_shown c.show_totals.ensures (desk_totals base (begun j).args.log.now j.judge.ensures.0 _ c.in-Ok.is)
 
-returns_2 : tie.Need-returns-in-Refused
+returns_2 : tie.Need-returns-in-Err
 unfolding base
 returns_2 c =
     let j = refused c in
-    all_shown c.show_refusal.ensures (desk_refusal base (begun j).args.log.now j.judge.ensures.0 _ c.in-Refused.is)
+    all_shown c.show_refusal.ensures (desk_refusal base (begun j).args.log.now j.judge.ensures.0 _ c.in-Err.is)
 
 pub show_spec : {M : Type 1} → statement M
 show_spec =

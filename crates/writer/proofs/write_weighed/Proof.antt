@@ -9,6 +9,7 @@ use lib.Dec.{leb}
 use lib.ListN.{length}
 use borrow.Author.Rules.{rules}
 use borrow.Author.Tests.{not-true, not-false, leb-true}
+use Rattle.std.specs.Prelude.{Err}
 use Rattle.rules.proofs.Tests.{and_r}
 use Rattle.rules.specs.Rules.{base}
 use Rattle.rules.specs.Text.{Text}
@@ -98,14 +99,18 @@ add_length c =
 result_fits_requires : tie.Need-result_fits-requires
 result_fits_requires c κs = search rules
 
+refused_requires : tie.Need-refused-requires
+refused_requires c κs = search rules
+
 returns : tie.Need-returns-then-not-result_fits
 returns c =
-    let f = c.before in
+    let r = c.before in
+    let f = r.before in
     let m = f.before in
     let b = start f in
     let out = b.args.out.now in
-    let no = sym (as_tested b.requires (length out) (m.claims_length-head.result + m.records_length.result) (long m) f.result_fits.ensures) ∙ not-true _ c.if-not-result_fits.true-raw in
-    (refused_answer b.requires out no, refused_slice b.requires out no)
+    let no = sym (as_tested b.requires (length out) (m.claims_length-head.result + m.records_length.result) (long m) f.result_fits.ensures) ∙ not-true _ r.if-not-result_fits.true-raw in
+    (ap Err c.refused.ensures ∙ refused_answer b.requires out no, refused_slice b.requires out no)
 
 slice_aggregate_put_claims : tie.Need-slice_bounds-put_claims-end
 slice_aggregate_put_claims c = search rules
@@ -185,6 +190,7 @@ write_weighed_spec =
     records_length_requires
     add_length
     result_fits_requires
+    refused_requires
     returns
     slice_aggregate_put_claims
     slice_aggregate_put_claims_2
