@@ -8,17 +8,15 @@ use mathlib.Core.List.{[], ◌∷◌, ◌++◌, map}
 use mathlib.Core.Path.{◌≡◌, refl, sym, ap, ◌∙◌}
 use lib.Dec.{eqb, leb}
 use lib.ListN.{length, take, drop, length-map}
-use borrow.Author.Tests.{eq-eqb, eqb-true, ne_eqb, leb-true}
-use Rattle.std.specs.Bool.{IsTrue, Decides}
-use Rattle.std.specs.Char.{to_ascii_lowercase}
+use borrow.Author.Tests.{ne_eqb, leb-true}
 use Rattle.std.specs.Cmp.Lexicographic.{pointwise}
-use Rattle.std.specs.Prelude.{◌↔◌}
-use Rattle.std.proofs.lemmas.Bool.Decides.{nat_tests, same_from_decides}
+use Rattle.std.specs.List.{list_all, zip}
+use Rattle.std.proofs.lemmas.List.{map-id}
 use Rattle.rules.specs.Arguments.{Entry}
 use Rattle.rules.specs.Log.{keyword_start}
 use Rattle.rules.specs.Reading.{spelling_on, has_keyword}
 use Rattle.rules.specs.Text.{Text, bytes, same, same_but_case, capital, lower, begins}
-use Rattle.rules.proofs.Tests.{and_l, and_r, and_i}
+use Rattle.rules.proofs.Tests.{and_l}
 
 -- A word is at the front of a text where the two are the same for as long as the word goes on.
 pub begins_by : (w s : Text) → pointwise eqb w (take (length w) s) ≡ begins w s
@@ -40,6 +38,16 @@ begins_short (c ∷ w) (d ∷ s) h = rest (eqb c d) (begins_short w s (le_of_suc
     rest true e = e
     rest false e = refl
 
+-- The same place by place, by what any function makes of the characters.
+pub front_by : (f : ℕ → ℕ) (w s : Text) → length w ≤ length s → list_all (λ (p : ℕ × ℕ). eqb (f p.0) (f p.1)) (zip w s) ≡ begins (map f w) (map f s)
+unfolding begins
+front_by f [] s h = refl
+front_by f (c ∷ w) [] h = absurd (not-suc-le-zero h)
+front_by f (c ∷ w) (d ∷ s) h = ap (λ (t : Bool). eqb (f c) (f d) && t) (front_by f w s (le_of_suc-le-suc h))
+
+pub front_same : (w s : Text) → length w ≤ length s → list_all (λ (p : ℕ × ℕ). eqb p.0 p.1) (zip w s) ≡ begins w s
+front_same w s h = front_by (λ c. c) w s h ∙ rw (map-id w, map-id s) refl
+
 -- Texts are the same, character by character.
 pub same_by : (a b : Text) → pointwise eqb a b ≡ same a b
 unfolding same
@@ -49,41 +57,6 @@ same_by (c ∷ a) [] = refl
 same_by (c ∷ a) (d ∷ b) = ap (λ (t : Bool). eqb c d && t) (same_by a b)
 
 -- # In either letter case
-
--- What std makes of a capital letter is its small letter.
-small_of : (c : ℕ) → to_ascii_lowercase c ≡ lower c
-small_of c = grind (arith, nat_tests)
-
-smalls_of : (s : Text) → map to_ascii_lowercase s ≡ map lower s
-smalls_of [] = refl
-smalls_of (c ∷ s) = rw (small_of c, smalls_of s)
-
--- A text begins with a word, but for the case of letters, where its front in small letters is the word in small letters.
-front_begins : (w s : Text) → map lower (take (length w) s) ≡ map lower w → begins (map lower w) (map lower s) ≡ true
-unfolding begins
-front_begins [] s e = refl
-front_begins (c ∷ w) [] e = absurd (cc)
-front_begins (c ∷ w) (d ∷ s) e =
-    let head : lower c ≡ lower d = cc in
-    let tail : map lower (take (length w) s) ≡ map lower w = cc in
-    and_i (eq-eqb (lower c) (lower d) head) (front_begins w s tail)
-
-begins_front_of : (w s : Text) → length w ≤ length s → begins (map lower w) (map lower s) ≡ true → map lower (take (length w) s) ≡ map lower w
-unfolding begins
-begins_front_of [] s h e = refl
-begins_front_of (c ∷ w) [] h e = absurd (not-suc-le-zero h)
-begins_front_of (c ∷ w) (d ∷ s) h e =
-    let head : lower c ≡ lower d = eqb-true (lower c) (lower d) (and_l (eqb (lower c) (lower d)) (begins (map lower w) (map lower s)) e) in
-    let tail = begins_front_of w s (le_of_suc-le-suc h) (and_r (eqb (lower c) (lower d)) (begins (map lower w) (map lower s)) e) in
-    cc
-
-pub case_by : (w s : Text) (r : Bool) →
-    length w ≤ length s →
-    (IsTrue r ↔ (map to_ascii_lowercase (take (length w) s) ≡ map to_ascii_lowercase w)) →
-    r ≡ begins (map lower w) (map lower s)
-case_by w s r h f =
-    let smalls : Decides r (map lower (take (length w) s) ≡ map lower w) = rw (← smalls_of (take (length w) s), ← smalls_of w) f in
-    same_from_decides r (begins (map lower w) (map lower s)) smalls (begins_front_of w s h, front_begins w s)
 
 pub case_short : (w s : Text) → length s < length w → false ≡ begins (map lower w) (map lower s)
 case_short w s h = begins_short (map lower w) (map lower s) (rw (length-map w lower, length-map s lower) h)

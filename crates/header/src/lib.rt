@@ -22,11 +22,10 @@ const BANDS: [&[u8]; 15] = [
 ];
 
 // The text begins with the word.
-#[tactic(auto, using(crate::proofs::WordLaws::begins_by))]
 pub fn begins_with(word: &[u8], s: &[u8]) -> bool
     ensures { result ≡ begins word.now s.now }
 {
-    s.starts_with(word)
+    word.len() <= s.len() && word.iter().zip(s).all(|(a, b)| a == b)
 }
 
 // The two texts are the same, byte for byte.
@@ -37,11 +36,18 @@ pub fn same_text(a: &[u8], b: &[u8]) -> bool
     a == b
 }
 
+// The small letter of a capital; every other byte is its own.
+fn lower(b: u8) -> u8
+    ensures { result ≡ lower b }
+{
+    if fields::is_capital(b) { b + 32 } else { b }
+}
+
 // The text begins with the word, but for the case of letters.
 fn begins_in_any_case(word: &[u8], s: &[u8]) -> bool
     ensures { result ≡ begins (map lower word.now) (map lower s.now) }
 {
-    word.len() <= s.len() && s[..word.len()].eq_ignore_ascii_case(word)
+    word.len() <= s.len() && word.iter().zip(s).all(|(a, b)| lower(*a) == lower(*b))
 }
 
 // Whether a line begins with the keyword that is due and its `=`: as it is listed, with letters in their other case, or not at all.

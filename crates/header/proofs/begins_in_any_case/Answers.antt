@@ -1,15 +1,18 @@
 -- Of a text that is long enough the front is compared with the word, both in small letters.
-use Rattle.std.proofs.Common.{◌≡◌, ◌<◌, ◌∙◌, length, arith, false}
+use Rattle.std.proofs.Common.{ℕ, Bool, ◌∙◌, arith, eqb}
+use Rattle.std.specs.List.{zip}
+use Rattle.std.proofs.lemmas.Iterator.{YieldsList-from_slice, YieldsList-from_zip}
+use Rattle.std.proofs.lemmas.Iterator.Search.{all_from_yields_List}
 use borrow.Author.Rules.{rules}
-use lib.Dec.{leb}
-use Rattle.header.proofs.WordLaws.{case_by, case_short}
+use Rattle.rules.specs.Text.{lower}
+use Rattle.header.proofs.WordLaws.{front_by, case_short}
 use Rattle.header.proofs.begins_in_any_case.Goals as goal
 
 pub returns-then-word-s : goal.returns-then-word-s
-returns-then-word-s c = search (rules, case_by)
+returns-then-word-s c =
+    let test : ℕ × ℕ → Bool = λ p. eqb (lower p.0) (lower p.1) in
+    all_from_yields_List {all = zip c.args.word.now c.args.s.now} test c.all.new.self _ _ c.all.ensures.ran (YieldsList-from_zip (YieldsList-from_slice c.args.word.now cc) (YieldsList-from_slice c.args.s.now cc)) (λ x b q k. search rules)
+    ∙ front_by lower c.args.word.now c.args.s.now c.if-word-s.true
 
 pub returns-else-word-s : goal.returns-else-word-s
-returns-else-word-s c =
-    let short : length c.args.s.now < length c.args.word.now = omega arith in
-    let no : leb (length c.args.word.now) (length c.args.s.now) ≡ false = grind arith in
-    no ∙ case_short c.args.word.now c.args.s.now short
+returns-else-word-s c = grind (arith, case_short)
