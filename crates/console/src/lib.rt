@@ -28,15 +28,6 @@ impl EprintBytes for HostRuntime {
     }
 }
 
-// A word of the command line, and what is wrong with it.
-pub fn say_word(rt: &impl EprintBytes, word: &[u8], wrong: &str) {
-    rt.eprint_bytes(b"desk: \"");
-    rt.eprint_bytes(word);
-    rt.eprint_bytes(b"\" ");
-    rt.eprint_bytes(wrong.as_bytes());
-    rt.eprint_bytes(b"\n");
-}
-
 // Room for what is said of a refusal: a word of seven letters, and three numbers of ten digits at most, each with a space or the line's end.
 const REFUSAL: usize = 64;
 

@@ -19,7 +19,7 @@ unfolding kinds_of
 one_if_some None = (refl, omega arith)
 one_if_some (Some kind) = (refl, omega arith)
 
-pub one_done : {done : Option Kind} {kind : Kind} → done ≡ Some kind → length (kinds_of done) ≡ 1
+pub one_done : {done : Option Kind} {kind : Kind} → done ≡ Some kind → kinds_of done ≡ kind_number kind ∷ []
 unfolding kinds_of
 one_done e = rw e
 

@@ -25,10 +25,10 @@ type Marks = [u8; rules::MOST_RECORDS];
 // # The words
 
 fn say_bad(rt: &impl EprintBytes, word: &[u8]) {
-    console::say_word(
-        rt,
-        word,
-        "names no records: write a number of 1 to 999, as 4, or two with - between, the smaller first, as 20-23",
+    rt.eprint_bytes(b"desk: \"");
+    rt.eprint_bytes(word);
+    rt.eprint_bytes(
+        b"\" names no records: write a number of 1 to 999, as 4, or two with - between, the smaller first, as 20-23\n",
     );
 }
 

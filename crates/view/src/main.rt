@@ -15,11 +15,9 @@ fn is_number(word: &[u8]) -> bool {
 }
 
 fn say_unknown(rt: &impl EprintBytes, word: &[u8]) {
-    console::say_word(
-        rt,
-        word,
-        "is neither the name of a keyword, as PCall, nor its number, 1 to 36",
-    );
+    rt.eprint_bytes(b"desk: \"");
+    rt.eprint_bytes(word);
+    rt.eprint_bytes(b"\" is neither the name of a keyword, as PCall, nor its number, 1 to 36\n");
 }
 
 // # The argument
