@@ -25,6 +25,7 @@ const BANDS: [&[u8]; 15] = [
 pub fn begins_with(word: &[u8], s: &[u8]) -> bool
     ensures { result ≡ begins word.now s.now }
 {
+    // `starts_with` compares in groups, which takes longer where a short word differs in its first bytes
     word.len() <= s.len() && word.iter().zip(s).all(|(a, b)| a == b)
 }
 
