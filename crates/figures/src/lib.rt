@@ -110,7 +110,8 @@ pub fn value_of(number: Option<(u64, usize)>) -> u64
     }
 }
 
-// A record's points.
+// A record's points. They lie within the record reader, as the fields in front of them do.
+#[inline(always)]
 pub fn points(s: &[u8], at: usize) -> Option<(u64, usize)>
     ensures { result ≡ number_at (number_of base.points_digits) s.now at }
 {

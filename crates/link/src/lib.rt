@@ -283,10 +283,14 @@ fn record_line(s: Link, line: &[u8], verdicts: &mut [u8], worked: &mut [u8]) -> 
     ensures worked { worked.new ≡ (record_line base (holding s verdicts.old worked.old) line.now).worked }
 {
     let n = s.done as usize;
-    match session::keep_line(line, n, session::WORKED_BYTES, verdicts, worked) {
-        Ok(k) => with_record(s, k),
-        Err(fault) => stopped_here(s, fault.number, fault.field),
-    }
+    // the refusal is told first, so that the state with a record more is laid down once
+    let k = match session::keep_line(line, n, session::WORKED_BYTES, verdicts, worked) {
+        Ok(k) => k,
+        Err(fault) => {
+            return stopped_here(s, fault.number, fault.field);
+        }
+    };
+    with_record(s, k)
 }
 
 // A line is finished: its LF came.

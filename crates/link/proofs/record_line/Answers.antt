@@ -9,15 +9,15 @@ pub with_record-requires : goal.with_record-requires
 with_record-requires c =
     (c.requires.0, c.requires.1, kept_worth base c.args.s _ c.args.verdicts.now c.args.worked.now c.keep_line.ensures.answer c.in-Ok.is)
 
-pub returns-in-Ok-clause-answer : goal.returns-in-Ok-clause-answer
-returns-in-Ok-clause-answer c =
+pub returns-clause-answer : goal.returns-clause-answer
+returns-clause-answer c =
     c.with_record.ensures ∙ record_kept base c.args.s _ c.args.verdicts.now c.args.worked.now c.keep_line.ensures.answer c.in-Ok.is
 
-pub returns-in-Ok-clause-verdicts : goal.returns-in-Ok-clause-verdicts
-returns-in-Ok-clause-verdicts c = record_verdicts base _ _ _ _ c.keep_line.ensures.verdicts
+pub returns-clause-verdicts : goal.returns-clause-verdicts
+returns-clause-verdicts c = record_verdicts base _ _ _ _ c.keep_line.ensures.verdicts
 
-pub returns-in-Ok-clause-worked : goal.returns-in-Ok-clause-worked
-returns-in-Ok-clause-worked c = record_worked base _ _ _ _ c.keep_line.ensures.kept
+pub returns-clause-worked : goal.returns-clause-worked
+returns-clause-worked c = record_worked base _ _ _ _ c.keep_line.ensures.kept
 
 -- It is refused.
 pub returns-in-Err-clause-answer : goal.returns-in-Err-clause-answer
