@@ -2,6 +2,7 @@
 
 #![tactic(auto)]
 
+ghost use Rattle.std.specs.Io.BufRead.{strip_last};
 ghost use Rattle.std.specs.Prelude.{[], map, ◌≡◌};
 ghost use Rattle.rules.specs.Arguments.{meets, two_dates, a_call, empty_or_call, empty_or_calls, a_locator, an_exchange, count_and_multiplier, count_bonus_multiplier, claimed_points, claimed_bonus, claimed_total, best_contact};
 ghost use Rattle.rules.specs.Rules.{base};
@@ -16,9 +17,23 @@ const KEYWORDS: [[u8; 6]; 36] = [
     *b"CDXCs=", *b"CDXCB=", *b"CToSc=", *b"CODXC=",
 ];
 
-const BANDS: [&[u8]; 15] = [
-    b"50 MHz", b"70 MHz", b"144 MHz", b"432 MHz", b"1,3 GHz", b"2,3 GHz", b"3,4 GHz", b"5,7 GHz",
-    b"10 GHz", b"24 GHz", b"47 GHz", b"76 GHz", b"120 GHz", b"144 GHz", b"248 GHz",
+// A name of six bytes is filled up with a space, so that the table is bytes alone: pointers in it would have to be set where the library is loaded.
+const BANDS: [[u8; 7]; 15] = [
+    *b"50 MHz ",
+    *b"70 MHz ",
+    *b"144 MHz",
+    *b"432 MHz",
+    *b"1,3 GHz",
+    *b"2,3 GHz",
+    *b"3,4 GHz",
+    *b"5,7 GHz",
+    *b"10 GHz ",
+    *b"24 GHz ",
+    *b"47 GHz ",
+    *b"76 GHz ",
+    *b"120 GHz",
+    *b"144 GHz",
+    *b"248 GHz",
 ];
 
 // The text begins with the word.
@@ -91,11 +106,18 @@ pub fn listed(k: usize) -> [u8; 6]
     }
 }
 
+// Whether a text is the name, without the space that fills it up.
+fn is_named(name: &[u8; 7], t: &[u8]) -> bool
+    ensures { result ≡ same (strip_last 32 name.now) t.now }
+{
+    same_text(name.strip_suffix(b" ").unwrap_or(name), t)
+}
+
 // Whether a text is one of the fifteen names, compared whole.
 pub fn band(t: &[u8]) -> bool
     ensures { result ≡ band_of base t.now }
 {
-    BANDS.iter().any(|name| same_text(name, t))
+    BANDS.iter().any(|name| is_named(name, t))
 }
 
 // The rules of the arguments. A reader stops before a semicolon, so it has read a whole argument where it ends with the text.

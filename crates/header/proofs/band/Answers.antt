@@ -1,5 +1,6 @@
 -- Any of the fifteen names is the text where the text is among them.
-use Rattle.std.proofs.Common.{◌≡◌, ℕ, List, Bool, Bor, ◌∙◌, ap}
+use Rattle.std.proofs.Common.{◌≡◌, ℕ, List, Bool, ◌∙◌, ap}
+use Rattle.std.specs.Io.BufRead.{strip_last}
 use Rattle.std.specs.List.{list_any}
 use Rattle.std.specs.Slice.Iter.{iter_rest}
 use Rattle.std.proofs.lemmas.Iterator.{YieldsList-from_slice}
@@ -13,6 +14,6 @@ use Rattle.header.proofs.band.Goals as goal
 pub returns : goal.returns
 unfolding meets base among band_names
 returns c =
-    let test : Bor (List ℕ) → Bool = λ n. same n.now c.args.t.now in
+    let test : List ℕ → Bool = λ n. same (strip_last 32 n) c.args.t.now in
     let walked : c.any.result ≡ list_any test (iter_rest c.iter.result) = any_from_yields_List {all = iter_rest c.iter.result} test _ _ _ c.any.ensures.ran (YieldsList-from_slice (iter_rest c.iter.result) cc) (λ x b q k. search rules) in
     walked ∙ ap (list_any test) c.iter.ensures.rest
