@@ -58,20 +58,20 @@
  * them, and on links that they came over:
  *
  *                                     flash     stack
- *     sumpquince_read                13,145       560
- *     sumpquince_view                13,622       592
- *     sumpquince_judge               17,844    17,248
- *     sumpquince_write               22,214    18,688
- *     sumpquince_strike              14,982     2,704
- *     sumpquince_mend                17,735       816
+ *     sumpquince_read                11,802       504
+ *     sumpquince_view                12,319       536
+ *     sumpquince_judge               17,237    17,192
+ *     sumpquince_write               21,607    18,632
+ *     sumpquince_strike              13,639     2,648
+ *     sumpquince_mend                16,248       760
  *     sumpquince_session_start          359       232
- *     sumpquince_session_take         8,007     1,136
+ *     sumpquince_session_take         8,103     1,080
  *     sumpquince_session_give_back    2,216       456
  *     sumpquince_session_totals         881       232
  *     sumpquince_link_open               49         8
- *     sumpquince_link_feed           22,275     3,104
+ *     sumpquince_link_feed           20,820     2,488
  *     sumpquince_link_close           2,301       472
- *     all thirteen                   48,126
+ *     all thirteen                   47,071
  *
  * No bound of the stack is proved. None of the functions calls itself, so what is measured does not grow with the log.
  */
