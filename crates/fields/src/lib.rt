@@ -192,7 +192,7 @@ pub fn mode(s: &[u8], at: usize) -> Option<usize>
     Some(end)
 }
 
-// What is read here in every record, this and the functions with `inline(always)` below it, lies within the record reader: called, it costs reading 8 % more.
+// This field, and those with `inline(always)` below it, are read within the record reader: every record has them, and calls would make reading dearer.
 #[inline(always)]
 pub fn report(s: &[u8], at: usize) -> Option<usize>
     ensures { result ≡ report_at s.now at }

@@ -54,7 +54,7 @@ pub struct Rates {
 }
 
 // The argument begins behind the six characters of its keyword and `=`; its first part, a count, is passed over. Three lines of a log are asked for it:
-// within the link, through which every line goes, it takes a fifth more stack there, and each line pays for it.
+// it stays outside the link, through which every line goes, since each would pay for it there, in time and in stack.
 #[inline(never)]
 pub fn rates_of(line: &[u8]) -> Rates
     ensures bonus { result.bonus ≡ value_by (bonus base) (part 1 (drop 6 line.now)) }
